@@ -1,0 +1,4 @@
+pub mod Examples
+pub mod Framing
+pub mod OneByte
+pub mod RoundTrip

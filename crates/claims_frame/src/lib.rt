@@ -1,0 +1,1 @@
+// Theorems about the frame layer's definitions, in proofs/; there is no code.

@@ -1,0 +1,4 @@
+pub mod Outcome
+pub mod Lent
+pub mod Part
+pub mod Frame

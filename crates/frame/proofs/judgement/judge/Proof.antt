@@ -1,0 +1,61 @@
+-- `frame::judgement::judge` meets its contract: each test is the definition's, in its order; a complete frame has its footer, its SUM and the bytes summed.
+-- Assumes nothing.
+use mathlib.Core.Path.{_∙_, sym}
+use native.Mathlib.Omega.{arith}
+use borrow.Author.Needs.{needs}
+use Rattle.frame.proofs.Laws.Judgement.{frame-long, judged-footer, judged-good, judged-sum, judged-unfit, summed-part}
+use Rattle.frame.proofs.judgement.judge.Statement.{statement}
+use Rattle.frame.proofs.judgement.judge.Tie as tie
+
+sub-if2 : tie.Need-sub-if2
+sub-if2 c = omega (arith, frame-long _ (sym (c .before .is-frame .ensures) ∙ c .if1 .taken))
+
+shared-slice-read-if2 : tie.Need-shared-slice-read-if2
+shared-slice-read-if2 c = omega (arith, frame-long _ (sym (c .before .before .is-frame .ensures) ∙ c .before .if1 .taken))
+
+sub-if3 : tie.Need-sub-if3
+sub-if3 c = omega (arith, frame-long _ (sym (c .before .before .before .before .is-frame .ensures) ∙ c .before .before .before .if1 .taken))
+
+shared-slice-read-if3 : tie.Need-shared-slice-read-if3
+shared-slice-read-if3 c = omega (arith, frame-long _ (sym (c .before .before .before .before .before .is-frame .ensures) ∙ c .before .before .before .before .if1 .taken))
+
+sub-sum8 : tie.Need-sub-sum8
+sub-sum8 c = omega (arith, frame-long _ (sym (c .before .before .before .before .before .is-frame .ensures) ∙ c .before .before .before .before .if1 .taken))
+
+sub-sum8-2 : tie.Need-sub-sum8-2
+sub-sum8-2 c = omega (arith, frame-long _ (sym (c .before .before .before .before .before .is-frame .ensures) ∙ c .before .before .before .before .if1 .taken))
+
+part-sum8-start : tie.Need-part-sum8-start
+part-sum8-start c = omega (arith, frame-long _ (sym (c .before .before .before .before .before .is-frame .ensures) ∙ c .before .before .before .before .if1 .taken))
+
+returns : tie.Need-returns
+returns c = sym (judged-good _ _ (sym (c .before .before .before .before .before .before .before .before .is-frame .ensures) ∙ c .before .before .before .before .before .before .before .if1 .taken) (c .before .before .before .before .if2 .taken ∙ c .before .before .before .before .before .byte .ensures) (c .if3 .taken ∙ c .before .sum8 .ensures ∙ summed-part _))
+
+returns-2 : tie.Need-returns-2
+returns-2 c = sym (judged-sum _ _ (sym (c .before .before .before .before .before .before .before .before .is-frame .ensures) ∙ c .before .before .before .before .before .before .before .if1 .taken) (c .before .before .before .before .if2 .taken ∙ c .before .before .before .before .before .byte .ensures) (λ e. c .if3 .left (e ∙ sym (c .before .sum8 .ensures ∙ summed-part _))))
+
+returns-3 : tie.Need-returns-3
+returns-3 c = sym (judged-footer _ _ (sym (c .before .before .before .before .is-frame .ensures) ∙ c .before .before .before .if1 .taken) (λ e. c .if2 .left (e ∙ sym (c .before .byte .ensures))))
+
+returns-4 : tie.Need-returns-4
+returns-4 c = sym (judged-unfit _ _ (sym (c .before .is-frame .ensures) ∙ c .if1 .left))
+
+pub judge-spec : {M : Type 1} → statement M
+judge-spec =
+    tie.close
+    (tie.spec
+    (λ c κs. search needs)
+    sub-if2
+    shared-slice-read-if2
+    (λ c κs. search needs)
+    sub-if3
+    shared-slice-read-if3
+    sub-sum8
+    sub-sum8-2
+    part-sum8-start
+    (λ c. search needs)
+    (λ c κs. search needs)
+    returns
+    returns-2
+    returns-3
+    returns-4)

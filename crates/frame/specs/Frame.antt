@@ -1,0 +1,50 @@
+-- What a frame is: document 01, "Frames", first paragraph, and 000, chapter 2, table 2-1.
+use mathlib.Core.Bool.{Bool}
+use mathlib.Core.List.{List, [], _++_, _∷_}
+use Prim.Native.Nat.{_%_, _+_, ℕ}
+use lib.Dec.{eqb, leb}
+use lib.ListN.{getD, length}
+use Rattle.frame.specs.Sum.{sumOf}
+use Rattle.frame.specs.declared.Footer.{Footer}
+use Rattle.frame.specs.declared.Footer.the-variants.{Last, More}
+use Rattle.frame.specs.declared.Header.{Header}
+use Rattle.frame.specs.declared.Header.the-variants.{Command, Data}
+use Rattle.words.specs.Words.{_and_, if_then_else_}
+
+-- "Command: 01h, .. Data: 02h, .."
+abbrev pub headerByte : Header → ℕ
+headerByte Command = 0x01
+headerByte Data = 0x02
+
+-- ".. then 03h on the last frame, else 17h." A command frame ends with 03h.
+abbrev pub footerByte : Footer → ℕ
+footerByte Last = 0x03
+footerByte More = 0x17
+
+-- "LEN counts COM plus information, or the data; 00h means 256.": the LEN of so many bytes, and how many bytes a LEN counts.
+abbrev pub lenByte : ℕ → ℕ
+lenByte n = n % 256
+
+unfoldable pub counted : ℕ → ℕ
+counted len = if eqb len 0x00 then 256 else len
+
+-- "Command: 01h, LEN, COM, information, SUM, 03h. Data: 02h, LEN, data, SUM, then 03h .. else 17h."
+unfoldable pub framed : Header → List ℕ → Footer → List ℕ
+framed h ds f = headerByte h ∷ lenByte (length ds) ∷ ds ++ sumOf (lenByte (length ds) ∷ ds) ∷ footerByte f ∷ []
+
+abbrev pub commandFrame : ℕ → List ℕ → List ℕ
+commandFrame cmd info = framed Command (cmd ∷ info) Last
+
+abbrev pub dataFrame : List ℕ → Footer → List ℕ
+dataFrame ds f = framed Data ds f
+
+-- "A frame is complete at LEN + 4 bytes.": so many bytes, LEN among them, are as many as the frame begun needs, or more.
+unfoldable pub full : ℕ → ℕ → Bool
+full count len = leb 2 count and leb (counted len + 4) count
+
+unfoldable pub complete : List ℕ → Bool
+complete bs = full (length bs) (getD bs 1 0)
+
+-- These bytes are one complete frame and nothing after it.
+unfoldable pub isFrame : List ℕ → Bool
+isFrame bs = leb 2 (length bs) and eqb (length bs) (counted (getD bs 1 0) + 4)

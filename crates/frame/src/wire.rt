@@ -1,0 +1,99 @@
+// Frames written into lent room, and a data frame read off the front of lent bytes.
+ghost use mathlib.Core.Path.{_≡_};
+ghost use mathlib.Core.List.{_∷_, _++_};
+ghost use Prim.Native.Nat.{_+_, _≤_};
+ghost use lib.ListN.{length};
+ghost use Rattle.frame.specs.declared.Header.the-variants.{Command, Data};
+ghost use Rattle.frame.specs.declared.Footer.the-variants.{Last};
+ghost use Rattle.frame.specs.Wire.{wrote, writeOf, readOf, laid};
+use super::Footer;
+use super::Header;
+use super::judgement;
+use super::judgement::Judgement;
+use super::sum;
+
+pub enum Wrote {
+    Long(usize),
+    UnfitPayload,
+    ShortRoom,
+}
+
+pub enum Read {
+    Frame { at: usize, len: usize, next: usize },
+    NotOne,
+}
+
+// A frame laid at the start of room that holds it; its payload is `lead` and then `rest`.
+fn lay(room: &mut [u8], header: Header, lead: &[u8], rest: &[u8], footer: Footer)
+    requires { ⌜ length (now lead) + length (now rest) + 4 ≤ length (now room) ⌝ }
+    ensures { λ _. ⌜ now (room .exit) ≡ laid (now (room .entry)) header (now (lead .entry) ++ now (rest .entry)) footer ⌝ }
+{
+    let m = lead.len();
+    let n = m + rest.len();
+    let len = super::len_byte(n);
+    let sum = sum::sum8(sum::sum8(sum::less8(0x00, len), lead), rest);
+    room[0] = header.byte();
+    room[1] = len;
+    lent::put(room, 2, lead);
+    lent::put(room, 2 + m, rest);
+    room[2 + n] = sum;
+    room[3 + n] = footer.byte();
+}
+
+fn write(room: &mut [u8], header: Header, lead: &[u8], rest: &[u8], footer: Footer) -> Wrote
+    ensures { λ r. ⌜ wrote r (now (room .exit)) ≡ writeOf (now (room .entry)) header (now (lead .entry) ++ now (rest .entry)) footer ⌝ }
+{
+    let n = lead.len() + rest.len();
+    if n < 1 {
+        return Wrote::UnfitPayload;
+    }
+    if 256 < n {
+        return Wrote::UnfitPayload;
+    }
+    if room.len() < n + 4 {
+        return Wrote::ShortRoom;
+    }
+    lay(room, header, lead, rest, footer);
+    Wrote::Long(n + 4)
+}
+
+// Command frames end with 03h; their payload is COM and then the information.
+pub fn write_command(room: &mut [u8], command: u8, information: &[u8]) -> Wrote
+    ensures { λ r. ⌜ wrote r (now (room .exit)) ≡ writeOf (now (room .entry)) Command (command ∷ now (information .entry)) Last ⌝ }
+{
+    let lead = [command];
+    write(room, Header::Command, &lead, information, Footer::Last)
+}
+
+pub fn write_data(room: &mut [u8], payload: &[u8], footer: Footer) -> Wrote
+    ensures { λ r. ⌜ wrote r (now (room .exit)) ≡ writeOf (now (room .entry)) Data (now (payload .entry)) footer ⌝ }
+{
+    write(room, Header::Data, &payload[0..0], payload, footer)
+}
+
+pub fn read_data(s: &[u8]) -> Read
+    ensures { λ r. ⌜ r ≡ readOf (now (s .entry)) ⌝ }
+{
+    if s.len() < 2 {
+        return Read::NotOne;
+    }
+    if s[0] != Header::Data.byte() {
+        return Read::NotOne;
+    }
+    let n = super::counted(s[1]);
+    let end = super::needed(s[1]);
+    if s.len() < end {
+        return Read::NotOne;
+    }
+    let j = judgement::judge(Footer::Last, &s[0..end]);
+    match j {
+        Judgement::Good => Read::Frame {
+            at: 2,
+            len: n,
+            next: end,
+        },
+        Judgement::WrongFooter => Read::NotOne,
+        Judgement::WrongSum => Read::NotOne,
+        Judgement::UnfitLength => Read::NotOne,
+    }
+}

@@ -1,0 +1,65 @@
+-- Laws about bytes put into lent room, and about a frame or a reply that is written from the room's start, piece by piece.
+-- Assumes nothing.
+use mathlib.Core.List.{List, [], _++_, _∷_, append-assoc, append-nil}
+use mathlib.Core.Path.{_∙_, _≡_, ap, refl}
+use Prim.Native.Nat.{_+_, _-_, _<_, _≤_, suc, ℕ}
+use native.Mathlib.Numerals.{add-one}
+use native.Mathlib.Omega.{arith}
+use lib.ListN.{drop, drop-of-length-le, length, length-append, length-drop, set, take}
+use lib.Seq.{append-snoc, drop-append-add, drop-cons, drop-drop, set-append-seam, take-all, take-append-seam, take-length}
+use borrow.Author.Tests.{le-leb, lt-leb}
+use Rattle.lent.specs.Lent.{Left, left, putAt, putOf}
+use Rattle.lent.specs.declared.Room.{Room}
+use Rattle.lent.specs.declared.Room.the-variants.{Enough, Short}
+use Rattle.words.specs.Words.{if_then_else_}
+
+pub put-short : (l : List ℕ) (at : ℕ) (s : List ℕ) → length l < at + length s → left Short l ≡ putOf l at s
+unfolding putOf if_then_else_
+put-short l at s h = simp (lt-leb _ _ h)
+
+pub put-lands : (l : List ℕ) (at : ℕ) (s : List ℕ) → at + length s ≤ length l → putOf l at s ≡ left Enough (putAt l at s)
+unfolding putOf if_then_else_
+put-lands l at s h = simp (le-leb _ _ h)
+
+-- A part from at to the end, lent to `bytes::copy`, comes back in this form.
+pub copied : (l : List ℕ) (at : ℕ) (s t : List ℕ) → at + length s ≤ length l
+    → t ≡ take (length s) s ++ drop (length s) (take (length l - at) (drop at l))
+    → left Enough (take at l ++ (t ++ drop (length l - at) (drop at l))) ≡ putOf l at s
+unfolding putAt
+copied l at s t h e =
+    let long : length (drop at l) ≤ length l - at = rw length-drop (omega arith) in
+    let whole : take (length l - at) (drop at l) ≡ drop at l = take-all (length l - at) (drop at l) long in
+    let none : drop (length l - at) (drop at l) ≡ [] = drop-of-length-le (drop at l) long in
+    let u : t ≡ s ++ drop (at + length s) l = e ∙ rw (whole, take-length, drop-drop) in
+    rw (none, u, append-nil, put-lands l at s h, append-assoc)
+
+-- The room l is w, and after it what stood in the room r.
+pub record Written (w r l : List ℕ) : Type 0 where
+  pub is : l ≡ w ++ drop (length w) r
+  pub room : length w ≤ length r
+  pub long : length l ≡ length r
+
+pub written-start : (r : List ℕ) → Written [] r r
+written-start r = record { is = refl; room = omega arith; long = refl }
+
+is-long : (w r : List ℕ) → length w ≤ length r → length (w ++ drop (length w) r) ≡ length r
+is-long w r h = rw (length-append, length-drop) (omega arith)
+
+pub written-byte : {w r l : List ℕ} (at b : ℕ) → Written w r l → at ≡ length w → at < length r → Written (w ++ b ∷ []) r (set l at b)
+written-byte {w} {r} {l} at b p e h =
+    let n : length (w ++ b ∷ []) ≡ suc (length w) = rw length-append (add-one (length w)) in
+    let m : length (w ++ b ∷ []) ≤ length r = omega arith in
+    let i : set l at b ≡ (w ++ b ∷ []) ++ drop (length (w ++ b ∷ [])) r =
+    rw (n, p .is, e, drop-cons r (length w) 0 (omega arith), set-append-seam, append-snoc) in
+    record { is = i; room = m; long = ap length i ∙ is-long (w ++ b ∷ []) r m }
+
+pub written-put : {w r l l′ : List ℕ} {a : Room} (at : ℕ) (s : List ℕ) → Written w r l → left a l′ ≡ putOf l at s → at ≡ length w
+    → at + length s ≤ length r → Written (w ++ s) r l′
+unfolding putAt
+written-put {w} {r} {l} {l′} {a} at s p e f h =
+    let n : length (w ++ s) ≡ length w + length s = length-append w s in
+    let m : length (w ++ s) ≤ length r = omega arith in
+    let v : left a l′ ≡ left Enough (putAt l at s) = e ∙ put-lands l at s (omega (arith, p .long)) in
+    let i : l′ ≡ (w ++ s) ++ drop (length (w ++ s)) r =
+    ap (λ (x : Left). x .bytes) v ∙ rw (n, p .is, f, take-append-seam, drop-append-add, drop-drop) in
+    record { is = i; room = m; long = ap length i ∙ is-long (w ++ s) r m }
