@@ -2,3 +2,8 @@ pub mod Outcome
 pub mod Lent
 pub mod Part
 pub mod Frame
+pub mod Flash
+pub mod Options
+pub mod Reply
+pub mod Effect
+pub mod Chip

@@ -24,6 +24,10 @@ use Rattle.part.proofs.Part.place.Reads as Part-place
 use Rattle.part.proofs.Part.place.Kinds as Part-place-kinds
 use Rattle.part.proofs.Part.range.Reads as Part-range
 use Rattle.part.proofs.Part.range.Kinds as Part-range-kinds
+use Rattle.part.proofs.rate.accepts.Reads as rate-accepts
+use Rattle.part.proofs.rate.accepts.Kinds as rate-accepts-kinds
+use Rattle.part.proofs.rate.mode.Reads as rate-mode
+use Rattle.part.proofs.rate.mode.Kinds as rate-mode-kinds
 use Rattle.part.proofs.refusal.Refusal.number.Reads as refusal-Refusal-number
 use Rattle.part.proofs.refusal.Refusal.number.Kinds as refusal-Refusal-number-kinds
 
@@ -56,6 +60,12 @@ Part-place-once κs a = one-outcome (Part-place.Post κs a) (λ r x. r) _ (λ r 
 
 pub Part-range-once : (κs : Lfts 0) (a : Dens κs Part-range-kinds.ps) → OneOutcome {R = resT Part-range-kinds.r κs .Denot} {X = AtExit (endedOf 0 Part-range-kinds.ps Part-range-kinds.r) κs} (Part-range.Post κs a) (λ r x. r)
 Part-range-once κs a = one-outcome (Part-range.Post κs a) (λ r x. r) _ (λ r x p. p)
+
+pub rate-accepts-once : (κs : Lfts 0) (a : Dens κs rate-accepts-kinds.ps) → OneOutcome {R = resT rate-accepts-kinds.r κs .Denot} {X = AtExit (endedOf 0 rate-accepts-kinds.ps rate-accepts-kinds.r) κs} (rate-accepts.Post κs a) (λ r x. r)
+rate-accepts-once κs a = one-outcome (rate-accepts.Post κs a) (λ r x. r) _ (λ r x p. p)
+
+pub rate-mode-once : (κs : Lfts 0) (a : Dens κs rate-mode-kinds.ps) → OneOutcome {R = resT rate-mode-kinds.r κs .Denot} {X = AtExit (endedOf 0 rate-mode-kinds.ps rate-mode-kinds.r) κs} (rate-mode.Post κs a) (λ r x. r)
+rate-mode-once κs a = one-outcome (rate-mode.Post κs a) (λ r x. r) _ (λ r x p. p)
 
 pub refusal-Refusal-number-once : (κs : Lfts 0) (a : Dens κs refusal-Refusal-number-kinds.ps) → OneOutcome {R = resT refusal-Refusal-number-kinds.r κs .Denot} {X = AtExit (endedOf 0 refusal-Refusal-number-kinds.ps refusal-Refusal-number-kinds.r) κs} (refusal-Refusal-number.Post κs a) (λ r x. r)
 refusal-Refusal-number-once κs a = one-outcome (refusal-Refusal-number.Post κs a) (λ r x. r) _ (λ r x p. p)

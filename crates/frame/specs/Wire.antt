@@ -13,7 +13,7 @@ use Rattle.frame.specs.declared.Header.the-variants.{Data}
 use Rattle.frame.specs.declared.wire.Read.{Read}
 use Rattle.frame.specs.declared.wire.Read.the-variants.{Frame, NotOne}
 use Rattle.frame.specs.declared.wire.Wrote.{Wrote}
-use Rattle.frame.specs.declared.wire.Wrote.the-variants.{Long, ShortRoom, UnfitPayload}
+use Rattle.frame.specs.declared.wire.Wrote.the-variants.{Long, NoRoom, UnfitPayload}
 use Rattle.words.specs.Words.{_and_, _from_to_, if_then_else_}
 
 -- What writing leaves: its answer, and the whole room.
@@ -32,7 +32,7 @@ laid room h ds f = framed h ds f ++ drop (length ds + 4) room
 unfoldable pub writeOf : List ℕ → Header → List ℕ → Footer → Writing
 writeOf room h ds f =
     if not (length ds from 1 to 256) then wrote UnfitPayload room
-    else if ltb (length room) (length ds + 4) then wrote ShortRoom room
+    else if ltb (length room) (length ds + 4) then wrote NoRoom room
     else wrote (Long (length ds + 4)) (laid room h ds f)
 
 -- One data frame off the front: "02h, fitting LEN, right SUM and 03h". Its payload's place and length, and where what follows begins.

@@ -15,7 +15,7 @@ use super::sum;
 pub enum Wrote {
     Long(usize),
     UnfitPayload,
-    ShortRoom,
+    NoRoom,
 }
 
 pub enum Read {
@@ -51,7 +51,7 @@ fn write(room: &mut [u8], header: Header, lead: &[u8], rest: &[u8], footer: Foot
         return Wrote::UnfitPayload;
     }
     if room.len() < n + 4 {
-        return Wrote::ShortRoom;
+        return Wrote::NoRoom;
     }
     lay(room, header, lead, rest, footer);
     Wrote::Long(n + 4)

@@ -11,10 +11,10 @@ use borrow.Author.Tests.{eq-eqb, eqb-true, le-leb, le-ltb, leb-true, lt-ltb, ltb
 use Rattle.part.proofs.Blocks.{Whole, below, below-page, whole, whole-inside, whole-read}
 use Rattle.part.specs.Part.{blockOf, blockSize, blocks, described, endsBlock, first, liesIn, pageOf, pageSize, pages, placeIn, placeOf, rangeOf, size, startsBlock, stretch, wholeBlocks}
 use Rattle.part.specs.declared.Area.{Area}
-use Rattle.part.specs.declared.Area.the-variants.{Code, Data}
+use Rattle.part.specs.declared.Area.the-variants.{CodeFlash, DataFlash}
 use Rattle.part.specs.declared.Part.{Part}
 use Rattle.part.specs.declared.Place.the-variants.{In, Outside}
-use Rattle.part.specs.declared.Range.the-variants.{Bad, Good}
+use Rattle.part.specs.declared.Range.the-variants.{Bad, Blocks}
 use Rattle.words.proofs.Laws.{and-both, and-left, and-right}
 use Rattle.words.specs.Words.{_and_, _from_to_, if_then_else_}
 
@@ -35,15 +35,15 @@ pub positive : (p : Part) (a : Area) {s : ℕ} → s ≡ blockSize p a → 0 < s
 positive p a e = rw e (blockSize-pos p a)
 
 pub first-small : (a : Area) → first a ≤ 0xF1000
-first-small Code = omega arith
-first-small Data = omega arith
+first-small CodeFlash = omega arith
+first-small DataFlash = omega arith
 
 product-small : (n s : ℕ) → n < 2 ^ 32 → s ≤ 65536 → n * s ≤ 2 ^ 48
 product-small n s h k = let l : n * s ≤ n * 65536 = mul-le-mul-left n k in omega arith
 
 blocks-small : (p : Part) (a : Area) → p .«code_blocks» < 2 ^ 32 → p .«data_blocks» < 2 ^ 32 → blocks p a < 2 ^ 32
-blocks-small p Code h k = h
-blocks-small p Data h k = k
+blocks-small p CodeFlash h k = h
+blocks-small p DataFlash h k = k
 
 -- No address computed from a part wraps, whatever its numbers.
 pub size-small : (p : Part) (a : Area) → p .«code_blocks» < 2 ^ 32 → p .«data_blocks» < 2 ^ 32 → size p a ≤ 2 ^ 48
@@ -103,42 +103,42 @@ stretch-law p a start end h w =
       inside = whole-inside s pos (blocks p a) x y (x / s) (y / s + 1 - x / s) v (omega (arith, w .ends));
     }
 
-same-range : (p : Part) (start end : ℕ) (a b : Area) (i j m n : ℕ) → Good a i m ≡ Good b j n → Stretch p start end a i m → Stretch p start end b j n
+same-range : (p : Part) (start end : ℕ) (a b : Area) (i j m n : ℕ) → Blocks a i m ≡ Blocks b j n → Stretch p start end a i m → Stretch p start end b j n
 same-range p start end a b i j m n e s =
     let u : a ≡ b = cc in
     let v : i ≡ j = cc in
     let w : m ≡ n = cc in
     rw (← u, ← v, ← w) s
 
-bad-good : (a : Area) (i m : ℕ) → Bad ≡ Good a i m → ⊥
+bad-good : (a : Area) (i m : ℕ) → Bad ≡ Blocks a i m → ⊥
 bad-good a i m e = let z : _≡_ {A = ℕ} 0 1 = cc in omega arith
 
-pub range-good : (p : Part) (start end : ℕ) (a : Area) (block count : ℕ) → rangeOf p start end ≡ Good a block count → Stretch p start end a block count
+pub range-good : (p : Part) (start end : ℕ) (a : Area) (block count : ℕ) → rangeOf p start end ≡ Blocks a block count → Stretch p start end a block count
 unfolding rangeOf if_then_else_ stretch
-range-good p start end a block count e = go (ltb end start) refl (wholeBlocks p Code start end) refl (wholeBlocks p Data start end) refl e
+range-good p start end a block count e = go (ltb end start) refl (wholeBlocks p CodeFlash start end) refl (wholeBlocks p DataFlash start end) refl e
   where
     in-area : (b : Area) → ltb end start ≡ false → wholeBlocks p b start end ≡ true
-        → Good b (blockOf p b start) (blockOf p b end + 1 - blockOf p b start) ≡ Good a block count → Stretch p start end a block count
+        → Blocks b (blockOf p b start) (blockOf p b end + 1 - blockOf p b start) ≡ Blocks a block count → Stretch p start end a block count
     in-area b h w e =
         same-range p start end b a (blockOf p b start) block (blockOf p b end + 1 - blockOf p b start) count e
         (stretch-law p b start end (ltb-false end start h) (whole-in p b start end w))
 
-    go : (t : Bool) → ltb end start ≡ t → (u : Bool) → wholeBlocks p Code start end ≡ u → (v : Bool) → wholeBlocks p Data start end ≡ v
-        → (if t then Bad else if u then stretch p Code start end else if v then stretch p Data start end else Bad) ≡ Good a block count
+    go : (t : Bool) → ltb end start ≡ t → (u : Bool) → wholeBlocks p CodeFlash start end ≡ u → (v : Bool) → wholeBlocks p DataFlash start end ≡ v
+        → (if t then Bad else if u then stretch p CodeFlash start end else if v then stretch p DataFlash start end else Bad) ≡ Blocks a block count
         → Stretch p start end a block count
     go true h u w v x e = absurd (bad-good a block count e)
-    go false h true w v x e = in-area Code h w e
-    go false h false w true x e = in-area Data h x e
+    go false h true w v x e = in-area CodeFlash h w e
+    go false h false w true x e = in-area DataFlash h x e
     go false h false w false x e = absurd (bad-good a block count e)
 
 -- The areas of a described part do not meet.
-pub areas-apart : (p : Part) → described p ≡ true → size p Code ≤ first Data
+pub areas-apart : (p : Part) → described p ≡ true → size p CodeFlash ≤ first DataFlash
 unfolding described blockSize _from_to_
 areas-apart p d = let h : p .«code_blocks» ≤ 64 = leb-true _ _ (and-right _ _ (and-left _ _ d)) in omega arith
 
-not-in-code : (p : Part) (start end : ℕ) → size p Code ≤ start → wholeBlocks p Code start end ≡ false
+not-in-code : (p : Part) (start end : ℕ) → size p CodeFlash ≤ start → wholeBlocks p CodeFlash start end ≡ false
 unfolding wholeBlocks liesIn _and_
-not-in-code p start end h = simp (leb·zero start, le-ltb _ _ (let z : 0 + size p Code ≤ start = omega arith in z))
+not-in-code p start end h = simp (leb·zero start, le-ltb _ _ (let z : 0 + size p CodeFlash ≤ start = omega arith in z))
 
 module _ (p : Part) (start end : ℕ) (a : Area) (block count : ℕ) (st : Stretch p start end a block count) where
   the-whole : Whole (blockSize p a) (blockSize-pos p a) (start - first a) (end - first a) block count
@@ -170,7 +170,7 @@ module _ (p : Part) (start end : ℕ) (a : Area) (block count : ℕ) (st : Stret
       (and-both (lies-yes (record { low = omega (arith, st .begins, in-order); high = omega (arith, st .ends) }))
       (and-both (eq-eqb _ _ (r .start)) (eq-eqb _ _ (ap (λ (n : ℕ). n % s) e ∙ r .end))))
 
-  stretch-is : stretch p a start end ≡ Good a block count
+  stretch-is : stretch p a start end ≡ Blocks a block count
   unfolding stretch blockOf
   stretch-is =
       let r = whole-read (blockSize p a) (blockSize-pos p a) (start - first a) (end - first a) block count the-whole in
@@ -178,13 +178,13 @@ module _ (p : Part) (start end : ℕ) (a : Area) (block count : ℕ) (st : Stret
 
 -- A range is good exactly when it is such a stretch.
 pub good-range : (p : Part) (start end : ℕ) (a : Area) (block count : ℕ) → described p ≡ true → Stretch p start end a block count
-    → rangeOf p start end ≡ Good a block count
+    → rangeOf p start end ≡ Blocks a block count
 unfolding rangeOf if_then_else_
-good-range p start end Code block count d st =
-    simp (le-ltb _ _ (in-order p start end Code block count st), whole-yes p start end Code block count st, stretch-is p start end Code block count st)
-good-range p start end Data block count d st =
-    let n : wholeBlocks p Code start end ≡ false = not-in-code p start end (omega (arith, areas-apart p d, st .begins)) in
-    simp (le-ltb _ _ (in-order p start end Data block count st), n, whole-yes p start end Data block count st, stretch-is p start end Data block count st)
+good-range p start end CodeFlash block count d st =
+    simp (le-ltb _ _ (in-order p start end CodeFlash block count st), whole-yes p start end CodeFlash block count st, stretch-is p start end CodeFlash block count st)
+good-range p start end DataFlash block count d st =
+    let n : wholeBlocks p CodeFlash start end ≡ false = not-in-code p start end (omega (arith, areas-apart p d, st .begins)) in
+    simp (le-ltb _ _ (in-order p start end DataFlash block count st), n, whole-yes p start end DataFlash block count st, stretch-is p start end DataFlash block count st)
 
 -- Where an address lies: the offset is below the area's size, block and page are of that area and block, and the three agree.
 pub record Spot (p : Part) (at : ℕ) (a : Area) (offset block page : ℕ) : Type 0 where
@@ -211,7 +211,7 @@ spot-law p a at l =
 
 pub place-lies : (p : Part) (at : ℕ) (a : Area) (offset block page : ℕ) → placeOf p at ≡ In a offset block page → Spot p at a offset block page
 unfolding placeOf placeIn if_then_else_
-place-lies p at a offset block page e = go (liesIn p Code at) refl (liesIn p Data at) refl e
+place-lies p at a offset block page e = go (liesIn p CodeFlash at) refl (liesIn p DataFlash at) refl e
   where
     in-area : (b : Area) → liesIn p b at ≡ true → In b (at - first b) (blockOf p b at) (pageOf p b at) ≡ In a offset block page → Spot p at a offset block page
     in-area b l e =
@@ -221,8 +221,31 @@ place-lies p at a offset block page e = go (liesIn p Code at) refl (liesIn p Dat
         let x : pageOf p b at ≡ page = cc in
         rw (← x, ← w, ← v, ← u) (spot-law p b at (lies p b at l))
 
-    go : (t : Bool) → liesIn p Code at ≡ t → (u : Bool) → liesIn p Data at ≡ u
-        → (if t then placeIn p Code at else if u then placeIn p Data at else Outside) ≡ In a offset block page → Spot p at a offset block page
-    go true l u m e = in-area Code l e
-    go false l true m e = in-area Data m e
+    go : (t : Bool) → liesIn p CodeFlash at ≡ t → (u : Bool) → liesIn p DataFlash at ≡ u
+        → (if t then placeIn p CodeFlash at else if u then placeIn p DataFlash at else Outside) ≡ In a offset block page → Spot p at a offset block page
+    go true l u m e = in-area CodeFlash l e
+    go false l true m e = in-area DataFlash m e
     go false l false m e = absurd (let z : _≡_ {A = ℕ} 0 1 = cc in omega arith)
+
+-- The numbers of a described part.
+pub record Described (p : Part) : Type 0 where
+  pub code-least : 8 ≤ p .«code_blocks»
+  pub code-most : p .«code_blocks» ≤ 64
+  pub data-most : p .«data_blocks» ≤ 8
+  pub clock-least : 1 ≤ p .clock
+  pub clock-most : p .clock ≤ 32
+
+pub described-is : (p : Part) → described p ≡ true → Described p
+unfolding described _from_to_
+described-is p d =
+    let c = and-left _ _ d in
+    let r = and-right _ _ d in
+    let e = and-left _ _ r in
+    let k = and-right _ _ r in
+    record {
+      code-least = leb-true _ _ (and-left _ _ c);
+      code-most = leb-true _ _ (and-right _ _ c);
+      data-most = leb-true _ _ (and-right _ _ e);
+      clock-least = leb-true _ _ (and-left _ _ k);
+      clock-most = leb-true _ _ (and-right _ _ k);
+    }

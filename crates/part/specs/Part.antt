@@ -5,26 +5,26 @@ use lib.Dec.{leb, ltb, eqb}
 use Rattle.words.specs.Words.{_and_, _from_to_, if_then_else_}
 use Rattle.part.specs.declared.Part.{Part}
 use Rattle.part.specs.declared.Area.{Area}
-use Rattle.part.specs.declared.Area.the-variants.{Code, Data}
-use Rattle.part.specs.declared.Last.{Last}
-use Rattle.part.specs.declared.Last.the-variants.{Address, Nothing}
+use Rattle.part.specs.declared.Area.the-variants.{CodeFlash, DataFlash}
+use Rattle.part.specs.declared.LastAddress.{LastAddress}
+use Rattle.part.specs.declared.LastAddress.the-variants.{At, Nothing}
 use Rattle.part.specs.declared.Place.{Place}
 use Rattle.part.specs.declared.Place.the-variants.{In, Outside}
 use Rattle.part.specs.declared.Range.{Range}
-use Rattle.part.specs.declared.Range.the-variants.{Good, Bad}
+use Rattle.part.specs.declared.Range.the-variants.{Blocks, Bad}
 
 -- "Code flash: 8 to 64 blocks .. Data flash: 0 to 8 blocks .. Clock 1 to 32." Device code, name and firmware version are any bytes.
 unfoldable pub described : Part → Bool
 described p = p .«code_blocks» from 8 to 64 and p .«data_blocks» from 0 to 8 and p .clock from 1 to 32
 
 abbrev pub blocks : Part → Area → ℕ
-blocks p Code = p .«code_blocks»
-blocks p Data = p .«data_blocks»
+blocks p CodeFlash = p .«code_blocks»
+blocks p DataFlash = p .«data_blocks»
 
 -- "Code flash: .. from 00000h. Data flash: .. from F1000h."
 abbrev pub first : Area → ℕ
-first Code = 0x00000
-first Data = 0xF1000
+first CodeFlash = 0x00000
+first DataFlash = 0xF1000
 
 -- "A block is 1,024 bytes, a page 256."
 unfoldable pub blockSize : Part → Area → ℕ
@@ -42,8 +42,8 @@ abbrev pub size : Part → Area → ℕ
 size p a = blocks p a * blockSize p a
 
 -- The last address of an area; none where it has no blocks.
-unfoldable pub lastOf : Part → Area → Last
-lastOf p a = if eqb (size p a) 0 then Nothing else Address (first a + size p a - 1)
+unfoldable pub lastOf : Part → Area → LastAddress
+lastOf p a = if eqb (size p a) 0 then Nothing else At (first a + size p a - 1)
 
 -- An address lies in an area from its first address to its last.
 unfoldable pub liesIn : Part → Area → ℕ → Bool
@@ -61,8 +61,8 @@ placeIn p a at = In a (at - first a) (blockOf p a at) (pageOf p a at)
 
 unfoldable pub placeOf : Part → ℕ → Place
 placeOf p at =
-    if liesIn p Code at then placeIn p Code at
-    else if liesIn p Data at then placeIn p Data at
+    if liesIn p CodeFlash at then placeIn p CodeFlash at
+    else if liesIn p DataFlash at then placeIn p DataFlash at
     else Outside
 
 -- The first address of a block, and the last.
@@ -77,12 +77,12 @@ unfoldable pub wholeBlocks : Part → Area → ℕ → ℕ → Bool
 wholeBlocks p a start end = liesIn p a start and liesIn p a end and startsBlock p a start and endsBlock p a end
 
 unfoldable pub stretch : Part → Area → ℕ → ℕ → Range
-stretch p a start end = Good a (blockOf p a start) (blockOf p a end + 1 - blockOf p a start)
+stretch p a start end = Blocks a (blockOf p a start) (blockOf p a end + 1 - blockOf p a start)
 
 -- "A range is bad (05h) if start exceeds end, either end is outside flash, it crosses from code to data, or it is not whole blocks."
 unfoldable pub rangeOf : Part → ℕ → ℕ → Range
 rangeOf p start end =
     if ltb end start then Bad
-    else if wholeBlocks p Code start end then stretch p Code start end
-    else if wholeBlocks p Data start end then stretch p Data start end
+    else if wholeBlocks p CodeFlash start end then stretch p CodeFlash start end
+    else if wholeBlocks p DataFlash start end then stretch p DataFlash start end
     else Bad

@@ -6,6 +6,7 @@ ghost use Prim.Native.Nat.{_≤_};
 ghost use Rattle.words.specs.Words.{_from_to_};
 ghost use Rattle.part.specs.Part.{described, blocks, first, blockSize, pageSize, pages, size, lastOf, liesIn, placeIn, placeOf, wholeBlocks, stretch, rangeOf};
 
+pub mod rate;
 pub mod refusal;
 
 // The three numbers are wide enough that none handed in wraps into range, and narrow enough that no address computed from them wraps.
@@ -19,13 +20,13 @@ pub struct Part {
 }
 
 pub enum Area {
-    Code,
-    Data,
+    CodeFlash,
+    DataFlash,
 }
 
 // The last address of an area, or none where it has no blocks.
-pub enum Last {
-    Address(usize),
+pub enum LastAddress {
+    At(usize),
     Nothing,
 }
 
@@ -42,7 +43,7 @@ pub enum Place {
 
 // A good range has its area, the number of its first block there, and how many blocks it is long.
 pub enum Range {
-    Good {
+    Blocks {
         area: Area,
         block: usize,
         count: usize,
@@ -64,8 +65,8 @@ impl Area {
         ensures { λ r. ⌜ r ≡ first self ⌝ }
     {
         match self {
-            Area::Code => 0x00000,
-            Area::Data => 0xF1000,
+            Area::CodeFlash => 0x00000,
+            Area::DataFlash => 0xF1000,
         }
     }
 }
@@ -93,8 +94,8 @@ impl Part {
         ensures { λ r. ⌜ r ≡ blocks self area ⌝ }
     {
         match area {
-            Area::Code => self.code_blocks as usize,
-            Area::Data => self.data_blocks as usize,
+            Area::CodeFlash => self.code_blocks as usize,
+            Area::DataFlash => self.data_blocks as usize,
         }
     }
 
@@ -117,14 +118,14 @@ impl Part {
         self.blocks(area) * self.block_size(area)
     }
 
-    pub fn last(self, area: Area) -> Last
+    pub fn last(self, area: Area) -> LastAddress
         ensures { λ r. ⌜ r ≡ lastOf self area ⌝ }
     {
         let size = self.size(area);
         if size == 0 {
-            return Last::Nothing;
+            return LastAddress::Nothing;
         }
-        Last::Address(area.first() + size - 1)
+        LastAddress::At(area.first() + size - 1)
     }
 
     fn lies_in(self, area: Area, address: usize) -> bool
@@ -154,11 +155,11 @@ impl Part {
     pub fn place(self, address: usize) -> Place
         ensures { λ r. ⌜ r ≡ placeOf self address ⌝ }
     {
-        if self.lies_in(Area::Code, address) {
-            return self.place_in(Area::Code, address);
+        if self.lies_in(Area::CodeFlash, address) {
+            return self.place_in(Area::CodeFlash, address);
         }
-        if self.lies_in(Area::Data, address) {
-            return self.place_in(Area::Data, address);
+        if self.lies_in(Area::DataFlash, address) {
+            return self.place_in(Area::DataFlash, address);
         }
         Place::Outside
     }
@@ -185,7 +186,7 @@ impl Part {
         let first = area.first();
         let size = self.block_size(area);
         let block = (start - first) / size;
-        Range::Good {
+        Range::Blocks {
             area,
             block,
             count: (end - first) / size + 1 - block,
@@ -198,11 +199,11 @@ impl Part {
         if end < start {
             return Range::Bad;
         }
-        if self.is_whole_blocks(Area::Code, start, end) {
-            return self.stretch(Area::Code, start, end);
+        if self.is_whole_blocks(Area::CodeFlash, start, end) {
+            return self.stretch(Area::CodeFlash, start, end);
         }
-        if self.is_whole_blocks(Area::Data, start, end) {
-            return self.stretch(Area::Data, start, end);
+        if self.is_whole_blocks(Area::DataFlash, start, end) {
+            return self.stretch(Area::DataFlash, start, end);
         }
         Range::Bad
     }

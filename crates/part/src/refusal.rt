@@ -31,3 +31,9 @@ impl Refusal {
         }
     }
 }
+
+// What a row of refusals comes to.
+pub enum Verdict {
+    Accepted,
+    Barred(Refusal),
+}

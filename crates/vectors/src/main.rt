@@ -40,7 +40,7 @@ fn show_written(wrote: Wrote, room: &[u8]) {
             }
         }
         Wrote::UnfitPayload => {}
-        Wrote::ShortRoom => {}
+        Wrote::NoRoom => {}
     }
 }
 

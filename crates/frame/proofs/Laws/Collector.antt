@@ -30,27 +30,29 @@ complete-none : complete [] ≡ false
 unfolding complete full _and_
 complete-none = refl
 
--- Whether what is heard is complete can be read off the count and the LEN byte.
+-- Whether what is heard is complete can be read off the count and the LEN byte: for a count that lies in the array, whatever the LEN byte,
+pub complete-within : (c : Collector) → length (c .bytes) ≡ 260 → c .len ≤ 260 → complete (heard c) ≡ full (c .len) (getD (c .bytes) 1 0)
+unfolding complete heard
+complete-within c l h = go (decLt (c .len) 2)
+  where
+    s : length (take (c .len) (c .bytes)) ≡ c .len
+    s = length-take-le (c .len) (c .bytes) (omega arith)
+
+    go : Dec (c .len < 2) → full (length (take (c .len) (c .bytes))) (getD (take (c .len) (c .bytes)) 1 0) ≡ full (c .len) (getD (c .bytes) 1 0)
+    go (yes k) = full-short _ _ (omega (arith, s)) ∙ sym (full-short _ _ k)
+    go (no k) = rw (s, getD-take (c .len) (c .bytes) 1 0 (omega arith))
+
+-- and for any count where the LEN byte is one.
 pub complete-heard : (c : Collector) → length (c .bytes) ≡ 260 → counted (getD (c .bytes) 1 0) ≤ 256 → complete (heard c) ≡ full (c .len) (getD (c .bytes) 1 0)
 unfolding complete heard
-complete-heard c l b = go (decLt (c .len) 2) (decLe (c .len) 260)
+complete-heard c l b = go (decLe (c .len) 260)
   where
-    x : ℕ
-    x = getD (c .bytes) 1 0
-
-    n : ℕ
-    n = c .len
-
-    go : Dec (n < 2) → Dec (n ≤ 260) → full (length (take n (c .bytes))) (getD (take n (c .bytes)) 1 0) ≡ full n x
-    go (yes h) d =
-        let s : length (take n (c .bytes)) ≡ n = length-take-le n (c .bytes) (omega arith) in
-        full-short _ _ (omega arith) ∙ sym (full-short n x h)
-    go (no h) (yes k) =
-        let s : length (take n (c .bytes)) ≡ n = length-take-le n (c .bytes) (omega arith) in
-        rw (s, getD-take n (c .bytes) 1 0 (omega arith))
-    go (no h) (no k) =
-        let s : take n (c .bytes) ≡ c .bytes = take-all n (c .bytes) (omega arith) in
-        rw (s, l) (full-yes 260 x (omega arith) (omega arith) ∙ sym (full-yes n x (omega arith) (omega arith)))
+    go : Dec (c .len ≤ 260) → full (length (take (c .len) (c .bytes))) (getD (take (c .len) (c .bytes)) 1 0) ≡ full (c .len) (getD (c .bytes) 1 0)
+    go (yes h) = complete-within c l h
+    go (no h) =
+        let s : take (c .len) (c .bytes) ≡ c .bytes = take-all (c .len) (c .bytes) (omega arith) in
+        let x = getD (c .bytes) 1 0 in
+        rw (s, l) (full-yes 260 x (omega arith) (omega arith) ∙ sym (full-yes (c .len) x (omega arith) (omega arith)))
 
 pub stored-holds : (c : Collector) (b : ℕ) → c .len < length (c .bytes) → stored c b ≡ holding c (heard c ++ b ∷ [])
 unfolding stored holding heard

@@ -22,7 +22,7 @@ use Rattle.frame.specs.declared.Header.the-variants.{Data}
 use Rattle.frame.specs.declared.judgement.Judgement.{Judgement}
 use Rattle.frame.specs.declared.judgement.Judgement.the-variants.{Good}
 use Rattle.frame.specs.declared.wire.Read.the-variants.{Frame, NotOne}
-use Rattle.frame.specs.declared.wire.Wrote.the-variants.{Long, ShortRoom, UnfitPayload}
+use Rattle.frame.specs.declared.wire.Wrote.the-variants.{Long, NoRoom, UnfitPayload}
 use Rattle.lent.proofs.Laws.{Written}
 use Rattle.words.specs.Words.{_and_, _from_to_, if_then_else_}
 
@@ -59,7 +59,7 @@ unfolding writeOf _from_to_ _and_ if_then_else_
 write-over room h ds f k l = simp (le-leb _ _ k, lt-leb _ _ l)
 
 pub write-short : (room : List ℕ) (h : Header) (ds : List ℕ) (f : Footer) → 1 ≤ length ds → length ds ≤ 256 → length room < length ds + 4
-    → wrote ShortRoom room ≡ writeOf room h ds f
+    → wrote NoRoom room ≡ writeOf room h ds f
 unfolding writeOf _from_to_ _and_ if_then_else_
 write-short room h ds f k l s = simp (le-leb _ _ k, le-leb _ _ l, lt-ltb _ _ s)
 

@@ -1,0 +1,367 @@
+-- Laws of a step, over plain variables: what an accepted state gives, when a byte completes a frame, and how each way of a step settles.
+-- Assumes nothing.
+use mathlib.Core.Bool.{Bool, false, not, true}
+use mathlib.Core.List.{List, [], _++_, _∷_}
+use mathlib.Core.Path.{_∙_, _≡_, ap, refl, sym}
+use Prim.Native.Nat.{_+_, _-_, _<_, _≤_, ℕ}
+use native.Mathlib.Decide.{decLe}
+use native.Mathlib.Omega.{arith}
+use lib.Dec.{eqb, leb, ltb}
+use lib.ListN.{List·getD-append, getD, length, length-append, take}
+use lib.Seq.{getD-take}
+use borrow.Author.Tests.{eqb-true, le-leb, lt-leb, ltb-false, ltb-true, not-false, not-true}
+use Rattle.chip.specs.Step.{Outcome, Reaction, byteIn, frameDoes, goodBegun, goodCollected, goodState, heardByte, modeByte, outcome, poweredOn, reactTo, reaction, replied, settled, silent, stepOf, verdictOf}
+use Rattle.chip.specs.declared.Answer.the-variants.{Refused, Replied}
+use Rattle.chip.specs.declared.Chip.{Chip}
+use Rattle.chip.specs.declared.Event.{Event}
+use Rattle.chip.specs.declared.Event.the-variants.{Byte, Gap, PowerOn}
+use Rattle.chip.specs.declared.events.Way.the-variants.{Completes, Hears, Mode}
+use Rattle.chip.specs.inner.Ways.{completesAt, wayOf, wayOn}
+use Rattle.effect.specs.Effect.{Effect, Flash, effect}
+use Rattle.effect.specs.declared.Core.{Core}
+use Rattle.effect.specs.declared.Done.{Done}
+use Rattle.effect.specs.declared.Phase.{Phase}
+use Rattle.effect.specs.declared.Phase.the-variants.{Awaiting, ModeByte, Ready, Setup}
+use Rattle.frame.proofs.Laws.Collector.{complete-within, hear-more, heard-byte, holding-heard, length-heard}
+use Rattle.frame.proofs.Laws.Frame.{full-not, full-short, full-yes}
+use Rattle.frame.specs.Collector.{byteOf, dropped, hear, heard, holding}
+use Rattle.frame.specs.Frame.{complete, counted, full, headerByte}
+use Rattle.frame.specs.declared.Header.{Header}
+use Rattle.frame.specs.declared.Header.the-variants.{Command, Data}
+use Rattle.frame.specs.declared.collector.Collector.{Collector}
+use Rattle.part.specs.Part.{described, size}
+use Rattle.part.specs.Refusal.{firstOf}
+use Rattle.part.specs.declared.Area.the-variants.{CodeFlash, DataFlash}
+use Rattle.part.specs.declared.Part.{Part}
+use Rattle.part.specs.declared.refusal.Refusal.{Refusal}
+use Rattle.part.specs.declared.refusal.Refusal.the-variants.{BadPart, BadState, CodeLength, DataLength, ShortRoom}
+use Rattle.part.specs.declared.refusal.Verdict.{Verdict}
+use Rattle.part.specs.declared.refusal.Verdict.the-variants.{Accepted, Barred}
+use Rattle.reply.proofs.Laws.{send-none}
+use Rattle.reply.specs.Reply.{Said, payloads, said, sendOf}
+use Rattle.reply.specs.declared.Sent.{Sent}
+use Rattle.words.proofs.Laws.{and-both, and-left, and-right}
+use Rattle.words.specs.Words.{_and_, _or_, if_then_else_}
+
+not-barred : (t : Bool) (r : Refusal) (v : Verdict) → (if t then Barred r else v) ≡ Accepted → (t ≡ false) × (v ≡ Accepted)
+unfolding if_then_else_
+not-barred true r v e = absurd (let z : _≡_ {A = ℕ} 0 1 = cc in omega arith)
+not-barred false r v e = (refl, e)
+
+-- What acceptance gives.
+pub record Accepts (p : Part) (k : Core) (count head len room : ℕ) : Type 0 where
+  pub state : goodState p k count head len ≡ true
+  pub roomy : 32 ≤ room
+
+pub accepts : (p : Part) (k : Core) (count head len code extra room : ℕ) → verdictOf p k count head len code extra room ≡ Accepted → Accepts p k count head len room
+unfolding verdictOf firstOf
+accepts p k count head len code extra room e =
+    let a = not-barred (not (described p)) BadPart _ e in
+    let b = not-barred (not (eqb code (size p CodeFlash))) CodeLength _ (a .1) in
+    let c = not-barred (not (eqb extra (size p DataFlash))) DataLength _ (b .1) in
+    let d = not-barred (not (goodState p k count head len)) BadState _ (c .1) in
+    let f = not-barred (ltb room 32) ShortRoom _ (d .1) in
+    record { state = not-false _ (d .0); roomy = ltb-false room 32 (f .0) }
+
+-- What is collected in a good state: fewer bytes than the frame begun needs.
+pub record Begun (c : Collector) : Type 0 where
+  pub within : c .len < 260
+  pub lacks : complete (heard c) ≡ false
+
+pub begun : (h : Header) (c : Collector) → length (c .bytes) ≡ 260 → goodBegun h (c .len) (getD (c .bytes) 0 0) (getD (c .bytes) 1 0) ≡ true → Begun c
+unfolding goodBegun _or_
+begun h c l t = go (eqb (c .len) 0) refl t
+  where
+    full? : Bool
+    full? = full (c .len) (getD (c .bytes) 1 0)
+
+    go : (z : Bool) → eqb (c .len) 0 ≡ z → z or ltb (c .len) 260 and eqb (getD (c .bytes) 0 0) (headerByte h) and not full? ≡ true → Begun c
+    go true z e =
+        let n : c .len ≡ 0 = eqb-true _ _ z in
+        record { within = omega arith; lacks = complete-within c l (omega arith) ∙ full-short _ _ (omega arith) }
+    go false z e =
+        let w : c .len < 260 = ltb-true _ _ (and-left _ _ e) in
+        record { within = w; lacks = complete-within c l (omega arith) ∙ not-true _ (and-right _ _ (and-right _ _ e)) }
+
+-- When a byte completes a frame, by count and LEN byte.
+completes-early : (n x : ℕ) → n < 2 → completesAt n x ≡ false
+unfolding completesAt _and_
+completes-early n x h = simp (lt-leb 2 n h)
+
+none-complete : complete [] ≡ false
+unfolding complete full _and_
+none-complete = refl
+
+one-complete : (b : ℕ) → complete (b ∷ []) ≡ false
+unfolding complete full _and_
+one-complete b = refl
+
+two-complete : (y b : ℕ) → complete (y ∷ b ∷ []) ≡ false
+unfolding complete
+two-complete y b = full-not 2 b (omega arith)
+
+first-complete : (h : Header) (b : ℕ) → complete (hear h [] b) ≡ false
+unfolding hear if_then_else_
+first-complete h b = go (eqb b (headerByte h))
+  where
+    go : (t : Bool) → complete (if t then b ∷ [] else []) ≡ false
+    go true = one-complete b
+    go false = none-complete
+
+more-complete : (hs : List ℕ) (b n x : ℕ) → length hs ≡ n → 2 ≤ n → getD hs 1 0 ≡ x → complete (hs ++ b ∷ []) ≡ completesAt n x
+unfolding complete completesAt _and_
+more-complete hs b n x e h g =
+    let l : length (hs ++ b ∷ []) ≡ n + 1 = rw (length-append, e) in
+    let d : getD (hs ++ b ∷ []) 1 0 ≡ x = List·getD-append hs (b ∷ []) 0 1 (omega arith) ∙ g in
+    rw (l, d) (go (decLe (counted x + 3) n))
+  where
+    go : Dec (counted x + 3 ≤ n) → full (n + 1) x ≡ (leb 2 n and leb (counted x + 3) n)
+    go (yes k) = full-yes (n + 1) x (omega arith) (omega arith) ∙ sym (and-both (le-leb 2 n h) (le-leb (counted x + 3) n k))
+    go (no k) = full-not (n + 1) x (omega arith) ∙ sym (simp (le-leb 2 n h, lt-leb (counted x + 3) n (omega arith)))
+
+heard-second : (c : Collector) → 1 < c .len → getD (heard c) 1 0 ≡ getD (c .bytes) 1 0
+unfolding heard
+heard-second c k = getD-take (c .len) (c .bytes) 1 0 k
+
+pub completes-is : (c : Collector) (h : Header) (b : ℕ) → length (c .bytes) ≡ 260 → Begun c
+    → complete (hear h (heard c) b) ≡ completesAt (c .len) (getD (c .bytes) 1 0)
+completes-is c h b l g = go (heard c) (length-heard c (omega (arith, g .within))) (λ k. second k)
+  where
+    second : 1 < c .len → getD (heard c) 1 0 ≡ getD (c .bytes) 1 0
+    second k = heard-second c k
+
+    go : (hs : List ℕ) → length hs ≡ c .len → (1 < c .len → getD hs 1 0 ≡ getD (c .bytes) 1 0) → complete (hear h hs b) ≡ completesAt (c .len) (getD (c .bytes) 1 0)
+    go [] n s = first-complete h b ∙ sym (completes-early (c .len) (getD (c .bytes) 1 0) (omega arith))
+    go (y ∷ []) n s = rw (hear-more h (y ∷ []) b (omega arith)) (two-complete y b) ∙ sym (completes-early (c .len) (getD (c .bytes) 1 0) (omega arith))
+    go (y ∷ z ∷ zs) n s = rw (hear-more h (y ∷ z ∷ zs) b (omega arith)) (more-complete (y ∷ z ∷ zs) b (c .len) (getD (c .bytes) 1 0) n (omega arith) (s (omega arith)))
+
+heard-take : (d : Collector) → take (d .len) (d .bytes) ≡ heard d
+unfolding heard
+heard-take d = refl
+
+-- What a further byte leaves heard, where nothing is complete yet.
+pub byte-holds : (c d : Collector) (h : Header) (b : ℕ) → Begun c → d ≡ byteOf c h b → d ≡ holding c (hear h (heard c) b)
+unfolding byteOf if_then_else_
+byte-holds c d h b g e = e ∙ simp (g .lacks)
+
+-- The frame that the byte completed, lent as the part from 0 to the count.
+pub frame-is : (c d : Collector) (h : Header) (b : ℕ) → Begun c → d ≡ byteOf c h b → take (d .len - 0) (d .bytes) ≡ hear h (heard c) b
+frame-is c d h b g e =
+    let z : d .len - 0 ≡ d .len = omega arith in
+    ap (λ (n : ℕ). take n (d .bytes)) z ∙ heard-take d ∙ ap heard e ∙ heard-byte c h b (g .lacks)
+
+-- A silent step: only what is heard, and perhaps the record, is new.
+pub quiet-settles : (p : Part) (c d : Collector) (k new : Core) (hs : List ℕ) (m : Flash) (room : List ℕ) → d ≡ holding c hs → 32 ≤ length room
+    → record { answer = Replied 0 0; chip = record { core = new; collector = d }; memory = m; room = room }
+    ≡ settled Accepted p (reaction hs (silent new m)) (record { core = k; collector = c }) m room
+unfolding settled payloads
+quiet-settles p c d k new hs m room e h = rw (e, ← send-none room h)
+
+-- A step whose frame was complete: the reply is sent, and the collector emptied.
+pub frame-settles : (p : Part) (d : Done) (c e : Collector) (k : Core) (s : Sent) (x : Effect) (m n : Flash) (room r : List ℕ)
+    → effect d n ≡ x → said s r ≡ sendOf (payloads p (d .core .options) (d .reply)) room → e ≡ dropped c
+    → record { answer = replied s; chip = record { core = d .core; collector = e }; memory = n; room = r }
+    ≡ settled Accepted p (reaction [] x) (record { core = k; collector = c }) m room
+unfolding settled dropped
+frame-settles p d c e k s x m n room r f q g =
+    ap (λ (z : Said). record { answer = replied (z .sent); chip = record { core = d .core; collector = e }; memory = n; room = z .room }) q
+    ∙ ap (λ (z : Collector). record { answer = replied (sendOf (payloads p (d .core .options) (d .reply)) room .sent); chip = record { core = d .core; collector = z }; memory = n; room = sendOf (payloads p (d .core .options) (d .reply)) room .room }) g
+    ∙ ap (λ (y : Effect). settled Accepted p (reaction [] y) (record { core = k; collector = c }) m room) f
+
+-- What a good state gives of the phase it is in.
+pub state-collected : (p : Part) (k : Core) (count head len : ℕ) (f : Phase) → goodState p k count head len ≡ true → k .phase ≡ f → goodCollected f count head len ≡ true
+unfolding goodState
+state-collected p k count head len f t e = ap (λ (g : Phase). goodCollected g count head len) (sym e) ∙ and-left _ _ t
+
+-- One byte more is heard at most.
+hear-long : (h : Header) (hs : List ℕ) (b : ℕ) → length (hear h hs b) ≤ length hs + 1
+unfolding hear if_then_else_
+hear-long h [] b = go (eqb b (headerByte h))
+  where
+    go : (t : Bool) → length (if t then b ∷ [] else []) ≤ 1
+    go true = omega arith
+    go false = omega arith
+hear-long h (x ∷ xs) b = rw length-append (omega arith)
+
+holding-len : (c : Collector) (hs : List ℕ) → holding c hs .len ≡ length hs
+unfolding holding
+holding-len c hs = refl
+
+pub next-within : (c d : Collector) (h : Header) (b : ℕ) → length (c .bytes) ≡ 260 → Begun c → d ≡ byteOf c h b → d .len ≤ 260
+next-within c d h b l g e =
+    let n : d .len ≡ length (hear h (heard c) b) = ap (λ (x : Collector). x .len) (byte-holds c d h b g e) ∙ holding-len c (hear h (heard c) b) in
+    omega (arith, hear-long h (heard c) b, length-heard c (omega (arith, g .within)), g .within)
+
+heard-done : (hs f : List ℕ) (x : List ℕ → Effect) (k : Core) (m : Flash) → f ≡ hs → complete hs ≡ true → reaction [] (x f) ≡ heardByte hs (x hs) k m
+unfolding heardByte if_then_else_
+heard-done hs f x k m e t = rw t (ap (λ (g : List ℕ). reaction [] (x g)) e)
+
+heard-on : (hs : List ℕ) (x : Effect) (k : Core) (m : Flash) → complete hs ≡ false → reaction hs (silent k m) ≡ heardByte hs x k m
+unfolding heardByte if_then_else_
+heard-on hs x k m t = rw t
+
+-- A byte that completes a frame, and one that does not. x is what a complete frame does.
+byte-done : (p : Part) (d : Done) (c next e : Collector) (k : Core) (h : Header) (b : ℕ) (s : Sent) (x : List ℕ → Effect) (m n : Flash) (room r : List ℕ)
+    → length (c .bytes) ≡ 260 → Begun c → next ≡ byteOf c h b → completesAt (c .len) (getD (c .bytes) 1 0) ≡ true
+    → effect d n ≡ x (take (next .len - 0) (next .bytes)) → said s r ≡ sendOf (payloads p (d .core .options) (d .reply)) room → e ≡ dropped c
+    → record { answer = replied s; chip = record { core = d .core; collector = e }; memory = n; room = r }
+    ≡ settled Accepted p (heardByte (hear h (heard c) b) (x (hear h (heard c) b)) k m) (record { core = k; collector = c }) m room
+byte-done p d c next e k h b s x m n room r l g q t f u v =
+    frame-settles p d c e k s (x (take (next .len - 0) (next .bytes))) m n room r f u v
+    ∙ ap (λ (y : Reaction). settled Accepted p y (record { core = k; collector = c }) m room)
+    (heard-done (hear h (heard c) b) (take (next .len - 0) (next .bytes)) x k m (frame-is c next h b g q) (completes-is c h b l g ∙ t))
+
+byte-on : (p : Part) (c next : Collector) (k : Core) (h : Header) (b : ℕ) (x : Effect) (m : Flash) (room : List ℕ)
+    → length (c .bytes) ≡ 260 → Begun c → next ≡ byteOf c h b → completesAt (c .len) (getD (c .bytes) 1 0) ≡ false → 32 ≤ length room
+    → record { answer = Replied 0 0; chip = record { core = k; collector = next }; memory = m; room = room }
+    ≡ settled Accepted p (heardByte (hear h (heard c) b) x k m) (record { core = k; collector = c }) m room
+byte-on p c next k h b x m room l g e t q =
+    quiet-settles p c next k k (hear h (heard c) b) m room (byte-holds c next h b g e) q
+    ∙ ap (λ (y : Reaction). settled Accepted p y (record { core = k; collector = c }) m room) (heard-on (hear h (heard c) b) x k m (completes-is c h b l g ∙ t))
+
+-- What is begun in a phase in which frames with the header h are awaited.
+begun-in : (p : Part) (c : Collector) (k : Core) (f : Phase) (h : Header) (room : ℕ) → length (c .bytes) ≡ 260
+    → Accepts p k (c .len) (getD (c .bytes) 0 0) (getD (c .bytes) 1 0) room → k .phase ≡ f
+    → goodCollected f (c .len) (getD (c .bytes) 0 0) (getD (c .bytes) 1 0) ≡ goodBegun h (c .len) (getD (c .bytes) 0 0) (getD (c .bytes) 1 0) → Begun c
+begun-in p c k f h room l a e g =
+    begun h c l (sym g ∙ state-collected p k (c .len) (getD (c .bytes) 0 0) (getD (c .bytes) 1 0) f (a .state) e)
+
+-- What the way of a byte says.
+hears-is : (h g : Header) (n x : ℕ) → wayOn h n x ≡ Hears g → (completesAt n x ≡ false) × (h ≡ g)
+unfolding wayOn if_then_else_
+hears-is h g n x e = go (completesAt n x) refl e
+  where
+    go : (t : Bool) → completesAt n x ≡ t → (if t then Completes h else Hears h) ≡ Hears g → (completesAt n x ≡ false) × (h ≡ g)
+    go true u e = absurd (let z : _≡_ {A = ℕ} 0 1 = cc in omega arith)
+    go false u e = (u, cc)
+
+completes-way : (h g : Header) (n x : ℕ) → wayOn h n x ≡ Completes g → (completesAt n x ≡ true) × (h ≡ g)
+unfolding wayOn if_then_else_
+completes-way h g n x e = go (completesAt n x) refl e
+  where
+    go : (t : Bool) → completesAt n x ≡ t → (if t then Completes h else Hears h) ≡ Completes g → (completesAt n x ≡ true) × (h ≡ g)
+    go true u e = (u, cc)
+    go false u e = absurd (let z : _≡_ {A = ℕ} 0 1 = cc in omega arith)
+
+no-mode : (h : Header) (n x : ℕ) → wayOn h n x ≡ Mode → ⊥
+unfolding wayOn if_then_else_
+no-mode h n x e = go (completesAt n x) e
+  where
+    go : (t : Bool) → (if t then Completes h else Hears h) ≡ Mode → ⊥
+    go true e = let z : _≡_ {A = ℕ} 0 1 = cc in omega arith
+    go false e = let z : _≡_ {A = ℕ} 0 1 = cc in omega arith
+
+mode-way : (f : Phase) (n x : ℕ) → wayOf f n x ≡ Mode → f ≡ ModeByte
+unfolding wayOf
+mode-way ModeByte n x e = refl
+mode-way Setup n x e = absurd (no-mode Command n x e)
+mode-way Ready n x e = absurd (no-mode Command n x e)
+mode-way (Awaiting w) n x e = absurd (no-mode Data n x e)
+
+none-begun : (p : Part) (k : Core) (count head len : ℕ) → goodState p k count head len ≡ true → k .phase ≡ ModeByte → count ≡ 0
+unfolding goodCollected
+none-begun p k count head len t e = eqb-true count 0 (state-collected p k count head len ModeByte t e)
+
+-- The three ways of a byte, each settled as the phase says.
+pub mode-settles : (p : Part) (c : Collector) (k new : Core) (b : ℕ) (m : Flash) (room : List ℕ)
+    → Accepts p k (c .len) (getD (c .bytes) 0 0) (getD (c .bytes) 1 0) (length room) → wayOf (k .phase) (c .len) (getD (c .bytes) 1 0) ≡ Mode → new ≡ modeByte k b
+    → record { answer = Replied 0 0; chip = record { core = new; collector = c }; memory = m; room = room }
+    ≡ settled Accepted p (byteIn (k .phase) p k (heard c) b m) (record { core = k; collector = c }) m room
+unfolding byteIn
+mode-settles p c k new b m room a w n =
+    let e : k .phase ≡ ModeByte = mode-way (k .phase) (c .len) (getD (c .bytes) 1 0) w in
+    let z : c .len ≡ 0 = none-begun p k (c .len) (getD (c .bytes) 0 0) (getD (c .bytes) 1 0) (a .state) e in
+    ap (λ (q : Core). record { answer = Replied 0 0; chip = record { core = q; collector = c }; memory = m; room = room }) n
+    ∙ quiet-settles p c c k (modeByte k b) (heard c) m room (sym (holding-heard c (omega arith))) (a .roomy)
+    ∙ ap (λ (f : Phase). settled Accepted p (byteIn f p k (heard c) b m) (record { core = k; collector = c }) m room) (sym e)
+
+pub hears-settles : (p : Part) (c next : Collector) (k : Core) (g : Header) (b : ℕ) (m : Flash) (room : List ℕ) → length (c .bytes) ≡ 260
+    → Accepts p k (c .len) (getD (c .bytes) 0 0) (getD (c .bytes) 1 0) (length room) → wayOf (k .phase) (c .len) (getD (c .bytes) 1 0) ≡ Hears g → next ≡ byteOf c g b
+    → record { answer = Replied 0 0; chip = record { core = k; collector = next }; memory = m; room = room }
+    ≡ settled Accepted p (byteIn (k .phase) p k (heard c) b m) (record { core = k; collector = c }) m room
+unfolding wayOf byteIn goodCollected
+hears-settles p c next k g b m room l a w nx = go (k .phase) refl w
+  where
+    on : (f : Phase) (h : Header) (x : Effect) → Begun c → wayOn h (c .len) (getD (c .bytes) 1 0) ≡ Hears g
+        → record { answer = Replied 0 0; chip = record { core = k; collector = next }; memory = m; room = room }
+        ≡ settled Accepted p (heardByte (hear h (heard c) b) x k m) (record { core = k; collector = c }) m room
+    on f h x u v =
+        let q = hears-is h g (c .len) (getD (c .bytes) 1 0) v in
+        byte-on p c next k h b x m room l u (nx ∙ ap (λ (i : Header). byteOf c i b) (sym (q .1))) (q .0) (a .roomy)
+
+    go : (f : Phase) → k .phase ≡ f → wayOf f (c .len) (getD (c .bytes) 1 0) ≡ Hears g
+        → record { answer = Replied 0 0; chip = record { core = k; collector = next }; memory = m; room = room }
+        ≡ settled Accepted p (byteIn f p k (heard c) b m) (record { core = k; collector = c }) m room
+    go ModeByte e v = absurd (let z : _≡_ {A = ℕ} 0 1 = cc in omega arith)
+    go Setup e v = on Setup Command (frameDoes Setup p k (hear Command (heard c) b) m) (begun-in p c k Setup Command (length room) l a e refl) v
+    go Ready e v = on Ready Command (frameDoes Ready p k (hear Command (heard c) b) m) (begun-in p c k Ready Command (length room) l a e refl) v
+    go (Awaiting w) e v = on (Awaiting w) Data (frameDoes (Awaiting w) p k (hear Data (heard c) b) m) (begun-in p c k (Awaiting w) Data (length room) l a e refl) v
+
+pub completes-settles : (p : Part) (d : Done) (c next e : Collector) (k : Core) (g : Header) (b : ℕ) (s : Sent) (m n : Flash) (room r : List ℕ) → length (c .bytes) ≡ 260
+    → Accepts p k (c .len) (getD (c .bytes) 0 0) (getD (c .bytes) 1 0) (length room) → wayOf (k .phase) (c .len) (getD (c .bytes) 1 0) ≡ Completes g → next ≡ byteOf c g b
+    → effect d n ≡ frameDoes (k .phase) p k (take (next .len - 0) (next .bytes)) m → said s r ≡ sendOf (payloads p (d .core .options) (d .reply)) room → e ≡ dropped c
+    → record { answer = replied s; chip = record { core = d .core; collector = e }; memory = n; room = r }
+    ≡ settled Accepted p (byteIn (k .phase) p k (heard c) b m) (record { core = k; collector = c }) m room
+unfolding wayOf byteIn goodCollected
+completes-settles p d c next e k g b s m n room r l a w nx x u v = go (k .phase) refl w x
+  where
+    done : (f : Phase) (h : Header) → Begun c → wayOn h (c .len) (getD (c .bytes) 1 0) ≡ Completes g → effect d n ≡ frameDoes f p k (take (next .len - 0) (next .bytes)) m
+        → record { answer = replied s; chip = record { core = d .core; collector = e }; memory = n; room = r }
+        ≡ settled Accepted p (heardByte (hear h (heard c) b) (frameDoes f p k (hear h (heard c) b) m) k m) (record { core = k; collector = c }) m room
+    done f h i j o =
+        let q = completes-way h g (c .len) (getD (c .bytes) 1 0) j in
+        byte-done p d c next e k h b s (λ (y : List ℕ). frameDoes f p k y m) m n room r l i (nx ∙ ap (λ (z : Header). byteOf c z b) (sym (q .1))) (q .0) o u v
+
+    go : (f : Phase) → k .phase ≡ f → wayOf f (c .len) (getD (c .bytes) 1 0) ≡ Completes g → effect d n ≡ frameDoes f p k (take (next .len - 0) (next .bytes)) m
+        → record { answer = replied s; chip = record { core = d .core; collector = e }; memory = n; room = r }
+        ≡ settled Accepted p (byteIn f p k (heard c) b m) (record { core = k; collector = c }) m room
+    go ModeByte e j o = absurd (let z : _≡_ {A = ℕ} 0 1 = cc in omega arith)
+    go Setup e j o = done Setup Command (begun-in p c k Setup Command (length room) l a e refl) j o
+    go Ready e j o = done Ready Command (begun-in p c k Ready Command (length room) l a e refl) j o
+    go (Awaiting w) e j o = done (Awaiting w) Data (begun-in p c k (Awaiting w) Data (length room) l a e refl) j o
+
+-- One byte more is collected than before, at most.
+pub next-in-array : (p : Part) (c next : Collector) (k : Core) (g : Header) (b : ℕ) (room : ℕ) → length (c .bytes) ≡ 260
+    → Accepts p k (c .len) (getD (c .bytes) 0 0) (getD (c .bytes) 1 0) room → wayOf (k .phase) (c .len) (getD (c .bytes) 1 0) ≡ Completes g → next ≡ byteOf c g b
+    → next .len ≤ 260
+unfolding wayOf goodCollected
+next-in-array p c next k g b room l a w nx = go (k .phase) refl w
+  where
+    go : (f : Phase) → k .phase ≡ f → wayOf f (c .len) (getD (c .bytes) 1 0) ≡ Completes g → next .len ≤ 260
+    go ModeByte e j = absurd (let z : _≡_ {A = ℕ} 0 1 = cc in omega arith)
+    go Setup e j = next-within c next g b l (begun-in p c k Setup Command room l a e refl) nx
+    go Ready e j = next-within c next g b l (begun-in p c k Ready Command room l a e refl) nx
+    go (Awaiting w) e j = next-within c next g b l (begun-in p c k (Awaiting w) Data room l a e refl) nx
+
+-- A gap or power-on: nothing is heard any more, and nothing is said.
+pub emptied : (p : Part) (c e : Collector) (k new : Core) (m : Flash) (room : List ℕ) → e ≡ dropped c → 32 ≤ length room
+    → record { answer = Replied 0 0; chip = record { core = new; collector = e }; memory = m; room = room }
+    ≡ settled Accepted p (reaction [] (silent new m)) (record { core = k; collector = c }) m room
+unfolding dropped
+emptied p c e k new m room f h = quiet-settles p c e k new [] m room f h
+
+-- A step is its verdict and, accepted, its event's reaction.
+pub step-accepted : (o : Outcome) (x : Reaction) (p : Part) (c : Chip) (v w : Event) (m : Flash) (room : List ℕ)
+    → verdictOf p (c .core) (c .collector .len) (getD (c .collector .bytes) 0 0) (getD (c .collector .bytes) 1 0) (length (m .codeFlash)) (length (m .dataFlash)) (length room) ≡ Accepted
+    → v ≡ w → x ≡ reactTo w p (c .core) (heard (c .collector)) m → o ≡ settled Accepted p x c m room → o ≡ stepOf p c v m room
+unfolding stepOf
+step-accepted o x p c v w m room a e f g =
+    rw a (g ∙ ap (λ (y : Reaction). settled Accepted p y c m room) (f ∙ ap (λ (q : Event). reactTo q p (c .core) (heard (c .collector)) m) (sym e)))
+
+pub step-barred : (p : Part) (c : Chip) (v : Event) (m : Flash) (room : List ℕ) (r : Refusal)
+    → verdictOf p (c .core) (c .collector .len) (getD (c .collector .bytes) 0 0) (getD (c .collector .bytes) 1 0) (length (m .codeFlash)) (length (m .dataFlash)) (length room) ≡ Barred r
+    → outcome (record { answer = Refused r; chip = c }) m room ≡ stepOf p c v m room
+unfolding stepOf settled
+step-barred p c v m room r a = rw a
+
+pub at-byte : (p : Part) (k : Core) (hs : List ℕ) (b : ℕ) (m : Flash) → byteIn (k .phase) p k hs b m ≡ reactTo (Byte b) p k hs m
+unfolding reactTo
+at-byte p k hs b m = refl
+
+pub at-gap : (p : Part) (k : Core) (hs : List ℕ) (m : Flash) → reaction [] (silent k m) ≡ reactTo Gap p k hs m
+unfolding reactTo
+at-gap p k hs m = refl
+
+pub at-power-on : (p : Part) (k new : Core) (hs : List ℕ) (m : Flash) → new ≡ poweredOn k → reaction [] (silent new m) ≡ reactTo PowerOn p k hs m
+unfolding reactTo
+at-power-on p k new hs m e = ap (λ (q : Core). reaction [] (silent q m)) e

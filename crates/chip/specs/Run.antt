@@ -1,0 +1,34 @@
+-- Runs: the fold of the step's definition over events. Noise, recordings and the whole cable all stand on it.
+use mathlib.Core.List.{List, [], _∷_}
+use Prim.Native.Nat.{ℕ}
+use Rattle.chip.specs.Step.{Outcome, stepOf}
+use Rattle.chip.specs.declared.Answer.{Answer}
+use Rattle.chip.specs.declared.Answer.the-variants.{Replied}
+use Rattle.chip.specs.declared.Chip.{Chip}
+use Rattle.chip.specs.declared.Event.{Event}
+use Rattle.effect.specs.Effect.{Flash}
+use Rattle.part.specs.declared.Part.{Part}
+
+-- One more event, on what the last one left.
+abbrev pub onward : Part → Outcome → Event → Outcome
+onward p o v = stepOf p (o .chip) v (o .memory) (o .room)
+
+unfoldable pub run : Part → List Event → Outcome → Outcome
+run p [] o = o
+run p (v ∷ vs) o = run p vs (onward p o v)
+
+-- Before any event nothing has been said.
+abbrev pub before : Chip → Flash → List ℕ → Outcome
+before c m room = record { answer = Replied 0 0; chip = c; memory = m; room = room }
+
+-- The answer to each event, with the room after it.
+pub record Spoken : Type 0 where
+  pub answer : Answer
+  pub room : List ℕ
+
+abbrev pub spokenIn : Outcome → Spoken
+spokenIn o = record { answer = o .answer; room = o .room }
+
+unfoldable pub answers : Part → List Event → Outcome → List Spoken
+answers p [] o = []
+answers p (v ∷ vs) o = spokenIn (onward p o v) ∷ answers p vs (onward p o v)

@@ -1,0 +1,441 @@
+// One step of the chip: refusals first, then what is heard, then the work of a complete frame, then the reply in the room.
+// Document 01, "Frames" ("Collecting"), "Phases" and "Refusal numbers".
+ghost use mathlib.Core.Path.{_≡_};
+ghost use Prim.Native.Nat.{_≤_, _<_, _^_, _+_, _%_};
+ghost use lib.Dec.{eqb};
+ghost use Rattle.words.specs.Words.{_or_};
+ghost use Rattle.effect.specs.Effect.{flash, effect};
+ghost use mathlib.Core.List.{map};
+ghost use Rattle.chip.specs.declared.Event.the-variants.{Byte};
+ghost use Rattle.chip.specs.Run.{run, before};
+ghost use Rattle.chip.specs.inner.Ways.{completesAt, wayOn, wayOf};
+ghost use Rattle.chip.specs.Step.{sameArea, goodPlaces, goodAwaited, goodPhase, goodBegun, goodCollected, goodCore, goodState, verdictOf, modeByte, poweredOn, frameDoes, outcome, stepOf, freshOf};
+use super::Answer;
+use super::Chip;
+use super::Event;
+use super::Step;
+use effect::Awaited;
+use effect::Core;
+use effect::Done;
+use effect::Phase;
+use effect::commands;
+use effect::pages;
+use frame::Header;
+use frame::collector::Collector;
+use options::Options;
+use part::Area;
+use part::Part;
+use part::Place;
+use part::refusal::Refusal;
+use part::refusal::Verdict;
+
+fn same_area(a: Area, b: Area) -> bool
+    ensures { λ r. ⌜ r ≡ sameArea a b ⌝ }
+{
+    match a {
+        Area::CodeFlash => match b {
+            Area::CodeFlash => true,
+            Area::DataFlash => false,
+        },
+        Area::DataFlash => match b {
+            Area::CodeFlash => false,
+            Area::DataFlash => true,
+        },
+    }
+}
+
+fn is_block_end(offset: usize, size: usize) -> bool
+    requires { ⌜ 0 < size ⌝ }
+    ensures { λ r. ⌜ r ≡ eqb ((offset + 1) % size) 0 ⌝ }
+{
+    offset % size == size - 1
+}
+
+fn has_pages(command: u8) -> bool
+    ensures { λ r. ⌜ r ≡ (eqb command 0x40 or eqb command 0x13) ⌝ }
+{
+    if command == 0x40 {
+        return true;
+    }
+    command == 0x13
+}
+
+// The places of the next and the last address of phase 4.
+fn are_good_places(part: Part, next: Place, last: Place) -> bool
+    ensures { λ r. ⌜ r ≡ goodPlaces part next last ⌝ }
+{
+    match next {
+        Place::In {
+            area: a,
+            offset: x,
+            block: i,
+            page: g,
+        } => match last {
+            Place::In {
+                area: b,
+                offset: y,
+                block: j,
+                page: h,
+            } => {
+                if same_area(a, b) {
+                    if x % part::page_size() == 0 {
+                        return is_block_end(y, part.block_size(b));
+                    }
+                    return false;
+                }
+                false
+            }
+            Place::Outside => false,
+        },
+        Place::Outside => match last {
+            Place::In {
+                area: b,
+                offset: y,
+                block: j,
+                page: h,
+            } => false,
+            Place::Outside => false,
+        },
+    }
+}
+
+fn is_good_awaited(part: Part, w: Awaited) -> bool
+    ensures { λ r. ⌜ r ≡ goodAwaited part w ⌝ }
+{
+    let command = w.command;
+    if command == 0xA0 {
+        return true;
+    }
+    if has_pages(command) {
+        if w.next <= w.last {
+            return are_good_places(part, part.place(w.next), part.place(w.last));
+        }
+        return false;
+    }
+    false
+}
+
+fn is_good_phase(part: Part, phase: Phase) -> bool
+    ensures { λ r. ⌜ r ≡ goodPhase part phase ⌝ }
+{
+    match phase {
+        Phase::ModeByte => true,
+        Phase::Setup => true,
+        Phase::Ready => true,
+        Phase::Awaiting(w) => is_good_awaited(part, w),
+    }
+}
+
+// What is collected, by its count, its first byte and its LEN byte.
+fn is_good_begun(header: Header, count: usize, head: u8, len: u8) -> bool
+    ensures { λ r. ⌜ r ≡ goodBegun header count head len ⌝ }
+{
+    if count == 0 {
+        return true;
+    }
+    if count < 260 {
+        if head == header.byte() {
+            if frame::is_full(count, len) {
+                return false;
+            }
+            return true;
+        }
+        return false;
+    }
+    false
+}
+
+fn is_good_collected(phase: Phase, count: usize, head: u8, len: u8) -> bool
+    ensures { λ r. ⌜ r ≡ goodCollected phase count head len ⌝ }
+{
+    match phase {
+        Phase::ModeByte => count == 0,
+        Phase::Setup => is_good_begun(Header::Command, count, head, len),
+        Phase::Ready => is_good_begun(Header::Command, count, head, len),
+        Phase::Awaiting(w) => is_good_begun(Header::Data, count, head, len),
+    }
+}
+
+fn is_good_core(part: Part, core: Core) -> bool
+    ensures { λ r. ⌜ r ≡ goodCore part core ⌝ }
+{
+    if core.rate <= 0x03 {
+        let options = core.options;
+        if options.is_good(part) {
+            let phase = core.phase;
+            return is_good_phase(part, phase);
+        }
+        return false;
+    }
+    false
+}
+
+fn is_good_state(part: Part, core: Core, count: usize, head: u8, len: u8) -> bool
+    ensures { λ r. ⌜ r ≡ goodState part core count head len ⌝ }
+{
+    let phase = core.phase;
+    if is_good_collected(phase, count, head, len) {
+        return is_good_core(part, core);
+    }
+    false
+}
+
+fn verdict(
+    part: Part,
+    core: Core,
+    count: usize,
+    head: u8,
+    len: u8,
+    code: usize,
+    extra: usize,
+    room: usize,
+) -> Verdict
+    ensures { λ r. ⌜ r ≡ verdictOf part core count head len code extra room ⌝ }
+{
+    if part.is_described() {
+        if code == part.size(Area::CodeFlash) {
+            if extra == part.size(Area::DataFlash) {
+                if is_good_state(part, core, count, head, len) {
+                    if room < 32 {
+                        return Verdict::Barred(Refusal::ShortRoom);
+                    }
+                    return Verdict::Accepted;
+                }
+                return Verdict::Barred(Refusal::BadState);
+            }
+            return Verdict::Barred(Refusal::DataLength);
+        }
+        return Verdict::Barred(Refusal::CodeLength);
+    }
+    Verdict::Barred(Refusal::BadPart)
+}
+
+fn mode_byte(core: Core, b: u8) -> Core
+    ensures { λ r. ⌜ r ≡ modeByte core b ⌝ }
+{
+    if b == 0x3A {
+        return core.entered(Phase::Setup);
+    }
+    if b == 0x00 {
+        return core.entered(Phase::Setup);
+    }
+    core
+}
+
+// Whether the byte after so many completes the frame.
+fn completes(count: usize, len: u8) -> bool
+    ensures { λ r. ⌜ r ≡ completesAt count len ⌝ }
+{
+    if count < 2 {
+        return false;
+    }
+    frame::counted(len) + 3 <= count
+}
+
+// What a byte means in a state that is accepted: a mode byte, a byte that is heard, or one that completes a frame.
+enum Way {
+    Mode,
+    Hears(Header),
+    Completes(Header),
+}
+
+fn way_on(header: Header, count: usize, len: u8) -> Way
+    ensures { λ r. ⌜ r ≡ wayOn header count len ⌝ }
+{
+    if completes(count, len) {
+        return Way::Completes(header);
+    }
+    Way::Hears(header)
+}
+
+fn way_in(phase: Phase, count: usize, len: u8) -> Way
+    ensures { λ r. ⌜ r ≡ wayOf phase count len ⌝ }
+{
+    match phase {
+        Phase::ModeByte => Way::Mode,
+        Phase::Setup => way_on(Header::Command, count, len),
+        Phase::Ready => way_on(Header::Command, count, len),
+        Phase::Awaiting(w) => way_on(Header::Data, count, len),
+    }
+}
+
+// A complete frame, in the phase that it came in.
+fn frame_does(part: Part, core: Core, bytes: &[u8], code: &mut [u8], data: &mut [u8]) -> Done
+    ensures { λ r. ⌜ effect r (flash (now (code .exit)) (now («data» .exit))) ≡ frameDoes (core .phase) part core (now (bytes .entry)) (flash (now (code .entry)) (now («data» .entry))) ⌝ }
+{
+    let phase = core.phase;
+    match phase {
+        Phase::ModeByte => commands::command(part, core, bytes, code, data),
+        Phase::Setup => commands::command(part, core, bytes, code, data),
+        Phase::Ready => commands::command(part, core, bytes, code, data),
+        Phase::Awaiting(w) => pages::page(part, core, w, bytes, code, data),
+    }
+}
+
+fn restarted(core: Core) -> Core
+    ensures { λ r. ⌜ r ≡ poweredOn core ⌝ }
+{
+    let options = core.options;
+    Core {
+        options,
+        rate: 0x00,
+        phase: Phase::ModeByte,
+    }
+}
+
+// One event, with both areas of flash and the reply room lent. Refused, it changes nothing. A byte that completes no frame has a short way.
+pub fn step(
+    part: Part,
+    chip: Chip,
+    event: Event,
+    code: &mut [u8],
+    data: &mut [u8],
+    room: &mut [u8],
+) -> Step
+    ensures { λ r. ⌜ outcome r (flash (now (code .exit)) (now («data» .exit))) (now (room .exit)) ≡ stepOf part chip event (flash (now (code .entry)) (now («data» .entry))) (now (room .entry)) ⌝ }
+{
+    let core = chip.core;
+    let collector = chip.collector;
+    let count = collector.len;
+    let len = collector.bytes[1];
+    let v = verdict(
+        part,
+        core,
+        count,
+        collector.bytes[0],
+        len,
+        code.len(),
+        data.len(),
+        room.len(),
+    );
+    match v {
+        Verdict::Barred(refusal) => Step {
+            answer: Answer::Refused(refusal),
+            chip,
+        },
+        Verdict::Accepted => match event {
+            Event::Gap => Step {
+                answer: Answer::Replied {
+                    bytes: 0,
+                    frames: 0,
+                },
+                chip: Chip {
+                    core,
+                    collector: collector.gap(),
+                },
+            },
+            Event::PowerOn => Step {
+                answer: Answer::Replied {
+                    bytes: 0,
+                    frames: 0,
+                },
+                chip: Chip {
+                    core: restarted(core),
+                    collector: collector.power_on(),
+                },
+            },
+            Event::Byte(b) => {
+                let phase = core.phase;
+                let w = way_in(phase, count, len);
+                match w {
+                    Way::Mode => Step {
+                        answer: Answer::Replied {
+                            bytes: 0,
+                            frames: 0,
+                        },
+                        chip: Chip {
+                            core: mode_byte(core, b),
+                            collector,
+                        },
+                    },
+                    Way::Hears(header) => Step {
+                        answer: Answer::Replied {
+                            bytes: 0,
+                            frames: 0,
+                        },
+                        chip: Chip {
+                            core,
+                            collector: collector.byte(header, b),
+                        },
+                    },
+                    Way::Completes(header) => {
+                        let next = collector.byte(header, b);
+                        let bytes = next.bytes;
+                        let n = next.len;
+                        let done = frame_does(part, core, &bytes[0..n], code, data);
+                        let after = done.core;
+                        let options = after.options;
+                        let reply = done.reply;
+                        let sent = reply::send(part, options, reply, room);
+                        Step {
+                            answer: Answer::Replied {
+                                bytes: sent.bytes,
+                                frames: sent.frames,
+                            },
+                            chip: Chip {
+                                core: after,
+                                collector: collector.gap(),
+                            },
+                        }
+                    }
+                }
+            }
+        },
+    }
+}
+
+// A fresh chip of the part: at the mode byte, with fresh options and nothing collected.
+pub fn fresh(part: Part) -> Step
+    ensures { λ r. ⌜ r ≡ freshOf part ⌝ }
+{
+    let options = Options::fresh(part);
+    let chip = Chip {
+        core: Core {
+            options,
+            rate: 0x00,
+            phase: Phase::ModeByte,
+        },
+        collector: Collector::new(),
+    };
+    if part.is_described() {
+        return Step {
+            answer: Answer::Replied {
+                bytes: 0,
+                frames: 0,
+            },
+            chip,
+        };
+    }
+    Step {
+        answer: Answer::Refused(Refusal::BadPart),
+        chip,
+    }
+}
+
+// Bytes one after the other, each a step; the answer is that to the last.
+pub fn feed(
+    part: Part,
+    chip: Chip,
+    bytes: &[u8],
+    code: &mut [u8],
+    data: &mut [u8],
+    room: &mut [u8],
+) -> Step
+    ensures { λ r. ⌜ outcome r (flash (now (code .exit)) (now («data» .exit))) (now (room .exit)) ≡ run part (map Byte (now (bytes .entry))) (before chip (flash (now (code .entry)) (now («data» .entry))) (now (room .entry))) ⌝ }
+{
+    let mut last = Step {
+        answer: Answer::Replied {
+            bytes: 0,
+            frames: 0,
+        },
+        chip,
+    };
+    let mut i = 0;
+    while i < bytes.len() {
+        let b = bytes[i];
+        i = i + 1;
+        let next = last.chip;
+        last = step(part, next, Event::Byte(b), code, data, room);
+    }
+    last
+}

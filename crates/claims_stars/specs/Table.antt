@@ -1,0 +1,83 @@
+-- The ★ examples of document 01, "Examples, on that part": what the definitions give, and what the document prints, in the document's order.
+use mathlib.Core.List.{List, [], _++_, _∷_, map}
+use Prim.Native.Nat.{ℕ}
+use lib.ListN.{replicate, take}
+use Rattle.chip.specs.Run.{Spoken, answers, before}
+use Rattle.chip.specs.Step.{Outcome}
+use Rattle.chip.specs.declared.Answer.{Answer}
+use Rattle.chip.specs.declared.Answer.the-variants.{Refused, Replied}
+use Rattle.chip.specs.declared.Event.the-variants.{Byte}
+use Rattle.effect.specs.Effect.{flash}
+use Rattle.effect.specs.declared.Phase.the-variants.{Ready}
+use Rattle.frame.specs.Collector.{fresh}
+use Rattle.frame.specs.Judgement.{judgeOf, statusOf}
+use Rattle.frame.specs.Sum.{sumOf}
+use Rattle.frame.specs.declared.Footer.the-variants.{Last}
+use Rattle.options.specs.Options.{freshOptions}
+use Rattle.part.specs.declared.Part.{Part}
+
+-- "The chip has 16 code and 4 data blocks, clock 32, all fresh."; device code, name and version as in 000, table 3-2.
+abbrev pub thePart : Part
+thePart =
+    record {
+      «code_blocks» = 16;
+      «data_blocks» = 4;
+      clock = 32;
+      device = 0x10 ∷ 0x00 ∷ 0x06 ∷ [];
+      name = 0x52 ∷ 0x35 ∷ 0x46 ∷ 0x31 ∷ 0x30 ∷ 0x30 ∷ 0x4C ∷ 0x45 ∷ 0x20 ∷ 0x20 ∷ [];
+      version = 0x01 ∷ 0x02 ∷ 0x03 ∷ [];
+    }
+
+-- Ready, all fresh, nothing collected; the room is the least that is accepted.
+abbrev pub readyChip : Outcome
+readyChip =
+    before (record { core = record { options = freshOptions thePart; rate = 0x00; phase = Ready }; collector = fresh })
+    (flash (replicate 16384 0xFF) (replicate 4096 0xFF)) (replicate 32 0x00)
+
+-- The reply bytes to each byte of a frame, one after the other.
+abbrev pub bytesSaid : Answer → List ℕ → List ℕ
+bytesSaid (Replied n f) room = take n room
+bytesSaid (Refused r) room = []
+
+unfoldable pub heardBack : List Spoken → List ℕ
+heardBack [] = []
+heardBack (x ∷ xs) = bytesSaid (x .answer) (x .room) ++ heardBack xs
+
+unfoldable pub replyTo : List ℕ → List ℕ
+replyTo bs = heardBack (answers thePart (map Byte bs) readyChip)
+
+pub record Example : Type 0 where
+  pub gives : List ℕ
+  pub printed : List ℕ
+
+abbrev pub example : List ℕ → List ℕ → Example
+example g p = record { gives = g; printed = p }
+
+abbrev pub acknowledged : List ℕ
+acknowledged = 0x02 ∷ 0x01 ∷ 0x06 ∷ 0xF9 ∷ 0x03 ∷ []
+
+abbrev pub refusedParameter : List ℕ
+refusedParameter = 0x02 ∷ 0x01 ∷ 0x05 ∷ 0xFA ∷ 0x03 ∷ []
+
+unfoldable pub table : List Example
+table =
+    -- 01 01 A1 has SUM 5Eh; 02 04 FF 80 40 22 has 1Bh, and 1Ah there is 07h
+    example (sumOf (0x01 ∷ 0xA1 ∷ []) ∷ []) (0x5E ∷ [])
+    ∷ example (sumOf (0x04 ∷ 0xFF ∷ 0x80 ∷ 0x40 ∷ 0x22 ∷ []) ∷ []) (0x1B ∷ [])
+    ∷ example (statusOf (judgeOf Last (0x02 ∷ 0x04 ∷ 0xFF ∷ 0x80 ∷ 0x40 ∷ 0x22 ∷ 0x1A ∷ 0x03 ∷ [])) ∷ []) (0x07 ∷ [])
+    -- Erase 0400h; 0401h
+    ∷ example (replyTo (0x01 ∷ 0x04 ∷ 0x22 ∷ 0x00 ∷ 0x04 ∷ 0x00 ∷ 0xD6 ∷ 0x03 ∷ [])) acknowledged
+    ∷ example (replyTo (0x01 ∷ 0x04 ∷ 0x22 ∷ 0x01 ∷ 0x04 ∷ 0x00 ∷ 0xD5 ∷ 0x03 ∷ [])) refusedParameter
+    -- Erase 3C00h; 4000h
+    ∷ example (replyTo (0x01 ∷ 0x04 ∷ 0x22 ∷ 0x00 ∷ 0x3C ∷ 0x00 ∷ 0x9E ∷ 0x03 ∷ [])) acknowledged
+    ∷ example (replyTo (0x01 ∷ 0x04 ∷ 0x22 ∷ 0x00 ∷ 0x40 ∷ 0x00 ∷ 0x9A ∷ 0x03 ∷ [])) refusedParameter
+    -- F1000h; F2000h
+    ∷ example (replyTo (0x01 ∷ 0x04 ∷ 0x22 ∷ 0x00 ∷ 0x10 ∷ 0x0F ∷ 0xBB ∷ 0x03 ∷ [])) acknowledged
+    ∷ example (replyTo (0x01 ∷ 0x04 ∷ 0x22 ∷ 0x00 ∷ 0x20 ∷ 0x0F ∷ 0xAB ∷ 0x03 ∷ [])) refusedParameter
+    -- B0h on a fresh block: 06h, then 02 02 00 04 FA 03
+    ∷ example (replyTo (0x01 ∷ 0x07 ∷ 0xB0 ∷ 0x00 ∷ 0x00 ∷ 0x00 ∷ 0xFF ∷ 0x03 ∷ 0x00 ∷ 0x47 ∷ 0x03 ∷ []))
+    (0x02 ∷ 0x01 ∷ 0x06 ∷ 0xF9 ∷ 0x03 ∷ 0x02 ∷ 0x02 ∷ 0x00 ∷ 0x04 ∷ 0xFA ∷ 0x03 ∷ [])
+    -- 01 07 B0 01 01 00 FF 03 00 45 03 is answered 05h. With its first byte 11h, the inner 01 01 00 FF 03 is a good Reset
+    ∷ example (replyTo (0x01 ∷ 0x07 ∷ 0xB0 ∷ 0x01 ∷ 0x01 ∷ 0x00 ∷ 0xFF ∷ 0x03 ∷ 0x00 ∷ 0x45 ∷ 0x03 ∷ [])) refusedParameter
+    ∷ example (replyTo (0x11 ∷ 0x07 ∷ 0xB0 ∷ 0x01 ∷ 0x01 ∷ 0x00 ∷ 0xFF ∷ 0x03 ∷ 0x00 ∷ 0x45 ∷ 0x03 ∷ [])) acknowledged
+    ∷ []

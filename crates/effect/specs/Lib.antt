@@ -1,0 +1,3 @@
+pub mod Effect
+pub mod Commands
+pub mod Pages

@@ -1,0 +1,477 @@
+// The commands of document 01, "Commands", in the judging order of "Frames". Decisions on numbers come first, flash is lent late.
+ghost use mathlib.Core.Path.{_≡_};
+ghost use Prim.Native.Nat.{_≤_, _+_, _-_};
+ghost use lib.ListN.{take, drop, getD, length};
+ghost use Rattle.part.specs.Part.{rangeOf, placeOf, blocks};
+ghost use Rattle.frame.specs.Judgement.{isGood};
+ghost use Rattle.words.specs.Words.{_and_};
+ghost use Rattle.flash.specs.Flash.{blank};
+ghost use Rattle.options.specs.Options.{bootAllowed, eraseAllowed};
+ghost use Rattle.effect.specs.Effect.{flash, effect, says, awaiting, number3};
+ghost use Rattle.effect.specs.Commands.{setupCommands, readyCommands, commandsIn, fitted, askedIn, rateSet, isBoot, forbidden, erasedIn, blockErase, bytesOf, blankCheck, programming, verify, checksum, securityRelease, work, commandDoes};
+use super::Asked;
+use super::Awaited;
+use super::Core;
+use super::Done;
+use super::Phase;
+use frame::judgement::Judgement;
+use part::Area;
+use part::Part;
+use part::Place;
+use part::Range;
+use reply::Reply;
+
+fn asked_in_setup(cmd: u8, n: usize) -> Asked
+    ensures { λ r. ⌜ r ≡ askedIn setupCommands cmd n ⌝ }
+{
+    if cmd == 0x9A {
+        if n == 3 {
+            return Asked::RateSet;
+        }
+        return Asked::Unfit;
+    }
+    Asked::Unknown
+}
+
+fn fit(n: usize, len: usize, asked: Asked) -> Asked
+    ensures { λ r. ⌜ r ≡ fitted n len asked ⌝ }
+{
+    if n == len {
+        return asked;
+    }
+    Asked::Unfit
+}
+
+fn asked_when_ready(cmd: u8, n: usize) -> Asked
+    ensures { λ r. ⌜ r ≡ askedIn readyCommands cmd n ⌝ }
+{
+    match cmd {
+        0x00 => fit(n, 1, Asked::Reset),
+        0x22 => fit(n, 4, Asked::BlockErase),
+        0x32 => fit(n, 8, Asked::BlankCheck),
+        0x40 => fit(n, 7, Asked::Programming),
+        0x13 => fit(n, 7, Asked::Verify),
+        0xB0 => fit(n, 7, Asked::Checksum),
+        0xC0 => fit(n, 1, Asked::SignatureGet),
+        0xA1 => fit(n, 1, Asked::SecurityGet),
+        0xA0 => fit(n, 1, Asked::SecuritySet),
+        0xA2 => fit(n, 1, Asked::SecurityRelease),
+        _ => Asked::Unknown,
+    }
+}
+
+fn asked(phase: Phase, cmd: u8, n: usize) -> Asked
+    ensures { λ r. ⌜ r ≡ askedIn (commandsIn phase) cmd n ⌝ }
+{
+    match phase {
+        Phase::ModeByte => Asked::Unknown,
+        Phase::Setup => asked_in_setup(cmd, n),
+        Phase::Ready => asked_when_ready(cmd, n),
+        Phase::Awaiting(w) => Asked::Unknown,
+    }
+}
+
+// The byte at the place i; 0 where there is none.
+pub(crate) fn byte_at(bytes: &[u8], i: usize) -> u8
+    ensures { λ r. ⌜ r ≡ getD (now (bytes .entry)) i 0 ⌝ }
+{
+    if i < bytes.len() {
+        return bytes[i];
+    }
+    0
+}
+
+fn wide(b: u8) -> usize
+    ensures { λ r. ⌜ (r ≡ b) × (r ≤ 255) ⌝ }
+{
+    b as usize
+}
+
+// An address of three bytes from the place i on, low byte first.
+fn address_at(bytes: &[u8], i: usize) -> usize
+    requires { ⌜ i ≤ 6 ⌝ }
+    ensures { λ r. ⌜ (r ≡ number3 i (now (bytes .entry))) × (r ≤ 0xFFFFFF) ⌝ }
+{
+    let low = wide(byte_at(bytes, i));
+    let middle = wide(byte_at(bytes, i + 1));
+    let high = wide(byte_at(bytes, i + 2));
+    low + 256 * middle + 65536 * high
+}
+
+fn rate_set(part: Part, core: Core, rate: u8, supply: u8) -> Done
+    ensures { λ r. ⌜ r ≡ rateSet part core rate supply ⌝ }
+{
+    if part::rate::accepts(part, rate as u32, supply as u32) {
+        let mode = part::rate::mode(part, supply as u32);
+        let options = core.options;
+        return Done {
+            reply: Reply::Rate {
+                clock: (part.clock % 256) as u8,
+                mode,
+            },
+            core: Core {
+                options,
+                rate,
+                phase: Phase::Ready,
+            },
+        };
+    }
+    Done {
+        reply: Reply::Status(0x05),
+        core,
+    }
+}
+
+fn is_boot(area: Area, block: usize) -> bool
+    ensures { λ r. ⌜ r ≡ isBoot area block ⌝ }
+{
+    match area {
+        Area::CodeFlash => block < 4,
+        Area::DataFlash => false,
+    }
+}
+
+fn is_forbidden(allowed: bool, boot: bool, boot_flag: bool) -> bool
+    ensures { λ r. ⌜ r ≡ forbidden allowed boot «boot_flag» ⌝ }
+{
+    if allowed {
+        if boot {
+            if boot_flag {
+                return false;
+            }
+            return true;
+        }
+        return false;
+    }
+    true
+}
+
+fn erase_in(area: Area, offset: usize, size: usize, code: &mut [u8], data: &mut [u8])
+    ensures { λ _. ⌜ flash (now (code .exit)) (now («data» .exit)) ≡ erasedIn area offset size (flash (now (code .entry)) (now («data» .entry))) ⌝ }
+{
+    match area {
+        Area::CodeFlash => {
+            flash::erase(code, offset, size);
+        }
+        Area::DataFlash => {
+            flash::erase(data, offset, size);
+        }
+    }
+}
+
+fn block_erase(part: Part, core: Core, start: usize, code: &mut [u8], data: &mut [u8]) -> Done
+    ensures { λ r. ⌜ effect r (flash (now (code .exit)) (now («data» .exit))) ≡ blockErase part core (placeOf part start) (flash (now (code .entry)) (now («data» .entry))) ⌝ }
+{
+    let place = part.place(start);
+    match place {
+        Place::In {
+            area,
+            offset,
+            block,
+            page,
+        } => {
+            let size = part.block_size(area);
+            if offset % size == 0 {
+                let options = core.options;
+                let flags = options.flags;
+                if is_forbidden(
+                    options::erase_allowed(flags),
+                    is_boot(area, block),
+                    options::boot_allowed(flags),
+                ) {
+                    return Done {
+                        reply: Reply::Status(0x10),
+                        core,
+                    };
+                }
+                erase_in(area, offset, size, code, data);
+                return Done {
+                    reply: Reply::Status(0x06),
+                    core,
+                };
+            }
+            Done {
+                reply: Reply::Status(0x05),
+                core,
+            }
+        }
+        Place::Outside => Done {
+            reply: Reply::Status(0x05),
+            core,
+        },
+    }
+}
+
+// The bytes of a stretch that may run past the end.
+pub(crate) fn part_of(bytes: &[u8], from: usize, n: usize) -> &[u8]
+    ensures { λ r. ⌜ now r ≡ take n (drop from (now (bytes .entry))) ⌝ }
+{
+    let len = bytes.len();
+    if len <= from {
+        return &bytes[len..len];
+    }
+    if len - from <= n {
+        return &bytes[from..len];
+    }
+    &bytes[from..from + n]
+}
+
+// The bytes of a good range.
+fn range_bytes<'a>(
+    part: Part,
+    area: Area,
+    block: usize,
+    count: usize,
+    code: &'a [u8],
+    data: &'a [u8],
+) -> &'a [u8]
+    requires { ⌜ block + count ≤ blocks part area ⌝ }
+    ensures { λ r. ⌜ now r ≡ bytesOf part area block count (flash (now (code .entry)) (now («data» .entry))) ⌝ }
+{
+    let size = part.block_size(area);
+    match area {
+        Area::CodeFlash => part_of(code, block * size, count * size),
+        Area::DataFlash => part_of(data, block * size, count * size),
+    }
+}
+
+fn says(core: Core, status: u8) -> Done
+    ensures { λ r. ⌜ r ≡ says status core ⌝ }
+{
+    Done {
+        reply: Reply::Status(status),
+        core,
+    }
+}
+
+fn blank_check<'a>(
+    part: Part,
+    core: Core,
+    start: usize,
+    end: usize,
+    d01: u8,
+    code: &'a [u8],
+    data: &'a [u8],
+) -> Done
+    ensures { λ r. ⌜ r ≡ blankCheck part core (rangeOf part start end) d01 (flash (now (code .entry)) (now («data» .entry))) ⌝ }
+{
+    let range = part.range(start, end);
+    match range {
+        Range::Blocks { area, block, count } => {
+            if 0x01 < d01 {
+                return says(core, 0x05);
+            }
+            if flash::is_blank(range_bytes(part, area, block, count, code, data)) {
+                if d01 == 0x01 {
+                    let options = core.options;
+                    if options.is_fresh(part) {
+                        return says(core, 0x06);
+                    }
+                    return says(core, 0x1B);
+                }
+                return says(core, 0x06);
+            }
+            says(core, 0x1B)
+        }
+        Range::Bad => says(core, 0x05),
+    }
+}
+
+fn awaiting(core: Core, command: u8, next: usize, last: usize) -> Core
+    ensures { λ r. ⌜ r ≡ awaiting command next last core ⌝ }
+{
+    let options = core.options;
+    Core {
+        options,
+        rate: core.rate,
+        phase: Phase::Awaiting(Awaited {
+            command,
+            next,
+            last,
+        }),
+    }
+}
+
+fn programming(part: Part, core: Core, start: usize, end: usize) -> Done
+    ensures { λ r. ⌜ r ≡ programming core (rangeOf part start end) start end ⌝ }
+{
+    let range = part.range(start, end);
+    match range {
+        Range::Blocks { area, block, count } => {
+            let options = core.options;
+            let flags = options.flags;
+            if is_forbidden(
+                options::write_allowed(flags),
+                is_boot(area, block),
+                options::boot_allowed(flags),
+            ) {
+                return says(core, 0x10);
+            }
+            says(awaiting(core, 0x40, start, end), 0x06)
+        }
+        Range::Bad => says(core, 0x05),
+    }
+}
+
+fn verify(part: Part, core: Core, start: usize, end: usize) -> Done
+    ensures { λ r. ⌜ r ≡ verify core (rangeOf part start end) start end ⌝ }
+{
+    let range = part.range(start, end);
+    match range {
+        Range::Blocks { area, block, count } => says(awaiting(core, 0x13, start, end), 0x06),
+        Range::Bad => says(core, 0x05),
+    }
+}
+
+fn checksum<'a>(
+    part: Part,
+    core: Core,
+    start: usize,
+    end: usize,
+    code: &'a [u8],
+    data: &'a [u8],
+) -> Done
+    ensures { λ r. ⌜ r ≡ checksum part core (rangeOf part start end) (flash (now (code .entry)) (now («data» .entry))) ⌝ }
+{
+    let range = part.range(start, end);
+    match range {
+        Range::Blocks { area, block, count } => {
+            let sum = flash::sum(range_bytes(part, area, block, count, code, data));
+            Done {
+                reply: Reply::Sum(sum),
+                core,
+            }
+        }
+        Range::Bad => says(core, 0x05),
+    }
+}
+
+fn is_all_blank(code: &[u8], data: &[u8]) -> bool
+    ensures { λ r. ⌜ r ≡ (blank (now (code .entry)) and blank (now («data» .entry))) ⌝ }
+{
+    if flash::is_blank(code) {
+        return flash::is_blank(data);
+    }
+    false
+}
+
+fn is_releasable(flags: u8) -> bool
+    ensures { λ r. ⌜ r ≡ (bootAllowed flags and eraseAllowed flags) ⌝ }
+{
+    if options::boot_allowed(flags) {
+        return options::erase_allowed(flags);
+    }
+    false
+}
+
+fn release(part: Part, core: Core, code: &[u8], data: &[u8]) -> Done
+    ensures { λ r. ⌜ r ≡ securityRelease part core (flash (now (code .entry)) (now («data» .entry))) ⌝ }
+{
+    let options = core.options;
+    if is_releasable(options.flags) {
+        if is_all_blank(code, data) {
+            let released = options.released(part);
+            let phase = core.phase;
+            return Done {
+                reply: Reply::Status(0x06),
+                core: Core {
+                    options: released,
+                    rate: core.rate,
+                    phase,
+                },
+            };
+        }
+        return says(core, 0x1B);
+    }
+    says(core, 0x10)
+}
+
+// The bytes between LEN and SUM of a complete frame.
+fn payload_length(bytes: &[u8]) -> usize
+    ensures { λ r. ⌜ r ≡ length (now (bytes .entry)) - 4 ⌝ }
+{
+    let n = bytes.len();
+    if n < 4 {
+        return 0;
+    }
+    n - 4
+}
+
+pub(crate) fn is_good(j: Judgement) -> bool
+    ensures { λ r. ⌜ r ≡ isGood j ⌝ }
+{
+    match j {
+        Judgement::Good => true,
+        Judgement::WrongFooter => false,
+        Judgement::WrongSum => false,
+        Judgement::UnfitLength => false,
+    }
+}
+
+fn work(
+    part: Part,
+    core: Core,
+    asked: Asked,
+    bytes: &[u8],
+    code: &mut [u8],
+    data: &mut [u8],
+) -> Done
+    ensures { λ r. ⌜ effect r (flash (now (code .exit)) (now («data» .exit))) ≡ work asked part core (now (bytes .entry)) (flash (now (code .entry)) (now («data» .entry))) ⌝ }
+{
+    match asked {
+        Asked::Unknown => says(core, 0x04),
+        Asked::Unfit => says(core, 0x15),
+        Asked::RateSet => rate_set(part, core, byte_at(bytes, 3), byte_at(bytes, 4)),
+        Asked::Reset => says(core, 0x06),
+        Asked::BlockErase => {
+            let start = address_at(bytes, 3);
+            block_erase(part, core, start, code, data)
+        }
+        Asked::BlankCheck => {
+            let start = address_at(bytes, 3);
+            let end = address_at(bytes, 6);
+            let d01 = byte_at(bytes, 9);
+            blank_check(part, core, start, end, d01, code, data)
+        }
+        Asked::Programming => {
+            let start = address_at(bytes, 3);
+            let end = address_at(bytes, 6);
+            programming(part, core, start, end)
+        }
+        Asked::Verify => {
+            let start = address_at(bytes, 3);
+            let end = address_at(bytes, 6);
+            verify(part, core, start, end)
+        }
+        Asked::Checksum => {
+            let start = address_at(bytes, 3);
+            let end = address_at(bytes, 6);
+            checksum(part, core, start, end, code, data)
+        }
+        Asked::SignatureGet => Done {
+            reply: Reply::Signature,
+            core,
+        },
+        Asked::SecurityGet => Done {
+            reply: Reply::Security,
+            core,
+        },
+        Asked::SecuritySet => says(awaiting(core, 0xA0, 0, 0), 0x06),
+        Asked::SecurityRelease => release(part, core, code, data),
+    }
+}
+
+// What a complete command frame does.
+pub fn command(part: Part, core: Core, bytes: &[u8], code: &mut [u8], data: &mut [u8]) -> Done
+    ensures { λ r. ⌜ effect r (flash (now (code .exit)) (now («data» .exit))) ≡ commandDoes part core (now (bytes .entry)) (flash (now (code .entry)) (now («data» .entry))) ⌝ }
+{
+    let j = frame::judgement::judge(frame::Footer::Last, bytes);
+    if is_good(j) {
+        let phase = core.phase;
+        let cmd = byte_at(bytes, 2);
+        let n = payload_length(bytes);
+        let asks = asked(phase, cmd, n);
+        return work(part, core, asks, bytes, code, data);
+    }
+    says(core, j.status())
+}
