@@ -1,0 +1,775 @@
+//! The software chip: one step over a byte, a gap or power-on (01 "The part" to "Refusal numbers").
+
+use crate::frame::{
+    counted, Frame, Reply, COMMAND_HEADER, DATA_HEADER, LAST_FOOTER, LONGEST, MORE_FOOTER,
+};
+
+pub const BLOCK: usize = 1024;
+pub const PAGE: usize = 256;
+pub const DATA_FLASH: usize = 0xF1000;
+pub const BOOT_BLOCKS: usize = 4;
+pub const LAST_BOOT_BLOCK: u8 = 0x03;
+pub const ERASED: u8 = 0xFF;
+pub const SMALLEST_ROOM: usize = 32;
+
+const ONE_WIRE: u8 = 0x3A;
+const TWO_WIRES: u8 = 0x00;
+
+pub const RESET: u8 = 0x00;
+pub const VERIFY: u8 = 0x13;
+pub const BLOCK_ERASE: u8 = 0x22;
+pub const BLANK_CHECK: u8 = 0x32;
+pub const PROGRAM: u8 = 0x40;
+pub const RATE_SET: u8 = 0x9A;
+pub const SECURITY_SET: u8 = 0xA0;
+pub const SECURITY_GET: u8 = 0xA1;
+pub const SECURITY_RELEASE: u8 = 0xA2;
+pub const CHECKSUM: u8 = 0xB0;
+pub const SIGNATURE: u8 = 0xC0;
+
+pub const UNKNOWN: u8 = 0x04;
+pub const PARAMETER: u8 = 0x05;
+pub const ACK: u8 = 0x06;
+pub const BAD_SUM: u8 = 0x07;
+pub const UNEQUAL: u8 = 0x0F;
+pub const PROTECTED: u8 = 0x10;
+pub const NACK: u8 = 0x15;
+pub const NOT_BLANK: u8 = 0x1B;
+pub const NOT_WRITTEN: u8 = 0x1C;
+
+const FRESH_FLAGS: u8 = 0xFF;
+const BOOT_ALLOWED: u8 = 1 << 1;
+const ERASE_ALLOWED: u8 = 1 << 2;
+const WRITE_ALLOWED: u8 = 1 << 4;
+/// Bits 0, 3, 5, 6, 7 (000 table 3-3).
+const FIXED_FLAGS: u8 = 0xE9;
+const HIGHEST_RATE: u8 = 0x03;
+
+/// The description of a part (01 "The part").
+#[derive(Clone, Debug, PartialEq, Eq)]
+pub struct Part {
+    pub code_blocks: u32,
+    pub data_blocks: u32,
+    pub clock: u32,
+    pub device: [u8; 3],
+    pub name: [u8; 10],
+    pub version: [u8; 3],
+}
+
+/// The lasting options (01 "The part").
+#[derive(Clone, Copy, Debug, PartialEq, Eq)]
+pub struct Options {
+    pub flags: u8,
+    pub boot: u8,
+    pub start: u16,
+    pub end: u16,
+}
+
+/// The four phases, each with its own data (01 "Phases").
+#[derive(Clone, Copy, Debug, PartialEq, Eq)]
+pub enum Phase {
+    ModeByte,
+    Setup,
+    Ready,
+    Awaiting {
+        command: u8,
+        next: usize,
+        last: usize,
+    },
+}
+
+/// The chip's state; flash is lent beside it.
+#[derive(Clone, Debug, PartialEq, Eq)]
+pub struct Chip {
+    pub options: Options,
+    pub rate: u8,
+    pub phase: Phase,
+    /// Only the first `count` bytes mean anything; the others are never touched.
+    pub collected: [u8; LONGEST],
+    pub count: usize,
+}
+
+#[derive(Clone, Copy, Debug, PartialEq, Eq)]
+pub enum Event {
+    Byte(u8),
+    Gap,
+    PowerOn,
+}
+
+#[derive(Clone, Copy, Debug, PartialEq, Eq)]
+pub enum Answer {
+    /// Length of the reply at the start of the room, and how many frames it is.
+    Replied { bytes: usize, frames: usize },
+    /// 01 "Refusal numbers".
+    Refused(u8),
+}
+
+impl Chip {
+    /// A chip as it leaves the house, at power-on; refused with 1 for a part outside the numbers.
+    pub fn fresh(part: &Part) -> Result<Chip, u8> {
+        if !part_fits(part) {
+            return Err(1);
+        }
+        Ok(Chip {
+            options: fresh_options(part),
+            rate: 0x00,
+            phase: Phase::ModeByte,
+            collected: [0; LONGEST],
+            count: 0,
+        })
+    }
+}
+
+/// One event for the chip. A refused call changes nothing at all.
+pub fn step(
+    part: &Part,
+    chip: &mut Chip,
+    event: Event,
+    code: &mut [u8],
+    data: &mut [u8],
+    room: &mut [u8],
+) -> Answer {
+    if let Some(number) = refusal(part, chip, code, data, room) {
+        return Answer::Refused(number);
+    }
+    let mut flash = Flash { code, data };
+    let mut reply = Reply::at_start(room);
+    match event {
+        Event::Byte(byte) => hear(part, chip, byte, &mut flash, &mut reply),
+        Event::Gap => chip.count = 0,
+        Event::PowerOn => power_on(chip),
+    }
+    Answer::Replied {
+        bytes: reply.bytes,
+        frames: reply.frames,
+    }
+}
+
+/// power-on sets the rate code too; flash and options stay.
+fn power_on(chip: &mut Chip) {
+    chip.count = 0;
+    chip.rate = 0x00;
+    chip.phase = Phase::ModeByte;
+}
+
+// Refusals: 01 "Refusal numbers", order 1, 2, 3, 9, 4
+
+fn refusal(part: &Part, chip: &Chip, code: &[u8], data: &[u8], room: &[u8]) -> Option<u8> {
+    if !part_fits(part) {
+        Some(1)
+    } else if code.len() != code_bytes(part) {
+        Some(2)
+    } else if data.len() != data_bytes(part) {
+        Some(3)
+    } else if !state_fits(part, chip) {
+        Some(9)
+    } else if room.len() < SMALLEST_ROOM {
+        Some(4)
+    } else {
+        None
+    }
+}
+
+fn part_fits(part: &Part) -> bool {
+    (8..=64).contains(&part.code_blocks) && part.data_blocks <= 8 && (1..=32).contains(&part.clock)
+}
+
+fn state_fits(part: &Part, chip: &Chip) -> bool {
+    collector_fits(chip)
+        && chip.rate <= HIGHEST_RATE
+        && options_fit(part, &chip.options)
+        && phase_fits(part, chip.phase)
+}
+
+fn collector_fits(chip: &Chip) -> bool {
+    if chip.count == 0 {
+        return true;
+    }
+    let Some(header) = awaited_header(chip.phase) else {
+        return false;
+    };
+    chip.count < LONGEST
+        && chip.collected[0] == header
+        && (chip.count == 1 || chip.count < counted(chip.collected[1]) + 4)
+}
+
+fn phase_fits(part: &Part, phase: Phase) -> bool {
+    match phase {
+        Phase::ModeByte | Phase::Setup | Phase::Ready => true,
+        // A0h uses no address, so none is barred.
+        Phase::Awaiting {
+            command: SECURITY_SET,
+            ..
+        } => true,
+        Phase::Awaiting {
+            command: PROGRAM | VERIFY,
+            next,
+            last,
+        } => {
+            let one_area = match (place(part, next), place(part, last)) {
+                (Some(first), Some(end)) => first.area == end.area,
+                _ => false,
+            };
+            one_area && next.is_multiple_of(PAGE) && last % BLOCK == BLOCK - 1 && next <= last
+        }
+        Phase::Awaiting { .. } => false,
+    }
+}
+
+/// The 05h rule of A0h's data, which refusal 9 shares (01 "Commands"); reserved bytes apart.
+fn options_fit(part: &Part, options: &Options) -> bool {
+    options.flags & FIXED_FLAGS == FIXED_FLAGS
+        && options.boot == LAST_BOOT_BLOCK
+        && options.start <= options.end
+        && u32::from(options.end) < part.code_blocks
+}
+
+// The part and its flash: 01 "The part"
+
+#[derive(Clone, Copy, PartialEq, Eq)]
+enum Area {
+    Code,
+    Data,
+}
+
+/// Where an address lies: its area, and how far from that area's first byte.
+#[derive(Clone, Copy)]
+struct Place {
+    area: Area,
+    offset: usize,
+}
+
+/// Whole blocks of one area: from the first offset up to, not including, the end offset.
+#[derive(Clone, Copy)]
+struct Range {
+    area: Area,
+    first: usize,
+    end: usize,
+}
+
+struct Flash<'a> {
+    code: &'a mut [u8],
+    data: &'a mut [u8],
+}
+
+impl Flash<'_> {
+    fn bytes(&self, range: Range) -> &[u8] {
+        match range.area {
+            Area::Code => &self.code[range.first..range.end],
+            Area::Data => &self.data[range.first..range.end],
+        }
+    }
+
+    fn bytes_mut(&mut self, range: Range) -> &mut [u8] {
+        match range.area {
+            Area::Code => &mut self.code[range.first..range.end],
+            Area::Data => &mut self.data[range.first..range.end],
+        }
+    }
+
+    fn is_blank(&self) -> bool {
+        all_erased(self.code) && all_erased(self.data)
+    }
+}
+
+impl Range {
+    /// Boot blocks are code blocks 0 to 3; the data blocks of those numbers are none.
+    fn holds_boot_block(&self) -> bool {
+        self.area == Area::Code && self.first < BOOT_BLOCKS * BLOCK
+    }
+}
+
+fn all_erased(bytes: &[u8]) -> bool {
+    bytes.iter().all(|byte| *byte == ERASED)
+}
+
+fn code_bytes(part: &Part) -> usize {
+    part.code_blocks as usize * BLOCK
+}
+
+fn data_bytes(part: &Part) -> usize {
+    part.data_blocks as usize * BLOCK
+}
+
+fn fresh_options(part: &Part) -> Options {
+    Options {
+        flags: FRESH_FLAGS,
+        boot: LAST_BOOT_BLOCK,
+        start: 0,
+        end: last_code_block(part),
+    }
+}
+
+fn last_code_block(part: &Part) -> u16 {
+    (part.code_blocks - 1) as u16
+}
+
+fn place(part: &Part, address: usize) -> Option<Place> {
+    if address < code_bytes(part) {
+        return Some(Place {
+            area: Area::Code,
+            offset: address,
+        });
+    }
+    let offset = address.checked_sub(DATA_FLASH)?;
+    (offset < data_bytes(part)).then_some(Place {
+        area: Area::Data,
+        offset,
+    })
+}
+
+/// The range from one address to another, or nothing if it is bad (01 "Commands").
+fn whole_blocks(part: &Part, start: usize, end: usize) -> Option<Range> {
+    let first = place(part, start)?;
+    let last = place(part, end)?;
+    let whole = first.offset.is_multiple_of(BLOCK) && (last.offset + 1).is_multiple_of(BLOCK);
+    (start <= end && first.area == last.area && whole).then_some(Range {
+        area: first.area,
+        first: first.offset,
+        end: last.offset + 1,
+    })
+}
+
+// Collecting: 01 "Frames" and "Phases"
+
+fn awaited_header(phase: Phase) -> Option<u8> {
+    match phase {
+        Phase::ModeByte => None,
+        Phase::Setup | Phase::Ready => Some(COMMAND_HEADER),
+        Phase::Awaiting { .. } => Some(DATA_HEADER),
+    }
+}
+
+fn hear(part: &Part, chip: &mut Chip, byte: u8, flash: &mut Flash, reply: &mut Reply) {
+    let Some(header) = awaited_header(chip.phase) else {
+        if byte == ONE_WIRE || byte == TWO_WIRES {
+            chip.phase = Phase::Setup;
+        }
+        return;
+    };
+    let Some(frame) = collect(chip, header, byte) else {
+        return;
+    };
+    match chip.phase {
+        Phase::Awaiting {
+            command: SECURITY_SET,
+            ..
+        } => hear_options(part, chip, &frame, reply),
+        Phase::Awaiting {
+            command,
+            next,
+            last,
+        } => {
+            let pages = Pages {
+                command,
+                next,
+                last,
+            };
+            hear_page(part, chip, pages, &frame, flash, reply)
+        }
+        _ => hear_command(part, chip, &frame, flash, reply),
+    }
+}
+
+/// Takes one byte in; hands the frame out when it is complete at LEN + 4 bytes.
+fn collect(chip: &mut Chip, header: u8, byte: u8) -> Option<Frame> {
+    if chip.count == 0 && byte != header {
+        return None;
+    }
+    let completes = chip.count >= 2 && chip.count + 1 == counted(chip.collected[1]) + 4;
+    if completes {
+        chip.count = 0;
+        return Some(Frame::complete(chip.collected, byte));
+    }
+    chip.collected[chip.count] = byte;
+    chip.count += 1;
+    None
+}
+
+// Judgement and work of a command frame: 01 "Frames" and "Commands"
+
+/// A command whose footer, SUM, phase, LEN and parameters have been judged right.
+enum Command {
+    SetRate { rate: u8, supply: u8 },
+    Reset,
+    Erase(Range),
+    CheckBlank { range: Range, options_too: bool },
+    Pages(Pages, Range),
+    Checksum(Range),
+    Signature,
+    GetOptions,
+    SetOptions,
+    Release,
+}
+
+/// Phase 4's data for 40h and 13h.
+#[derive(Clone, Copy)]
+struct Pages {
+    command: u8,
+    next: usize,
+    last: usize,
+}
+
+fn hear_command(part: &Part, chip: &mut Chip, frame: &Frame, flash: &mut Flash, reply: &mut Reply) {
+    let judged = judge_ends(frame, LAST_FOOTER)
+        .and_then(|()| judge_command(part, chip.phase, frame.body()))
+        .and_then(|command| judge_protection(&chip.options, command));
+    match judged {
+        Ok(command) => work(part, chip, command, flash, reply),
+        Err(status) => reply.frame(&[status]),
+    }
+}
+
+/// The first two judgements, which make a frame good or bad.
+fn judge_ends(frame: &Frame, footer: u8) -> Result<(), u8> {
+    if !frame.has_footer(footer) {
+        Err(NACK)
+    } else if !frame.has_right_sum() {
+        Err(BAD_SUM)
+    } else {
+        Ok(())
+    }
+}
+
+/// Command and phase 04h, then LEN 15h, then parameters 05h.
+fn judge_command(part: &Part, phase: Phase, body: &[u8]) -> Result<Command, u8> {
+    let len = len_of(body[0]).ok_or(UNKNOWN)?;
+    let allowed = (body[0] == RATE_SET) == (phase == Phase::Setup);
+    if !allowed {
+        return Err(UNKNOWN);
+    }
+    if body.len() != len {
+        return Err(NACK);
+    }
+    read_command(part, body).ok_or(PARAMETER)
+}
+
+/// 01's column LEN; nothing for an unknown command.
+fn len_of(command: u8) -> Option<usize> {
+    match command {
+        RESET | SIGNATURE | SECURITY_SET | SECURITY_GET | SECURITY_RELEASE => Some(1),
+        RATE_SET => Some(3),
+        BLOCK_ERASE => Some(4),
+        PROGRAM | VERIFY | CHECKSUM => Some(7),
+        BLANK_CHECK => Some(8),
+        _ => None,
+    }
+}
+
+/// Reads a body of fitting length; nothing if its parameters are wrong.
+fn read_command(part: &Part, body: &[u8]) -> Option<Command> {
+    match body[0] {
+        RATE_SET => read_rate(body[1], body[2]),
+        RESET => Some(Command::Reset),
+        BLOCK_ERASE => {
+            let start = address(&body[1..4]);
+            whole_blocks(part, start, start + BLOCK - 1).map(Command::Erase)
+        }
+        BLANK_CHECK => {
+            let (start, end) = addresses(body);
+            let range = whole_blocks(part, start, end)?;
+            let options_too = match body[7] {
+                0x00 => false,
+                0x01 => true,
+                _ => return None,
+            };
+            Some(Command::CheckBlank { range, options_too })
+        }
+        PROGRAM | VERIFY => {
+            let (next, last) = addresses(body);
+            let range = whole_blocks(part, next, last)?;
+            let pages = Pages {
+                command: body[0],
+                next,
+                last,
+            };
+            Some(Command::Pages(pages, range))
+        }
+        CHECKSUM => {
+            let (start, end) = addresses(body);
+            whole_blocks(part, start, end).map(Command::Checksum)
+        }
+        SIGNATURE => Some(Command::Signature),
+        SECURITY_GET => Some(Command::GetOptions),
+        SECURITY_SET => Some(Command::SetOptions),
+        SECURITY_RELEASE => Some(Command::Release),
+        _ => None,
+    }
+}
+
+fn read_rate(rate: u8, supply: u8) -> Option<Command> {
+    let fits = rate <= HIGHEST_RATE && (18..=55).contains(&supply);
+    fits.then_some(Command::SetRate { rate, supply })
+}
+
+/// Addresses travel low, middle, high.
+fn address(bytes: &[u8]) -> usize {
+    usize::from(bytes[0]) | usize::from(bytes[1]) << 8 | usize::from(bytes[2]) << 16
+}
+
+fn addresses(body: &[u8]) -> (usize, usize) {
+    (address(&body[1..4]), address(&body[4..7]))
+}
+
+/// Protection 10h (01 "Commands", 000 table 3-4). The write ban holds for data flash too.
+fn judge_protection(options: &Options, command: Command) -> Result<Command, u8> {
+    let barred = |flag: u8| options.flags & flag == 0;
+    let forbidden = match &command {
+        Command::Erase(range) => {
+            barred(ERASE_ALLOWED) || range.holds_boot_block() && barred(BOOT_ALLOWED)
+        }
+        Command::Pages(pages, range) if pages.command == PROGRAM => {
+            barred(WRITE_ALLOWED) || range.holds_boot_block() && barred(BOOT_ALLOWED)
+        }
+        Command::Release => barred(BOOT_ALLOWED) || barred(ERASE_ALLOWED),
+        _ => false,
+    };
+    if forbidden {
+        Err(PROTECTED)
+    } else {
+        Ok(command)
+    }
+}
+
+fn work(part: &Part, chip: &mut Chip, command: Command, flash: &mut Flash, reply: &mut Reply) {
+    match command {
+        Command::SetRate { rate, supply } => {
+            chip.rate = rate;
+            chip.phase = Phase::Ready;
+            let mode = if supply >= 27 { 0x00 } else { 0x01 };
+            reply.frame(&[ACK, part.clock as u8, mode]);
+        }
+        Command::Reset => reply.frame(&[ACK]),
+        Command::Erase(block) => {
+            flash.bytes_mut(block).fill(ERASED);
+            reply.frame(&[ACK]);
+        }
+        Command::CheckBlank { range, options_too } => {
+            let blank = all_erased(flash.bytes(range))
+                && (!options_too || options_are_fresh(part, &chip.options));
+            reply.frame(&[if blank { ACK } else { NOT_BLANK }]);
+        }
+        Command::Pages(pages, _) => {
+            chip.phase = pages.awaited();
+            reply.frame(&[ACK]);
+        }
+        Command::Checksum(range) => {
+            reply.frame(&[ACK]);
+            reply.frame(&block_sum(flash.bytes(range)).to_le_bytes());
+        }
+        Command::Signature => {
+            reply.frame(&[ACK]);
+            reply.frame(&signature(part));
+        }
+        Command::GetOptions => {
+            reply.frame(&[ACK]);
+            reply.frame(&options_data(&chip.options));
+        }
+        Command::SetOptions => {
+            chip.phase = Phase::Awaiting {
+                command: SECURITY_SET,
+                next: 0,
+                last: 0,
+            };
+            reply.frame(&[ACK]);
+        }
+        Command::Release => release(part, chip, flash, reply),
+    }
+}
+
+/// Flags and window; the last boot block has only one value.
+fn options_are_fresh(part: &Part, options: &Options) -> bool {
+    options.flags == FRESH_FLAGS && options.start == 0 && options.end == last_code_block(part)
+}
+
+/// 0000h less each byte, in 16 bits (000 3.8.1).
+fn block_sum(bytes: &[u8]) -> u16 {
+    bytes
+        .iter()
+        .fold(0u16, |left, byte| left.wrapping_sub(u16::from(*byte)))
+}
+
+/// Device code, name, last code address, last data address, version (000 3.7.3).
+fn signature(part: &Part) -> [u8; 22] {
+    let last_code = code_bytes(part) - 1;
+    let last_data = match data_bytes(part) {
+        0 => 0,
+        bytes => DATA_FLASH + bytes - 1,
+    };
+    let mut bytes = [0; 22];
+    bytes[0..3].copy_from_slice(&part.device);
+    bytes[3..13].copy_from_slice(&part.name);
+    bytes[13..16].copy_from_slice(&last_code.to_le_bytes()[0..3]);
+    bytes[16..19].copy_from_slice(&last_data.to_le_bytes()[0..3]);
+    bytes[19..22].copy_from_slice(&part.version);
+    bytes
+}
+
+/// A1h's eight bytes, in the order A0h reads them (000 3.10.3).
+fn options_data(options: &Options) -> [u8; 8] {
+    let start = options.start.to_le_bytes();
+    let end = options.end.to_le_bytes();
+    [
+        options.flags,
+        options.boot,
+        start[0],
+        start[1],
+        end[0],
+        end[1],
+        0xFF,
+        0xFF,
+    ]
+}
+
+/// A2h after its protection: 1Bh unless all flash is blank (000 3.11.1).
+fn release(part: &Part, chip: &mut Chip, flash: &Flash, reply: &mut Reply) {
+    if !flash.is_blank() {
+        reply.frame(&[NOT_BLANK]);
+        return;
+    }
+    let fresh = fresh_options(part);
+    chip.options.flags = fresh.flags;
+    chip.options.start = fresh.start;
+    chip.options.end = fresh.end;
+    reply.frame(&[ACK]);
+}
+
+// The data frame of A0h: 01 "Commands"
+
+/// Whatever the answer, the command is over.
+fn hear_options(part: &Part, chip: &mut Chip, frame: &Frame, reply: &mut Reply) {
+    chip.phase = Phase::Ready;
+    match judge_options(part, &chip.options, frame) {
+        Ok(options) => {
+            chip.options = options;
+            reply.frame(&[ACK]);
+        }
+        Err(status) => reply.frame(&[status]),
+    }
+}
+
+fn judge_options(part: &Part, stored: &Options, frame: &Frame) -> Result<Options, u8> {
+    judge_ends(frame, LAST_FOOTER)?;
+    let [flags, boot, start_low, start_high, end_low, end_high, reserved @ ..] = frame.body()
+    else {
+        return Err(NACK);
+    };
+    if reserved.len() != 2 {
+        return Err(NACK);
+    }
+    let asked = Options {
+        flags: *flags,
+        boot: *boot,
+        start: u16::from_le_bytes([*start_low, *start_high]),
+        end: u16::from_le_bytes([*end_low, *end_high]),
+    };
+    if reserved != [0xFF, 0xFF] || !options_fit(part, &asked) {
+        return Err(PARAMETER);
+    }
+    let allowed_anew = asked.flags & !stored.flags;
+    if allowed_anew != 0 {
+        return Err(PROTECTED);
+    }
+    Ok(asked)
+}
+
+// The pages of 40h and 13h: 01 "Commands"
+
+impl Pages {
+    fn awaited(self) -> Phase {
+        Phase::Awaiting {
+            command: self.command,
+            next: self.next,
+            last: self.last,
+        }
+    }
+
+    /// The address tells the last page, never the frame's own footer.
+    fn on_last(self) -> bool {
+        self.next + (PAGE - 1) == self.last
+    }
+
+    fn footer(self) -> u8 {
+        if self.on_last() {
+            LAST_FOOTER
+        } else {
+            MORE_FOOTER
+        }
+    }
+
+    fn after_this(self) -> Phase {
+        if self.on_last() {
+            Phase::Ready
+        } else {
+            Pages {
+                next: self.next + PAGE,
+                ..self
+            }
+            .awaited()
+        }
+    }
+}
+
+fn hear_page(
+    part: &Part,
+    chip: &mut Chip,
+    pages: Pages,
+    frame: &Frame,
+    flash: &mut Flash,
+    reply: &mut Reply,
+) {
+    chip.phase = Phase::Ready;
+    if let Err(status) = judge_page(pages, frame) {
+        reply.frame(&[status, status]);
+        return;
+    }
+    // Refusal 9 has let through no next address outside flash.
+    let Some(here) = place(part, pages.next) else {
+        return;
+    };
+    let range = Range {
+        area: here.area,
+        first: here.offset,
+        end: here.offset + PAGE,
+    };
+    let second = if pages.command == PROGRAM {
+        store_page(flash.bytes_mut(range), frame.body())
+    } else {
+        compare_page(flash.bytes(range), frame.body())
+    };
+    reply.frame(&[ACK, second]);
+    if second != ACK {
+        return;
+    }
+    chip.phase = pages.after_this();
+    if pages.command == PROGRAM && pages.on_last() {
+        reply.frame(&[ACK]);
+    }
+}
+
+fn judge_page(pages: Pages, frame: &Frame) -> Result<(), u8> {
+    judge_ends(frame, pages.footer())?;
+    if frame.body().len() == PAGE {
+        Ok(())
+    } else {
+        Err(NACK)
+    }
+}
+
+/// Stored only where all was FFh; else nothing is (01 "Commands").
+fn store_page(flash: &mut [u8], page: &[u8]) -> u8 {
+    if !all_erased(flash) {
+        return NOT_WRITTEN;
+    }
+    flash.copy_from_slice(page);
+    ACK
+}
+
+/// 0Fh at once, not at the last page as in 000 3.5.3 (01 *ours*).
+fn compare_page(flash: &[u8], page: &[u8]) -> u8 {
+    if flash == page {
+        ACK
+    } else {
+        UNEQUAL
+    }
+}

@@ -1,0 +1,7 @@
+//! The twin: a second chip and replay, written from the documents alone (01 "How tightly things are promised").
+#![forbid(unsafe_code)]
+
+pub mod chip;
+pub mod frame;
+pub mod random;
+pub mod replay;

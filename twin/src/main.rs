@@ -1,0 +1,60 @@
+//! The twin's program: replays a capture (01 "Replay"), and makes random captures to replay.
+
+use std::env;
+use std::fs::File;
+use std::io::{self, BufReader, BufWriter, Read, Write};
+use std::process::ExitCode;
+
+use twin::random::{random_capture, Tally};
+use twin::replay::replay;
+
+const USAGE: &str = "usage: twin replay [FILE]
+       twin capture SEED          (writes the random capture of that seed)
+       twin count SEED CAPTURES   (replays that many, prints how often each status came)";
+
+fn main() -> ExitCode {
+    let words: Vec<String> = env::args().skip(1).collect();
+    let words: Vec<&str> = words.iter().map(String::as_str).collect();
+    let result = match words[..] {
+        ["replay"] => print_replay(io::stdin().lock()),
+        ["replay", path] => File::open(path).and_then(print_replay),
+        ["capture", seed] => number(seed).and_then(write_capture),
+        ["count", seed, captures] => number(seed)
+            .and_then(|seed| Ok((seed, number(captures)?)))
+            .and_then(|(seed, captures)| print_counts(seed, captures)),
+        _ => Err(io::Error::other(USAGE)),
+    };
+    match result {
+        Ok(()) => ExitCode::SUCCESS,
+        Err(error) => {
+            eprintln!("{error}");
+            ExitCode::FAILURE
+        }
+    }
+}
+
+fn number(word: &str) -> io::Result<u64> {
+    word.parse().map_err(io::Error::other)
+}
+
+fn print_replay<R: Read>(capture: R) -> io::Result<()> {
+    let mut output = BufWriter::new(io::stdout().lock());
+    replay(BufReader::new(capture), &mut output, |_| ())?;
+    output.flush()
+}
+
+fn write_capture(seed: u64) -> io::Result<()> {
+    let mut output = io::stdout().lock();
+    output.write_all(&random_capture(seed))?;
+    output.flush()
+}
+
+fn print_counts(seed: u64, captures: u64) -> io::Result<()> {
+    let mut tally = Tally::new();
+    for offset in 0..captures {
+        let capture = random_capture(seed.wrapping_add(offset));
+        replay(&capture[..], io::sink(), |answer| tally.hear(answer))?;
+    }
+    print!("{tally}");
+    Ok(())
+}

@@ -1,0 +1,187 @@
+//! A recorded capture played into a fresh chip, its replies as lines of hex (01 "Replay").
+
+use std::io::{self, Read, Write};
+
+use crate::chip::{step, Answer, Chip, Event, Part, BLOCK, ERASED, SMALLEST_ROOM};
+use crate::frame::counted;
+
+pub const RECORD: usize = 8;
+/// The most bytes one record carries.
+pub const CARRIED: usize = 6;
+
+const GAP: u8 = 0x00;
+const BYTES: u8 = 0x01;
+
+/// The part of the replay; device code, name and version as in 000 table 3-2, its misprint mended.
+pub fn replay_part() -> Part {
+    Part {
+        code_blocks: 16,
+        data_blocks: 4,
+        clock: 32,
+        device: [0x10, 0x00, 0x06],
+        name: *b"R5F100LE  ",
+        version: [0x01, 0x02, 0x03],
+    }
+}
+
+/// How a replay ended.
+#[derive(Clone, Copy, Debug, PartialEq, Eq)]
+pub enum Outcome {
+    /// Count of reply frames.
+    End(u64),
+    /// Number of the bad or short record.
+    Bad(u64),
+}
+
+/// A record judged good.
+#[derive(Clone, Copy, Debug, PartialEq, Eq)]
+pub enum Record {
+    Gap,
+    Bytes { bytes: [u8; CARRIED], count: usize },
+}
+
+/// A record is judged whole before any of its bytes is heard.
+pub fn judge_record(record: &[u8; RECORD]) -> Option<Record> {
+    let [kind, count, bytes @ ..] = *record;
+    let count = usize::from(count);
+    let unused_clear = |from: usize| bytes[from..].iter().all(|byte| *byte == 0x00);
+    match kind {
+        GAP if count == 0 && unused_clear(0) => Some(Record::Gap),
+        BYTES if (1..=CARRIED).contains(&count) && unused_clear(count) => {
+            Some(Record::Bytes { bytes, count })
+        }
+        _ => None,
+    }
+}
+
+/// The chip's whole answer to one event.
+#[derive(Clone, Debug, PartialEq, Eq)]
+pub struct Reply {
+    pub bytes: Vec<u8>,
+    pub frames: usize,
+}
+
+/// A fresh chip with its flash.
+pub struct Player {
+    pub part: Part,
+    pub chip: Chip,
+    pub code: Vec<u8>,
+    pub data: Vec<u8>,
+}
+
+impl Player {
+    pub fn fresh() -> Player {
+        let part = replay_part();
+        let chip = Chip::fresh(&part).expect("the replay part is inside 01's numbers");
+        let code = vec![ERASED; part.code_blocks as usize * BLOCK];
+        let data = vec![ERASED; part.data_blocks as usize * BLOCK];
+        Player {
+            part,
+            chip,
+            code,
+            data,
+        }
+    }
+
+    pub fn hear(&mut self, event: Event) -> Reply {
+        let mut room = [0; SMALLEST_ROOM];
+        let answer = step(
+            &self.part,
+            &mut self.chip,
+            event,
+            &mut self.code,
+            &mut self.data,
+            &mut room,
+        );
+        match answer {
+            Answer::Replied { bytes, frames } => Reply {
+                bytes: room[..bytes].to_vec(),
+                frames,
+            },
+            // the player lends what the chip asks for, and only the chip changes its state.
+            Answer::Refused(number) => unreachable!("refused with {number}"),
+        }
+    }
+}
+
+/// Plays a capture; every answer with at least one frame is also shown to `heard`.
+pub fn replay<R: Read, W: Write>(
+    mut capture: R,
+    mut output: W,
+    mut heard: impl FnMut(&[u8]),
+) -> io::Result<Outcome> {
+    let mut player = Player::fresh();
+    let mut frames = 0;
+    let mut number = 0;
+    let mut record = [0; RECORD];
+    loop {
+        let got = read_up_to(&mut capture, &mut record)?;
+        if got == 0 {
+            writeln!(output, "END {frames}")?;
+            return Ok(Outcome::End(frames));
+        }
+        let whole = got == RECORD;
+        let Some(good) = judge_record(&record).filter(|_| whole) else {
+            writeln!(output, "BAD {number}")?;
+            return Ok(Outcome::Bad(number));
+        };
+        for event in events(good) {
+            let reply = player.hear(event);
+            if reply.frames > 0 {
+                heard(&reply.bytes);
+            }
+            for frame in split_frames(&reply.bytes) {
+                writeln!(output, "{}", hex_line(frame))?;
+                frames += 1;
+            }
+        }
+        number += 1;
+    }
+}
+
+/// The replay of a capture held in memory, as text.
+pub fn replay_text(capture: &[u8]) -> String {
+    let mut output = Vec::new();
+    replay(capture, &mut output, |_| ()).expect("memory neither ends early nor fails");
+    String::from_utf8(output).expect("only hex, digits and capitals are written")
+}
+
+pub fn events(record: Record) -> Vec<Event> {
+    match record {
+        Record::Gap => vec![Event::Gap],
+        Record::Bytes { bytes, count } => bytes[..count]
+            .iter()
+            .map(|byte| Event::Byte(*byte))
+            .collect(),
+    }
+}
+
+/// The frames of an answer; they lie end to end.
+pub fn split_frames(mut answer: &[u8]) -> Vec<&[u8]> {
+    let mut frames = Vec::new();
+    while !answer.is_empty() {
+        let (frame, rest) = answer.split_at(counted(answer[1]) + 4);
+        frames.push(frame);
+        answer = rest;
+    }
+    frames
+}
+
+fn hex_line(bytes: &[u8]) -> String {
+    let pairs: Vec<String> = bytes.iter().map(|byte| format!("{byte:02X}")).collect();
+    pairs.join(" ")
+}
+
+/// Fills the buffer as far as the input goes; a reader may hand out less than asked each time.
+fn read_up_to<R: Read>(input: &mut R, buffer: &mut [u8]) -> io::Result<usize> {
+    let mut got = 0;
+    while got < buffer.len() {
+        match input.read(&mut buffer[got..]) {
+            Ok(0) => break,
+            Ok(count) => got += count,
+            Err(error) if error.kind() == io::ErrorKind::Interrupted => (),
+            Err(error) => return Err(error),
+        }
+    }
+    Ok(got)
+}

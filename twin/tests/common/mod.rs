@@ -1,0 +1,164 @@
+//! The bench the tests share: a part, its chip and flash, and frames written as 01 prints them (01 "Examples").
+// Each test file is its own crate and uses only some of this.
+#![allow(dead_code)]
+
+use twin::chip::{step, Answer, Chip, Event, Part, Phase};
+use twin::replay::replay_part;
+
+pub const FILLER: u8 = 0xA5;
+
+pub fn part_of(code_blocks: u32, data_blocks: u32, clock: u32) -> Part {
+    Part {
+        code_blocks,
+        data_blocks,
+        clock,
+        ..replay_part()
+    }
+}
+
+pub fn hex(text: &str) -> Vec<u8> {
+    text.split_whitespace()
+        .map(|pair| u8::from_str_radix(pair, 16).unwrap())
+        .collect()
+}
+
+/// SUM counted upwards and negated, not the way the twin does it.
+pub fn sum_of(bytes: &[u8]) -> u8 {
+    let total: u32 = bytes.iter().map(|byte| u32::from(*byte)).sum();
+    ((256 - total % 256) % 256) as u8
+}
+
+pub fn frame(header: u8, body: &[u8], footer: u8) -> Vec<u8> {
+    assert!((1..=256).contains(&body.len()));
+    let mut bytes = vec![header, (body.len() % 256) as u8];
+    bytes.extend_from_slice(body);
+    bytes.push(sum_of(&bytes[1..]));
+    bytes.push(footer);
+    bytes
+}
+
+pub fn command(body: &str) -> Vec<u8> {
+    frame(0x01, &hex(body), 0x03)
+}
+
+pub fn page(bytes: &[u8], footer: u8) -> Vec<u8> {
+    frame(0x02, bytes, footer)
+}
+
+pub fn ramp() -> Vec<u8> {
+    (0..=255).collect()
+}
+
+/// A mixed page, another for each number; not the same byte throughout.
+pub fn mixed(number: usize) -> Vec<u8> {
+    (0..256)
+        .map(|at| (at * 7 + number * 13 + at * at / 5) as u8)
+        .collect()
+}
+
+pub fn status(code: u8) -> Vec<Vec<u8>> {
+    vec![frame(0x02, &[code], 0x03)]
+}
+
+pub fn pair(first: u8, second: u8) -> Vec<Vec<u8>> {
+    vec![frame(0x02, &[first, second], 0x03)]
+}
+
+#[derive(Clone, PartialEq, Debug)]
+pub struct Bench {
+    pub part: Part,
+    pub chip: Chip,
+    pub code: Vec<u8>,
+    pub data: Vec<u8>,
+}
+
+impl Bench {
+    pub fn fresh(part: Part) -> Bench {
+        let chip = Chip::fresh(&part).unwrap();
+        let code = vec![0xFF; part.code_blocks as usize * 1024];
+        let data = vec![0xFF; part.data_blocks as usize * 1024];
+        Bench {
+            part,
+            chip,
+            code,
+            data,
+        }
+    }
+
+    /// The part of 01's examples, fresh and in phase 3.
+    pub fn ready() -> Bench {
+        Bench::ready_with(replay_part())
+    }
+
+    pub fn ready_with(part: Part) -> Bench {
+        let mut bench = Bench::fresh(part);
+        bench.chip.phase = Phase::Ready;
+        bench
+    }
+
+    pub fn awaiting(command: u8, next: usize, last: usize) -> Bench {
+        let mut bench = Bench::ready();
+        bench.chip.phase = Phase::Awaiting {
+            command,
+            next,
+            last,
+        };
+        bench
+    }
+
+    pub fn event(&mut self, event: Event) -> Vec<Vec<u8>> {
+        let mut room = [FILLER; 40];
+        match self.event_in(event, &mut room) {
+            Answer::Refused(number) => panic!("refused with {number}"),
+            Answer::Replied { bytes, frames } => {
+                assert!(room[bytes..].iter().all(|byte| *byte == FILLER));
+                let split = split(&room[..bytes]);
+                assert_eq!(split.len(), frames);
+                split
+            }
+        }
+    }
+
+    pub fn event_in(&mut self, event: Event, room: &mut [u8]) -> Answer {
+        step(
+            &self.part,
+            &mut self.chip,
+            event,
+            &mut self.code,
+            &mut self.data,
+            room,
+        )
+    }
+
+    pub fn say(&mut self, bytes: &[u8]) -> Vec<Vec<u8>> {
+        bytes
+            .iter()
+            .flat_map(|byte| self.event(Event::Byte(*byte)))
+            .collect()
+    }
+
+    pub fn say_hex(&mut self, text: &str) -> Vec<Vec<u8>> {
+        self.say(&hex(text))
+    }
+
+    pub fn say_command(&mut self, body: &str) -> Vec<Vec<u8>> {
+        self.say(&command(body))
+    }
+
+    pub fn gap(&mut self) {
+        assert!(self.event(Event::Gap).is_empty());
+    }
+}
+
+/// The frames of a reply, each with right LEN, SUM and footer.
+fn split(mut reply: &[u8]) -> Vec<Vec<u8>> {
+    let mut frames = Vec::new();
+    while !reply.is_empty() {
+        let body = usize::from(reply[1]);
+        let (one, rest) = reply.split_at(body + 4);
+        assert_eq!(one, frame(0x02, &one[2..2 + body], 0x03));
+        frames.push(one.to_vec());
+        reply = rest;
+    }
+    frames
+}
