@@ -5,14 +5,13 @@ ghost use Prim.Native.Nat.{_≤_, _<_, _^_, _+_, _%_};
 ghost use lib.Dec.{eqb};
 ghost use Rattle.words.specs.Words.{_or_};
 ghost use Rattle.effect.specs.Effect.{flash, effect};
-ghost use mathlib.Core.List.{map};
-ghost use Rattle.chip.specs.declared.Event.the-variants.{Byte};
-ghost use Rattle.chip.specs.Run.{run, before};
+ghost use Rattle.chip.specs.Run.{before, fed, feedOf};
 ghost use Rattle.chip.specs.inner.Ways.{completesAt, wayOn, wayOf};
 ghost use Rattle.chip.specs.Step.{sameArea, goodPlaces, goodAwaited, goodPhase, goodBegun, goodCollected, goodCore, goodState, verdictOf, modeByte, poweredOn, frameDoes, outcome, stepOf, freshOf};
 use super::Answer;
 use super::Chip;
 use super::Event;
+use super::Fed;
 use super::Step;
 use effect::Awaited;
 use effect::Core;
@@ -412,7 +411,8 @@ pub fn fresh(part: Part) -> Step
     }
 }
 
-// Bytes one after the other, each a step; the answer is that to the last.
+// Bytes one after the other, each a step, up to the first that is answered: its reply is in the room, and the rest of the bytes is the caller's to hand in
+// again. A byte that is refused is not taken.
 pub fn feed(
     part: Part,
     chip: Chip,
@@ -420,8 +420,8 @@ pub fn feed(
     code: &mut [u8],
     data: &mut [u8],
     room: &mut [u8],
-) -> Step
-    ensures { λ r. ⌜ outcome r (flash (now (code .exit)) (now («data» .exit))) (now (room .exit)) ≡ run part (map Byte (now (bytes .entry))) (before chip (flash (now (code .entry)) (now («data» .entry))) (now (room .entry))) ⌝ }
+) -> Fed
+    ensures { λ r. ⌜ fed r (flash (now (code .exit)) (now («data» .exit))) (now (room .exit)) ≡ feedOf part (now (bytes .entry)) (before chip (flash (now (code .entry)) (now («data» .entry))) (now (room .entry))) ⌝ }
 {
     let mut last = Step {
         answer: Answer::Replied {
@@ -436,6 +436,35 @@ pub fn feed(
         i = i + 1;
         let next = last.chip;
         last = step(part, next, Event::Byte(b), code, data, room);
+        let answer = last.answer;
+        let chip = last.chip;
+        match answer {
+            Answer::Replied {
+                bytes: n,
+                frames: f,
+            } => {
+                if 0 < f {
+                    return Fed {
+                        taken: i,
+                        answer,
+                        chip,
+                    };
+                }
+            }
+            Answer::Refused(refusal) => {
+                return Fed {
+                    taken: i - 1,
+                    answer,
+                    chip,
+                };
+            }
+        }
     }
-    last
+    let answer = last.answer;
+    let chip = last.chip;
+    Fed {
+        taken: i,
+        answer,
+        chip,
+    }
 }

@@ -1,6 +1,7 @@
 -- No second outcome for the callable functions of `chip`, each over the contract that its own `ensures` generates.
 -- Assumes nothing.
 use denote.Ref.{now}
+use Rattle.chip.specs.Run.{fed}
 use Rattle.chip.specs.Step.{outcome}
 use Rattle.claims_outcome.proofs.Outcome.{OneOutcome, one-outcome}
 use Rattle.effect.specs.Effect.{flash}
@@ -20,5 +21,5 @@ events-step-once κs a = one-outcome (events-step.Post κs a) (λ r x. outcome r
 pub events-fresh-once : (κs : Lfts 0) (a : Dens κs events-fresh-kinds.ps) → OneOutcome {R = resT events-fresh-kinds.r κs .Denot} {X = AtExit (endedOf 0 events-fresh-kinds.ps events-fresh-kinds.r) κs} (events-fresh.Post κs a) (λ r x. r)
 events-fresh-once κs a = one-outcome (events-fresh.Post κs a) (λ r x. r) _ (λ r x p. p)
 
-pub events-feed-once : (κs : Lfts 4) (a : Dens κs events-feed-kinds.ps) → OneOutcome {R = resT events-feed-kinds.r κs .Denot} {X = AtExit (endedOf 4 events-feed-kinds.ps events-feed-kinds.r) κs} (events-feed.Post κs a) (λ r x. outcome r (flash (now (x .1 .1 .1 .0)) (now (x .1 .1 .1 .1 .0))) (now (x .1 .1 .1 .1 .1 .0)))
-events-feed-once κs a = one-outcome (events-feed.Post κs a) (λ r x. outcome r (flash (now (x .1 .1 .1 .0)) (now (x .1 .1 .1 .1 .0))) (now (x .1 .1 .1 .1 .1 .0))) _ (λ r x p. p)
+pub events-feed-once : (κs : Lfts 4) (a : Dens κs events-feed-kinds.ps) → OneOutcome {R = resT events-feed-kinds.r κs .Denot} {X = AtExit (endedOf 4 events-feed-kinds.ps events-feed-kinds.r) κs} (events-feed.Post κs a) (λ r x. fed r (flash (now (x .1 .1 .1 .0)) (now (x .1 .1 .1 .1 .0))) (now (x .1 .1 .1 .1 .1 .0)))
+events-feed-once κs a = one-outcome (events-feed.Post κs a) (λ r x. fed r (flash (now (x .1 .1 .1 .0)) (now (x .1 .1 .1 .1 .0))) (now (x .1 .1 .1 .1 .1 .0))) _ (λ r x p. p)

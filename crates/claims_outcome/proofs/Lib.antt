@@ -7,3 +7,5 @@ pub mod Options
 pub mod Reply
 pub mod Effect
 pub mod Chip
+pub mod Capture
+pub mod Records

@@ -13,45 +13,13 @@ use lib.Seq.{append-snoc, drop-cons, drop-drop, drop-length, length-take-le, set
 use borrow.Author.Tests.{eq-eqb, eqb-true}
 use Rattle.flash.specs.Flash.{blank, eraseOf, erased, same}
 use Rattle.lent.proofs.Laws.{put-lands, put-short}
-use Rattle.lent.specs.Lent.{Left, left, putAt, putOf}
+use Rattle.lent.specs.Lent.{Left, allAre, left, putAt, putOf}
 use Rattle.lent.specs.declared.Room.{Room}
 use Rattle.lent.specs.declared.Room.the-variants.{Enough, Short}
-use Rattle.words.proofs.Laws.{and-both, and-left, and-right}
+use Rattle.words.proofs.Laws.{and-assoc, and-both, and-false, and-left, and-right, and-true}
 use Rattle.words.specs.Words.{_and_}
 
-and-assoc : (a b c : Bool) → (a and b) and c ≡ a and (b and c)
-unfolding _and_
-and-assoc true b c = refl
-and-assoc false b c = refl
-
-and-true : (a : Bool) → a and true ≡ a
-unfolding _and_
-and-true true = refl
-and-true false = refl
-
-and-false : {b : Bool} (a : Bool) → false ≡ b → false ≡ a and b
-unfolding _and_
-and-false true e = e
-and-false false e = refl
-
--- How far the blank test has come: t is what the flag makes of the rest.
-pub record BlankFrom (ok : Bool) (bs : List ℕ) (i : ℕ) (t : Bool) : Type 0 where
-  pub rest : ok and blank (drop i bs) ≡ t
-
-pub blank-start : (bs : List ℕ) → BlankFrom true bs 0 (blank bs)
-unfolding _and_
-blank-start bs = record { rest = refl }
-
-pub blank-turn : {ok r t : Bool} {bs : List ℕ} {i : ℕ} → BlankFrom ok bs i t → r ≡ (ok and eqb (getD bs i 0) erased) → i < length bs
-    → BlankFrom r bs (i + 1) t
-unfolding blank
-blank-turn {ok} {r} {t} {bs} {i} f e h = record { rest = rw (e, add-one, and-assoc) (rw (drop-cons bs i 0 h) at (f .rest)) }
-
-pub blank-end : {ok t : Bool} {bs : List ℕ} {i : ℕ} → BlankFrom ok bs i t → length bs ≤ i → ok ≡ t
-unfolding blank
-blank-end {ok} {t} {bs} {i} f h = rw (drop-of-length-le bs h, and-true) at (f .rest)
-
--- The same for two lists of one length.
+-- How far the comparison of two lists of one length has come: t is what the flag makes of the rest.
 pub record SameFrom (ok : Bool) (bs cs : List ℕ) (i : ℕ) (t : Bool) : Type 0 where
   pub rest : ok and same (drop i bs) (drop i cs) ≡ t
 
@@ -89,13 +57,13 @@ same-apart (b ∷ bs) [] d = refl
 same-apart (b ∷ bs) (c ∷ cs) d = and-false (eqb b c) (same-apart bs cs (λ e. d (ap suc e)))
 
 pub blank-erased : (n : ℕ) → blank (replicate n erased) ≡ true
-unfolding blank
+unfolding blank allAre
 blank-erased zero = refl
 blank-erased (suc n) = and-both refl (blank-erased n)
 
 -- Blank bytes are so many bytes FFh, and nothing else.
 pub blank-is : (bs : List ℕ) → blank bs ≡ true → bs ≡ replicate (length bs) erased
-unfolding blank
+unfolding blank allAre
 blank-is [] t = refl
 blank-is (b ∷ bs) t =
     ap (λ (x : ℕ). x ∷ bs) (eqb-true b erased (and-left _ _ t)) ∙ ap (λ (r : List ℕ). erased ∷ r) (blank-is bs (and-right (eqb b erased) _ t))

@@ -1,11 +1,11 @@
 -- Work on lent flash bytes, as definitions on lists: document 01, "The part" ("Erased means FFh.") and the work of 22h, 32h, 40h, 13h and B0h.
-use mathlib.Core.Bool.{Bool, true, false}
+use mathlib.Core.Bool.{Bool, false, true}
 use mathlib.Core.List.{List, [], _∷_}
 use Prim.Native.Nat.{ℕ}
 use lib.Dec.{eqb}
 use lib.ListN.{replicate}
 use Rattle.frame.specs.Sum.{lessAll}
-use Rattle.lent.specs.Lent.{Left, putOf}
+use Rattle.lent.specs.Lent.{Left, allAre, putOf}
 use Rattle.words.specs.Words.{_and_}
 
 abbrev pub erased : ℕ
@@ -13,8 +13,7 @@ erased = 0xFF
 
 -- These bytes are all FFh.
 unfoldable pub blank : List ℕ → Bool
-blank [] = true
-blank (b ∷ bs) = eqb b erased and blank bs
+blank bs = allAre erased bs
 
 -- The bytes are equal, one for one.
 unfoldable pub same : List ℕ → List ℕ → Bool

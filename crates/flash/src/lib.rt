@@ -1,28 +1,15 @@
 // Work on lent flash bytes: are they blank, set some to FFh, store some, are they equal, their 16-bit sum. Each is total, and every byte outside the
 // named stretch stays. What the bytes mean stands in the chip.
 ghost use mathlib.Core.Path.{_≡_};
-ghost use lib.Dec.{eqb};
 ghost use lib.ListN.{length, replicate};
 ghost use Rattle.lent.specs.Lent.{left, putOf};
 ghost use Rattle.flash.specs.Flash.{blank, same, erased, eraseOf, sumOfBytes};
-ghost use Rattle.words.specs.Words.{_and_};
 use lent::Room;
-
-// One turn of a test that carries its answer and never returns early: such a loop takes many bytes at once.
-fn keep(ok: bool, a: u8, b: u8) -> bool
-    ensures { λ r. ⌜ r ≡ (ok and eqb a b) ⌝ }
-{
-    ok && a == b
-}
 
 pub fn is_blank(bytes: &[u8]) -> bool
     ensures { λ r. ⌜ r ≡ blank (now (bytes .entry)) ⌝ }
 {
-    let mut ok = true;
-    for i in 0..bytes.len() {
-        ok = keep(ok, bytes[i], 0xFF);
-    }
-    ok
+    lent::are_all(bytes, 0xFF)
 }
 
 pub fn is_same(bytes: &[u8], others: &[u8]) -> bool
@@ -33,7 +20,7 @@ pub fn is_same(bytes: &[u8], others: &[u8]) -> bool
     }
     let mut ok = true;
     for i in 0..bytes.len() {
-        ok = keep(ok, bytes[i], others[i]);
+        ok = lent::keep(ok, bytes[i], others[i]);
     }
     ok
 }

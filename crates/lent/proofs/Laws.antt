@@ -1,17 +1,20 @@
 -- Laws about bytes put into lent room, and about a frame or a reply that is written from the room's start, piece by piece.
 -- Assumes nothing.
+use mathlib.Core.Bool.{Bool, true}
 use mathlib.Core.List.{List, [], _++_, _∷_, append-assoc, append-nil}
 use mathlib.Core.Path.{_∙_, _≡_, ap, refl}
 use Prim.Native.Nat.{_+_, _-_, _<_, _≤_, suc, ℕ}
 use native.Mathlib.Numerals.{add-one}
 use native.Mathlib.Omega.{arith}
-use lib.ListN.{drop, drop-of-length-le, length, length-append, length-drop, set, take}
+use lib.Dec.{eqb}
+use lib.ListN.{drop, drop-of-length-le, getD, length, length-append, length-drop, set, take}
 use lib.Seq.{append-snoc, drop-append-add, drop-cons, drop-drop, set-append-seam, take-all, take-append-seam, take-length}
 use borrow.Author.Tests.{le-leb, lt-leb}
-use Rattle.lent.specs.Lent.{Left, left, putAt, putOf}
+use Rattle.lent.specs.Lent.{Left, allAre, left, putAt, putOf}
 use Rattle.lent.specs.declared.Room.{Room}
 use Rattle.lent.specs.declared.Room.the-variants.{Enough, Short}
-use Rattle.words.specs.Words.{if_then_else_}
+use Rattle.words.proofs.Laws.{and-assoc, and-true}
+use Rattle.words.specs.Words.{_and_, if_then_else_}
 
 pub put-short : (l : List ℕ) (at : ℕ) (s : List ℕ) → length l < at + length s → left Short l ≡ putOf l at s
 unfolding putOf if_then_else_
@@ -63,3 +66,20 @@ written-put {w} {r} {l} {l′} {a} at s p e f h =
     let i : l′ ≡ (w ++ s) ++ drop (length (w ++ s)) r =
     ap (λ (x : Left). x .bytes) v ∙ rw (n, p .is, f, take-append-seam, drop-append-add, drop-drop) in
     record { is = i; room = m; long = ap length i ∙ is-long (w ++ s) r m }
+
+-- How far a test that each byte is v has come: t is what the flag makes of the rest.
+pub record AllFrom (v : ℕ) (ok : Bool) (bs : List ℕ) (i : ℕ) (t : Bool) : Type 0 where
+  pub rest : ok and allAre v (drop i bs) ≡ t
+
+pub all-start : (v : ℕ) (bs : List ℕ) → AllFrom v true bs 0 (allAre v bs)
+unfolding _and_
+all-start v bs = record { rest = refl }
+
+pub all-turn : {v : ℕ} {ok r t : Bool} {bs : List ℕ} {i : ℕ} → AllFrom v ok bs i t → r ≡ (ok and eqb (getD bs i 0) v) → i < length bs
+    → AllFrom v r bs (i + 1) t
+unfolding allAre
+all-turn {v} {ok} {r} {t} {bs} {i} f e h = record { rest = rw (e, add-one, and-assoc) (rw (drop-cons bs i 0 h) at (f .rest)) }
+
+pub all-end : {v : ℕ} {ok t : Bool} {bs : List ℕ} {i : ℕ} → AllFrom v ok bs i t → length bs ≤ i → ok ≡ t
+unfolding allAre
+all-end {v} {ok} {t} {bs} {i} f h = rw (drop-of-length-le bs h, and-true) at (f .rest)

@@ -1,11 +1,12 @@
--- Bytes put at a place in lent room: what is there afterwards, and the answer.
-use mathlib.Core.List.{List, _++_}
+-- Bytes put at a place in lent room: what is there afterwards, and the answer. Bytes that all have one value.
+use mathlib.Core.Bool.{Bool, true}
+use mathlib.Core.List.{List, [], _++_, _∷_}
 use Prim.Native.Nat.{_+_, ℕ}
-use lib.Dec.{leb}
+use lib.Dec.{eqb, leb}
 use lib.ListN.{drop, length, take}
 use Rattle.lent.specs.declared.Room.{Room}
 use Rattle.lent.specs.declared.Room.the-variants.{Enough, Short}
-use Rattle.words.specs.Words.{if_then_else_}
+use Rattle.words.specs.Words.{_and_, if_then_else_}
 
 -- l with the bytes s from the place at on; every other byte stays.
 unfoldable pub putAt : List ℕ → ℕ → List ℕ → List ℕ
@@ -21,3 +22,8 @@ left a l = record { answer = a; bytes = l }
 
 unfoldable pub putOf : List ℕ → ℕ → List ℕ → Left
 putOf l at s = if leb (at + length s) (length l) then left Enough (putAt l at s) else left Short l
+
+-- Each of these bytes is v.
+unfoldable pub allAre : ℕ → List ℕ → Bool
+allAre v [] = true
+allAre v (b ∷ bs) = eqb b v and allAre v bs

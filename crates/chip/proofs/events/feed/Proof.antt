@@ -1,15 +1,14 @@
--- `chip::events::feed` meets its contract: what the bytes still to come make of the last step's outcome stays the same from turn to turn.
+-- `chip::events::feed` meets its contract: what the bytes still to come make of the last step's outcome stays the same from turn to turn, until one is
+-- answered or refused.
 -- Assumes nothing.
-use mathlib.Core.List.{map}
 use mathlib.Core.Path.{_∙_, _≡_, refl}
-use Prim.Native.Nat.{_-_, _≤_}
+use Prim.Native.Nat.{_+_, _-_, _≤_}
 use native.Mathlib.Omega.{arith}
 use lib.ListN.{length}
 use borrow.Author.Needs.{needs}
-use Rattle.chip.proofs.Feeding.{Fed, fed-end, fed-start, fed-turn}
-use Rattle.chip.specs.Run.{run}
+use Rattle.chip.proofs.Feeding.{FedFrom, fed-end, fed-refused, fed-said, fed-start, fed-turn}
+use Rattle.chip.specs.Run.{feedOf}
 use Rattle.chip.specs.Step.{outcome}
-use Rattle.chip.specs.declared.Event.the-variants.{Byte}
 use Rattle.effect.specs.Effect.{flash}
 use Rattle.chip.proofs.events.feed.Statement.{statement}
 use Rattle.chip.proofs.events.feed.Tie as tie
@@ -20,7 +19,7 @@ Inv-loop part bytes code₀ data₀ room₀ last₀ i₀ code «data» room last
     × (length code ≡ length code₀)
     × (length «data» ≡ length data₀)
     × (length room ≡ length room₀)
-    × Fed part bytes i (outcome last (flash code «data») room) (run part (map Byte bytes) (outcome last₀ (flash code₀ data₀) room₀))
+    × FedFrom part bytes i (outcome last (flash code «data») room) (feedOf part bytes (outcome last₀ (flash code₀ data₀) room₀))
 
 abbrev μ-loop : tie.MeasureT-loop
 μ-loop part bytes code₀ data₀ room₀ last₀ i₀ code «data» room last i = length bytes - i
@@ -30,15 +29,22 @@ loop-holds c = (omega arith, refl, refl, refl, fed-start _ _ _)
 
 loop-again : tie.Need-loop-again Inv-loop μ-loop
 loop-again c = (
-  omega (arith, c .before .before .before .before .before .before .before .before .before .before .before .before .loop-test .taken),
-  c .before .before .before .before .before .before .step .kept .1 .1 .1 .0 ∙ c .before .before .before .before .before .before .before .before .before .before .before .before .before .loop .inv .1,
-  c .before .before .before .before .before .before .step .kept .1 .1 .1 .1 .0 ∙ c .before .before .before .before .before .before .before .before .before .before .before .before .before .loop .inv .2,
-  c .before .before .before .before .before .before .step .kept .1 .1 .1 .1 .1 .0 ∙ c .before .before .before .before .before .before .before .before .before .before .before .before .before .loop .inv .3,
-  fed-turn (c .before .before .before .before .before .before .before .before .before .before .before .before .before .loop .inv .4) (c .before .before .before .before .before .before .step .ensures) (c .before .before .before .before .before .before .before .before .before .before .before .before .loop-test .taken),
+  omega (arith, c .before .before .before .before .before .before .before .before .before .before .before .before .before .before .before .before .before .loop-test .taken),
+  c .before .before .before .before .before .before .before .before .before .before .before .step .kept .1 .1 .1 .0 ∙ c .before .before .before .before .before .before .before .before .before .before .before .before .before .before .before .before .before .before .loop .inv .1,
+  c .before .before .before .before .before .before .before .before .before .before .before .step .kept .1 .1 .1 .1 .0 ∙ c .before .before .before .before .before .before .before .before .before .before .before .before .before .before .before .before .before .before .loop .inv .2,
+  c .before .before .before .before .before .before .before .before .before .before .before .step .kept .1 .1 .1 .1 .1 .0 ∙ c .before .before .before .before .before .before .before .before .before .before .before .before .before .before .before .before .before .before .loop .inv .3,
+  fed-turn (c .before .before .before .before .before .before .before .before .before .before .before .before .before .before .before .before .before .before .loop .inv .4) (c .before .before .before .before .before .before .before .before .before .before .before .step .ensures) (c .before .before .before .before .before .before .before .before .before .before .before .before .before .before .before .before .before .loop-test .taken) (c .before .before .answer .given .1) (c .if1 .left),
 )
 
 returns : tie.Need-returns Inv-loop μ-loop
-returns c = fed-end (c .before .loop .inv .4) (c .loop-test .left)
+returns c = fed-said (c .before .before .before .before .before .before .before .before .before .before .before .before .before .before .before .before .before .before .loop .inv .4) (c .before .before .before .before .before .before .before .before .before .before .before .step .ensures) (c .before .before .before .before .before .before .before .before .before .before .before .before .before .before .before .before .before .loop-test .taken) (c .before .before .answer .given .1) (c .if1 .taken)
+
+returns-2 : tie.Need-returns-2 Inv-loop μ-loop
+returns-2 c =
+    fed-refused (c .before .before .before .before .before .before .before .before .before .before .before .before .before .before .before .before .before .loop .i + 1 - 1) (c .before .before .before .before .before .before .before .before .before .before .before .before .before .before .before .before .before .loop .inv .4) (c .before .before .before .before .before .before .before .before .before .before .step .ensures) (c .before .before .before .before .before .before .before .before .before .before .before .before .before .before .before .before .loop-test .taken) (c .before .answer2 .given .1) (omega arith)
+
+returns-3 : tie.Need-returns-3 Inv-loop μ-loop
+returns-3 c = fed-end (c .before .before .loop .inv .4) (c .before .loop-test .left)
 
 pub feed-spec : {M : Type 1} → statement M
 feed-spec =
@@ -50,9 +56,20 @@ feed-spec =
     (λ c. omega arith)
     (λ c. omega arith)
     (λ c κs. search needs)
+    (λ c. search needs)
+    (λ c. search needs)
+    (λ c. search needs)
+    (λ c. search needs)
+    returns
     (λ c. omega arith)
     loop-again
     (λ c. search needs)
+    (λ c. omega arith)
     (λ c. search needs)
     (λ c. search needs)
-    returns)
+    (λ c. search needs)
+    returns-2
+    (λ c. search needs)
+    (λ c. search needs)
+    (λ c. search needs)
+    returns-3)

@@ -1,12 +1,10 @@
 -- `effect::pages::is_blank_page` meets its contract: the page's bytes are the definition's.
 -- Assumes nothing.
 use borrow.Author.Needs.{needs}
-use Rattle.flash.specs.Flash.{blank}
 use Rattle.effect.proofs.pages.is_blank_page.Statement.{statement}
 use Rattle.effect.proofs.pages.is_blank_page.Tie as tie
 
 returns : tie.Need-returns
-unfolding blank
 returns c = simp (← c .before .page-bytes .ensures, ← c .is-blank .ensures)
 
 pub is-blank-page-spec : {M : Type 1} → statement M

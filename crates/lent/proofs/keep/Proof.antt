@@ -1,8 +1,8 @@
--- `flash::keep` meets its contract: what `&&` leaves is the definition's `and`.
+-- `lent::keep` meets its contract: what `&&` leaves is the definition's `and`.
 -- Assumes nothing.
 use Rattle.words.specs.Words.{_and_}
-use Rattle.flash.proofs.keep.Statement.{statement}
-use Rattle.flash.proofs.keep.Tie as tie
+use Rattle.lent.proofs.keep.Statement.{statement}
+use Rattle.lent.proofs.keep.Tie as tie
 
 returns : tie.Need-returns
 unfolding _and_

@@ -1,0 +1,138 @@
+-- Laws of what a step says: a reply lies in the room, has at most 31 bytes and two frames, and none without a frame.
+-- Assumes nothing.
+use mathlib.Core.Bool.{Bool, false, true}
+use mathlib.Core.List.{List, [], _∷_}
+use mathlib.Core.Path.{_∙_, _≡_, refl, sym}
+use Prim.Native.Nat.{_+_, _≤_, ℕ}
+use native.Mathlib.Omega.{arith}
+use lib.Dec.{eqb}
+use lib.ListN.{length, length-append}
+use Rattle.chip.proofs.Settling.{accepts}
+use Rattle.chip.specs.Run.{Feeding, before, fedOn, feedFrom, feedOf, feeding, onward}
+use Rattle.chip.specs.Step.{Outcome, Reaction, settled, stepOf}
+use Rattle.chip.specs.declared.Answer.{Answer}
+use Rattle.chip.specs.declared.Answer.the-variants.{Refused, Replied}
+use Rattle.chip.specs.declared.Chip.{Chip}
+use Rattle.chip.specs.declared.Event.{Event}
+use Rattle.chip.specs.declared.Event.the-variants.{Byte}
+use Rattle.effect.specs.Effect.{Flash}
+use Rattle.frame.proofs.Laws.Wire.{framed-long}
+use Rattle.frame.specs.declared.Footer.the-variants.{Last}
+use Rattle.frame.specs.declared.Header.the-variants.{Data}
+use Rattle.options.specs.declared.Options.{Options}
+use Rattle.part.specs.declared.Part.{Part}
+use Rattle.part.specs.declared.refusal.Refusal.{Refusal}
+use Rattle.part.specs.declared.refusal.Verdict.{Verdict}
+use Rattle.part.specs.declared.refusal.Verdict.the-variants.{Accepted, Barred}
+use Rattle.reply.proofs.Laws.{reply-long, send-keeps, send-lands}
+use Rattle.reply.specs.Reply.{framesOf, payloads, sendOf}
+use Rattle.reply.specs.declared.Reply.{Reply}
+use Rattle.reply.specs.declared.Reply.the-variants.{LastStored, Pair, Rate, Security, Signature, Silence, Status, Sum}
+use Rattle.words.specs.Words.{if_then_else_}
+
+-- The part's arrays have the lengths that their types give them.
+pub record Arrays (p : Part) : Type 0 where
+  pub device : length (p .device) ≡ 3
+  pub name : length (p .name) ≡ 10
+  pub version : length (p .version) ≡ 3
+
+pub record Fitting (a : Answer) (room : ℕ) : Type 0 where
+  pub long : (n k : ℕ) → a ≡ Replied n k → n ≤ 31
+  pub lies : (n k : ℕ) → a ≡ Replied n k → n ≤ room
+  pub few : (n k : ℕ) → a ≡ Replied n k → k ≤ 2
+  pub silent : (n : ℕ) → a ≡ Replied n 0 → n ≡ 0
+  pub framed : (n k : ℕ) → a ≡ Replied n k → k ≤ n
+
+few-payloads : (p : Part) (o : Options) (r : Reply) → length (payloads p o r) ≤ 2
+unfolding payloads
+few-payloads p o Silence = omega arith
+few-payloads p o (Status s) = omega arith
+few-payloads p o (Rate clock mode) = omega arith
+few-payloads p o (Pair s t) = omega arith
+few-payloads p o LastStored = omega arith
+few-payloads p o (Sum x) = omega arith
+few-payloads p o Signature = omega arith
+few-payloads p o Security = omega arith
+
+no-frames : (rs : List (List ℕ)) → length rs ≡ 0 → length (framesOf rs) ≡ 0
+unfolding framesOf
+no-frames [] e = refl
+no-frames (r ∷ rs) e = absurd (omega arith)
+
+frames-long : (rs : List (List ℕ)) → length rs ≤ length (framesOf rs)
+unfolding framesOf
+frames-long [] = omega arith
+frames-long (r ∷ rs) = rw (length-append, framed-long Data r Last) (omega (arith, frames-long rs))
+
+same-count : (a b n k : ℕ) → Replied a b ≡ Replied n k → (a ≡ n) × (b ≡ k)
+same-count a b n k e = (cc, cc)
+
+said-fits : (rs : List (List ℕ)) (room : ℕ) → length (framesOf rs) ≤ 31 → length rs ≤ 2 → 32 ≤ room → Fitting (Replied (length (framesOf rs)) (length rs)) room
+said-fits rs room l f h =
+    record {
+      long = λ n k e. omega (arith, same-count _ _ n k e .0);
+      lies = λ n k e. omega (arith, same-count _ _ n k e .0);
+      few = λ n k e. omega (arith, same-count _ _ n k e .1);
+      silent = λ n e. sym (same-count _ _ n 0 e .0) ∙ no-frames rs (same-count _ _ n 0 e .1);
+      framed = λ n k e. omega (arith, same-count _ _ n k e .0, same-count _ _ n k e .1, frames-long rs);
+    }
+
+refused-fits : (r : Refusal) (room : ℕ) → Fitting (Refused r) room
+refused-fits r room =
+    record {
+      long = λ n k e. absurd (let z : _≡_ {A = ℕ} 0 1 = cc in omega arith);
+      lies = λ n k e. absurd (let z : _≡_ {A = ℕ} 0 1 = cc in omega arith);
+      few = λ n k e. absurd (let z : _≡_ {A = ℕ} 0 1 = cc in omega arith);
+      silent = λ n e. absurd (let z : _≡_ {A = ℕ} 0 1 = cc in omega arith);
+      framed = λ n k e. absurd (let z : _≡_ {A = ℕ} 0 1 = cc in omega arith);
+    }
+
+settled-fits : (v : Verdict) (p : Part) (x : Reaction) (c : Chip) (m : Flash) (room : List ℕ) → Arrays p → (v ≡ Accepted → 32 ≤ length room)
+    → Fitting (settled v p x c m room .answer) (length (settled v p x c m room .room))
+unfolding settled
+settled-fits (Barred r) p x c m room a h = refused-fits r (length room)
+settled-fits Accepted p x c m room a h =
+    let rs = payloads p (x .does .core .options) (x .does .reply) in
+    let l : length (framesOf rs) ≤ 31 = reply-long p (x .does .core .options) (x .does .reply) (a .device) (a .name) (a .version) in
+    let k : length (sendOf rs room .room) ≡ length room = send-keeps rs room (omega arith) in
+    let f = said-fits rs (length room) l (few-payloads p (x .does .core .options) (x .does .reply)) (h refl) in
+    rw (k, send-lands rs room (h refl)) f
+
+pub step-fits : (p : Part) (c : Chip) (v : Event) (m : Flash) (room : List ℕ) → Arrays p
+    → Fitting (stepOf p c v m room .answer) (length (stepOf p c v m room .room))
+unfolding stepOf
+step-fits p c v m room a = settled-fits _ p _ c m room a (λ e. accepts p (c .core) _ _ _ _ _ (length room) e .roomy)
+
+fed-on-fits : (a : Answer) (n : ℕ) (x : Outcome) (rest : Feeding) → Fitting (x .answer) (length (x .room)) → Fitting (rest .left .answer) (length (rest .left .room))
+    → Fitting (fedOn a n x rest .left .answer) (length (fedOn a n x rest .left .room))
+unfolding fedOn if_then_else_
+fed-on-fits (Refused r) n x rest f g = f
+fed-on-fits (Replied b k) n x rest f g = go (eqb k 0)
+  where
+    go : (t : Bool) → Fitting ((if t then rest else feeding (n + 1) x) .left .answer) (length ((if t then rest else feeding (n + 1) x) .left .room))
+    go true = g
+    go false = f
+
+feed-from-fits : (p : Part) (n : ℕ) (bs : List ℕ) (o : Outcome) → Arrays p → Fitting (o .answer) (length (o .room))
+    → Fitting (feedFrom p n bs o .left .answer) (length (feedFrom p n bs o .left .room))
+unfolding feedFrom
+feed-from-fits p n [] o a f = f
+feed-from-fits p n (b ∷ bs) o a f =
+    let g = step-fits p (o .chip) (Byte b) (o .memory) (o .room) a in
+    fed-on-fits _ n _ _ g (feed-from-fits p (n + 1) bs (onward p o (Byte b)) a g)
+
+-- Before any event nothing has been said.
+none-fits : (room : ℕ) → Fitting (Replied 0 0) room
+none-fits room =
+    record {
+      long = λ n k e. omega (arith, same-count _ _ n k e .0);
+      lies = λ n k e. omega (arith, same-count _ _ n k e .0);
+      few = λ n k e. omega (arith, same-count _ _ n k e .1);
+      silent = λ n e. sym (same-count _ _ n 0 e .0);
+      framed = λ n k e. omega (arith, same-count _ _ n k e .0, same-count _ _ n k e .1);
+    }
+
+pub feed-fits : (p : Part) (bs : List ℕ) (c : Chip) (m : Flash) (room : List ℕ) → Arrays p
+    → Fitting (feedOf p bs (before c m room) .left .answer) (length (feedOf p bs (before c m room) .left .room))
+unfolding feedOf
+feed-fits p bs c m room a = feed-from-fits p 0 bs (before c m room) a (none-fits (length room))

@@ -1,0 +1,19 @@
+-- No second outcome for the callable functions of `records`, each over the contract that its own `ensures` generates.
+-- Assumes nothing.
+use denote.Ref.{now}
+use Rattle.claims_outcome.proofs.Outcome.{OneOutcome, one-outcome}
+use Rattle.effect.specs.Effect.{flash}
+use Rattle.records.specs.Records.{replaying, turning}
+use contract.Lifetimes.{Lfts}
+use denote.Triple.Clauses.{AtExit}
+use borrow.Fn.Kinds.{Dens, endedOf, resT}
+use Rattle.records.proofs.record.Reads as «record»
+use Rattle.records.proofs.record.Kinds as record-kinds
+use Rattle.records.proofs.replay.Reads as replay
+use Rattle.records.proofs.replay.Kinds as replay-kinds
+
+pub record-once : (κs : Lfts 5) (a : Dens κs record-kinds.ps) → OneOutcome {R = resT record-kinds.r κs .Denot} {X = AtExit (endedOf 5 record-kinds.ps record-kinds.r) κs} («record».Post κs a) (λ r x. turning r (flash (now (x .1 .1 .1 .0)) (now (x .1 .1 .1 .1 .0))) (now (x .1 .1 .1 .1 .1 .0)) (now (x .1 .1 .1 .1 .1 .1 .0)))
+record-once κs a = one-outcome («record».Post κs a) (λ r x. turning r (flash (now (x .1 .1 .1 .0)) (now (x .1 .1 .1 .1 .0))) (now (x .1 .1 .1 .1 .1 .0)) (now (x .1 .1 .1 .1 .1 .1 .0))) _ (λ r x p. p)
+
+pub replay-once : (κs : Lfts 5) (a : Dens κs replay-kinds.ps) → OneOutcome {R = resT replay-kinds.r κs .Denot} {X = AtExit (endedOf 5 replay-kinds.ps replay-kinds.r) κs} (replay.Post κs a) (λ r x. replaying r (flash (now (x .1 .1 .1 .0)) (now (x .1 .1 .1 .1 .0))) (now (x .1 .1 .1 .1 .1 .0)) (now (x .1 .1 .1 .1 .1 .1 .0)))
+replay-once κs a = one-outcome (replay.Post κs a) (λ r x. replaying r (flash (now (x .1 .1 .1 .0)) (now (x .1 .1 .1 .1 .0))) (now (x .1 .1 .1 .1 .1 .0)) (now (x .1 .1 .1 .1 .1 .1 .0))) _ (λ r x p. p)
