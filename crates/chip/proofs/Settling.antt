@@ -174,7 +174,7 @@ unfolding goodState
 state-collected p k count head len f t e = ap (λ (g : Phase). goodCollected g count head len) (sym e) ∙ and-left _ _ t
 
 -- One byte more is heard at most.
-hear-long : (h : Header) (hs : List ℕ) (b : ℕ) → length (hear h hs b) ≤ length hs + 1
+pub hear-long : (h : Header) (hs : List ℕ) (b : ℕ) → length (hear h hs b) ≤ length hs + 1
 unfolding hear if_then_else_
 hear-long h [] b = go (eqb b (headerByte h))
   where

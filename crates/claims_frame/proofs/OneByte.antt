@@ -11,21 +11,12 @@ use native.Mathlib.Omega.{arith}
 use lib.ListN.{drop, getD, length, length-drop, length-set, set, take}
 use lib.Seq.{drop-set-add, getD-drop, getD-set-other, getD-set-same, getD-take, length-take-le, take-set-le, take-set-lt}
 use Rattle.frame.proofs.Laws.Judgement.{GoodFrame, frame-long, good-is}
-use Rattle.frame.proofs.Laws.Sum.{Below, more, none, one-byte}
+use Rattle.frame.proofs.Laws.Sum.{Below, below-drop, below-take, one-byte}
 use Rattle.frame.specs.Frame.{footerByte, isFrame}
 use Rattle.frame.specs.Judgement.{judgeOf, summed}
 use Rattle.frame.specs.Sum.{lessAll, sumOf}
 use Rattle.frame.specs.declared.Footer.{Footer}
 use Rattle.frame.specs.declared.judgement.Judgement.the-variants.{Good}
-
-below-take : (m n : ℕ) (bs : List ℕ) → Below m bs → Below m (take n bs)
-below-take m zero bs b = none
-below-take m (suc n) [] none = none
-below-take m (suc n) (x ∷ xs) (more h r) = more h (below-take m n xs r)
-
-below-tail : (m : ℕ) (bs : List ℕ) → Below m bs → Below m (drop 1 bs)
-below-tail m [] none = none
-below-tail m (x ∷ xs) (more h r) = r
 
 pub record OneChanged (f : Footer) (bs : List ℕ) (i v : ℕ) : Type 0 where
   pub long : length (set bs i v) ≡ length bs
@@ -65,7 +56,7 @@ module _ (f : Footer) (bs : List ℕ) (i v : ℕ) (good : judgeOf f bs ≡ Good)
       let o : getD (set bs i v) (length bs - 2) 0 ≡ getD bs (length bs - 2) 0 = getD-set-other bs i (length bs - 2) v 0 (λ z. omega arith) in
       let g : getD (summed bs) (i - 1) 0 ≡ getD bs i 0 =
       getD-take (length bs - 3) (drop 1 bs) (i - 1) 0 (omega arith) ∙ getD-drop 1 bs (i - 1) 0 ∙ ap (λ (m : ℕ). getD bs m 0) (let z : 1 + (i - 1) ≡ i = omega arith in z) in
-      one-byte 256 0 (summed bs) (i - 1) v (omega arith) small (below-take 256 (length bs - 3) (drop 1 bs) (below-tail 256 bs bytes)) k
+      one-byte 256 0 (summed bs) (i - 1) v (omega arith) small (below-take 256 (length bs - 3) (below-drop 256 1 bytes)) k
       (λ z. changed (sym g ∙ z))
       (sym (ap (λ (x : List ℕ). lessAll 256 0 x) s) ∙ sym (rw length-set at e) ∙ o ∙ good-is f bs good .sum)
 

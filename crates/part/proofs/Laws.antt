@@ -152,7 +152,7 @@ module _ (p : Part) (start end : ℕ) (a : Area) (block count : ℕ) (st : Stret
         some = st .some;
       }
 
-  in-order : start ≤ end
+  pub in-order : start ≤ end
   in-order =
       let s = blockSize p a in
       let l : (block + 1) * s ≤ (block + count) * s = mul-le-mul-right s (omega (arith, st .some)) in
@@ -226,6 +226,25 @@ place-lies p at a offset block page e = go (liesIn p CodeFlash at) refl (liesIn 
     go true l u m e = in-area CodeFlash l e
     go false l true m e = in-area DataFlash m e
     go false l false m e = absurd (let z : _≡_ {A = ℕ} 0 1 = cc in omega arith)
+
+outside-code : (p : Part) (at : ℕ) → size p CodeFlash ≤ at → liesIn p CodeFlash at ≡ false
+unfolding liesIn _and_
+outside-code p at h = simp (leb·zero at, le-ltb _ _ (let z : 0 + size p CodeFlash ≤ at = omega arith in z))
+
+-- An address that lies in an area has its place there.
+pub lies-place : (p : Part) (a : Area) (at : ℕ) → described p ≡ true → LiesIn p a at → placeOf p at ≡ placeIn p a at
+unfolding placeOf if_then_else_
+lies-place p CodeFlash at d l = simp (lies-yes l)
+lies-place p DataFlash at d l = simp (outside-code p at (omega (arith, areas-apart p d, l .low)), lies-yes l)
+
+-- A good range, as addresses.
+pub stretch-whole : {p : Part} {start end : ℕ} {a : Area} {block count : ℕ} → Stretch p start end a block count → WholeIn p a start end
+stretch-whole {p} {start} {end} {a} {block} {count} st = whole-in p a start end (whole-yes p start end a block count st)
+
+-- What starts a block starts a page.
+pub block-page : (p : Part) (a : Area) (x : ℕ) → x % blockSize p a ≡ 0 → x % pageSize ≡ 0
+unfolding blockSize
+block-page p a x e = omega arith
 
 -- The numbers of a described part.
 pub record Described (p : Part) : Type 0 where

@@ -2,7 +2,7 @@
 -- Assumes nothing.
 use mathlib.Core.Bool.{Bool, false, false≢true, true}
 use mathlib.Core.Path.{_≡_, refl}
-use Rattle.words.specs.Words.{_and_}
+use Rattle.words.specs.Words.{_and_, _or_, if_then_else_}
 
 pub and-left : (a b : Bool) → a and b ≡ true → a ≡ true
 unfolding _and_
@@ -32,3 +32,18 @@ pub and-false : {b : Bool} (a : Bool) → false ≡ b → false ≡ a and b
 unfolding _and_
 and-false true e = e
 and-false false e = refl
+
+pub or-left : {a : Bool} (b : Bool) → a ≡ true → a or b ≡ true
+unfolding _or_
+or-left b p = simp p
+
+pub or-right : (a : Bool) {b : Bool} → b ≡ true → a or b ≡ true
+unfolding _or_
+or-right true q = refl
+or-right false q = q
+
+-- A claim about an if-then-else holds where it holds of each branch, the test having come out so.
+pub if-all : {A : Type 0} (P : A → Type 0) (t : Bool) {a b : A} → (t ≡ true → P a) → (t ≡ false → P b) → P (if t then a else b)
+unfolding if_then_else_
+if-all P true f g = f refl
+if-all P false f g = g refl

@@ -8,7 +8,7 @@ use native.Mathlib.Decide.{decLe}
 use native.Mathlib.Nat.{mod-eq-of-lt, mod-eq-sub-mod, suc-mul, zero-mul}
 use native.Mathlib.Numerals.{add-one}
 use native.Mathlib.Omega.{arith}
-use lib.ListN.{drop, drop-of-length-le, getD, length, set}
+use lib.ListN.{take, drop, drop-of-length-le, getD, length, set}
 use lib.Seq.{drop-cons}
 use borrow.Author.Tests.{le-leb, lt-leb}
 use Rattle.frame.specs.Sum.{less, lessAll}
@@ -53,6 +53,25 @@ less-wraps m r a b h k e = go (decLe m (r + b)) (cases m a b)
 pub data Below (m : ℕ) : List ℕ → Type 0 where
   none : Below m []
   more : {b : ℕ} {bs : List ℕ} → b < m → Below m bs → Below m (b ∷ bs)
+
+pub below-take : (m n : ℕ) {bs : List ℕ} → Below m bs → Below m (take n bs)
+below-take m zero b = none
+below-take m (suc n) none = none
+below-take m (suc n) (more h r) = more h (below-take m n r)
+
+pub below-drop : (m n : ℕ) {bs : List ℕ} → Below m bs → Below m (drop n bs)
+below-drop m zero b = b
+below-drop m (suc n) none = none
+below-drop m (suc n) (more h r) = below-drop m n r
+
+pub below-append : {m : ℕ} {bs cs : List ℕ} → Below m bs → Below m cs → Below m (bs ++ cs)
+below-append none c = c
+below-append (more h r) c = more h (below-append r c)
+
+pub below-at : {m : ℕ} {bs : List ℕ} (i : ℕ) → 0 < m → Below m bs → getD bs i 0 < m
+below-at i h none = h
+below-at zero h (more k r) = k
+below-at (suc i) h (more k r) = below-at i h r
 
 -- What SUM is: with all the bytes added it makes the start again, and a whole number of moduli, one for each borrow.
 pub total : List ℕ → ℕ

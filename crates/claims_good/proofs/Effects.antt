@@ -1,0 +1,161 @@
+-- What a complete frame does keeps the record good and both flashes as long as they were.
+-- Assumes nothing.
+use mathlib.Core.Bool.{false, true}
+use mathlib.Core.List.{List}
+use mathlib.Core.Path.{_≡_, refl}
+use Prim.Native.Nat.{ℕ}
+use lib.Dec.{eqb}
+use lib.ListN.{length}
+use borrow.Author.Tests.{leb-true, not-false}
+use Rattle.chip.specs.Step.{goodAwaited, goodPhase}
+use Rattle.claims_good.proofs.Awaited.{next-awaited, pagesOf, range-awaited, security-awaited}
+use Rattle.claims_good.proofs.Core.{GoodCore, enters, made-ready}
+use Rattle.effect.specs.Commands.{blankCheck, blockErase, checksum, commandDoes, erasedIn, programming, rateSet, securityRelease, verify, work}
+use Rattle.effect.specs.Effect.{Effect, Flash, bytesIn, effect, entered, withBytes}
+use Rattle.effect.specs.Pages.{badData, dataDoes, goodData, nextPage, pageStored, programPage, securityData, verifyPage}
+use Rattle.effect.specs.declared.Asked.{Asked}
+use Rattle.effect.specs.declared.Asked.the-variants.{BlankCheck, BlockErase, Checksum, Programming, RateSet, Reset, SecurityGet, SecurityRelease, SecuritySet, SignatureGet, Unfit, Unknown, Verify}
+use Rattle.effect.specs.declared.Awaited.{Awaited}
+use Rattle.effect.specs.declared.Core.{Core}
+use Rattle.effect.specs.declared.Done.{Done}
+use Rattle.effect.specs.declared.Phase.the-variants.{Awaiting}
+use Rattle.flash.proofs.Laws.{erase-of-long, put-long}
+use Rattle.options.proofs.Laws.{released-good}
+use Rattle.part.specs.Part.{blockSize, described, rangeOf}
+use Rattle.part.specs.Rate.{acceptsRate}
+use Rattle.part.specs.declared.Area.{Area}
+use Rattle.part.specs.declared.Area.the-variants.{CodeFlash, DataFlash}
+use Rattle.part.specs.declared.Part.{Part}
+use Rattle.part.specs.declared.Place.{Place}
+use Rattle.part.specs.declared.Place.the-variants.{In, Outside}
+use Rattle.part.specs.declared.Range.{Range}
+use Rattle.part.specs.declared.Range.the-variants.{Bad, Blocks}
+use Rattle.words.proofs.Laws.{and-left, if-all}
+use Rattle.words.specs.Words.{_or_}
+
+pub record Keeps (p : Part) (m : Flash) (x : Effect) : Type 0 where
+  pub good : GoodCore p (x .core)
+  pub code : length (x .memory .codeFlash) ≡ length (m .codeFlash)
+  pub extra : length (x .memory .dataFlash) ≡ length (m .dataFlash)
+
+-- Flash stays, and the record is good.
+pub stays-so : {p : Part} (m : Flash) {d : Done} → GoodCore p (d .core) → Keeps p m (effect d m)
+stays-so m g = record { good = g; code = refl; extra = refl }
+
+record GoodDone (p : Part) (d : Done) : Type 0 where
+  good : GoodCore p (d .core)
+
+done-so : {p : Part} {d : Done} → GoodCore p (d .core) → GoodDone p d
+done-so g = record { good = g }
+
+done-keeps : {p : Part} (m : Flash) {d : Done} → GoodDone p d → Keeps p m (effect d m)
+done-keeps m g = stays-so m (g .good)
+
+with-bytes : {p : Part} {d : Done} (a : Area) (m : Flash) (l : List ℕ) → GoodCore p (d .core) → length l ≡ length (bytesIn a m)
+    → Keeps p m (effect d (withBytes a m l))
+with-bytes CodeFlash m l g e = record { good = g; code = e; extra = refl }
+with-bytes DataFlash m l g e = record { good = g; code = refl; extra = e }
+
+module _ (p : Part) (k : Core) (part : described p ≡ true) (good : GoodCore p k) where
+  rate-set : (rate supply : ℕ) → GoodDone p (rateSet p k rate supply)
+  unfolding rateSet acceptsRate goodPhase
+  rate-set rate supply =
+      if-all (GoodDone p) _ (λ t. done-so good)
+      (λ t. done-so (record { rate = leb-true _ _ (and-left _ _ (not-false _ t)); options = good .options; phase = refl }))
+
+  erase : (at : Place) (m : Flash) → Keeps p m (blockErase p k at m)
+  unfolding blockErase erasedIn
+  erase Outside m = stays-so m good
+  erase (In a offset block page) m =
+      if-all (Keeps p m) _ (λ t. stays-so m good)
+      (λ t. if-all (Keeps p m) _ (λ u. stays-so m good) (λ u. with-bytes a m _ good (erase-of-long (bytesIn a m) offset (blockSize p a))))
+
+  check : (r : Range) (d01 : ℕ) (m : Flash) → GoodDone p (blankCheck p k r d01 m)
+  unfolding blankCheck
+  check Bad d01 m = done-so good
+  check (Blocks a block count) d01 m =
+      if-all (GoodDone p) _ (λ t. done-so good) (λ t. if-all (GoodDone p) _ (λ u. done-so good) (λ u. if-all (GoodDone p) _ (λ v. done-so good) (λ v. done-so good)))
+
+  awaits : (w : Awaited) → goodAwaited p w ≡ true → GoodCore p (entered k (Awaiting w))
+  unfolding goodPhase
+  awaits w g = enters (Awaiting w) good g
+
+  program : (r : Range) (start end : ℕ) → rangeOf p start end ≡ r → GoodDone p (programming k r start end)
+  unfolding programming _or_
+  program Bad start end e = done-so good
+  program (Blocks a block count) start end e =
+      if-all (GoodDone p) _ (λ t. done-so good) (λ t. done-so (awaits (pagesOf 0x40 start end) (range-awaited p 0x40 start end a block count part refl e)))
+
+  verifies : (r : Range) (start end : ℕ) → rangeOf p start end ≡ r → GoodDone p (verify k r start end)
+  unfolding verify _or_
+  verifies Bad start end e = done-so good
+  verifies (Blocks a block count) start end e = done-so (awaits (pagesOf 0x13 start end) (range-awaited p 0x13 start end a block count part refl e))
+
+  sums : (r : Range) (m : Flash) → GoodDone p (checksum p k r m)
+  unfolding checksum
+  sums Bad m = done-so good
+  sums (Blocks a block count) m = done-so good
+
+  releases : (m : Flash) → GoodDone p (securityRelease p k m)
+  unfolding securityRelease
+  releases m =
+      if-all (GoodDone p) _ (λ t. done-so good)
+      (λ t. if-all (GoodDone p) _ (λ u. done-so good)
+      (λ u. done-so (record { rate = good .rate; options = released-good p (k .options) part (good .options); phase = good .phase })))
+
+  works : (a : Asked) (f : List ℕ) (m : Flash) → Keeps p m (work a p k f m)
+  unfolding work
+  works Unknown f m = stays-so m good
+  works Unfit f m = stays-so m good
+  works RateSet f m = done-keeps m (rate-set _ _)
+  works Reset f m = stays-so m good
+  works BlockErase f m = erase _ m
+  works BlankCheck f m = done-keeps m (check _ _ m)
+  works Programming f m = done-keeps m (program _ _ _ refl)
+  works Verify f m = done-keeps m (verifies _ _ _ refl)
+  works Checksum f m = done-keeps m (sums _ m)
+  works SignatureGet f m = stays-so m good
+  works SecurityGet f m = stays-so m good
+  works SecuritySet f m = stays-so m (awaits (pagesOf 0xA0 0 0) (security-awaited p))
+  works SecurityRelease f m = done-keeps m (releases m)
+
+  pub command-keeps : (f : List ℕ) (m : Flash) → Keeps p m (commandDoes p k f m)
+  unfolding commandDoes
+  command-keeps f m = if-all (Keeps p m) _ (λ t. stays-so m good) (λ t. works _ f m)
+
+  -- The pages and A0h's data.
+  module _ (w : Awaited) (awaited : goodAwaited p w ≡ true) where
+    goes-on : eqb (w .command) 0xA0 ≡ false → GoodCore p (nextPage w k)
+    unfolding nextPage
+    goes-on n = if-all (GoodCore p) _ (λ t. made-ready good) (λ t. awaits _ (next-awaited p w part awaited n t))
+
+    put-page : (at : Place) (ds : List ℕ) (m : Flash) {d : Done} → GoodCore p (d .core) → Keeps p m (effect d (pageStored at ds m))
+    unfolding pageStored
+    put-page Outside ds m g = stays-so m g
+    put-page (In a offset block page) ds m g = with-bytes a m _ g (put-long (bytesIn a m) offset ds refl)
+
+    programs : eqb (w .command) 0xA0 ≡ false → (at : Place) (ds : List ℕ) (m : Flash) → Keeps p m (programPage k w at ds m)
+    unfolding programPage
+    programs n at ds m = if-all (Keeps p m) _ (λ t. stays-so m (made-ready good)) (λ t. put-page at ds m (goes-on n))
+
+    compares : eqb (w .command) 0xA0 ≡ false → (at : Place) (ds : List ℕ) (m : Flash) → GoodDone p (verifyPage k w at ds m)
+    unfolding verifyPage
+    compares n at ds m = if-all (GoodDone p) _ (λ t. done-so (made-ready good)) (λ t. done-so (goes-on n))
+
+    secures : (f : List ℕ) → GoodDone p (securityData p k f)
+    unfolding securityData goodPhase
+    secures f =
+        if-all (GoodDone p) _ (λ t. done-so (made-ready good))
+        (λ t. if-all (GoodDone p) _ (λ u. done-so (made-ready good))
+        (λ u. done-so (record { rate = good .rate; options = and-left _ _ (not-false _ t); phase = refl })))
+
+    bad-keeps : (s : ℕ) → GoodDone p (badData w s k)
+    unfolding badData
+    bad-keeps s = if-all (GoodDone p) _ (λ t. done-so (made-ready good)) (λ t. done-so (made-ready good))
+
+    pub data-keeps : (f : List ℕ) (m : Flash) → Keeps p m (dataDoes p k w f m)
+    unfolding dataDoes goodData
+    data-keeps f m =
+        if-all (Keeps p m) _ (λ t. done-keeps m (bad-keeps _))
+        (λ t. if-all (Keeps p m) _ (λ u. done-keeps m (secures f))
+        (λ u. if-all (Keeps p m) _ (λ v. programs u _ _ m) (λ v. done-keeps m (compares u _ _ m))))

@@ -1,0 +1,57 @@
+-- A fresh chip stands: the premise of the claims about standing chips is met, for every described part and any flash of its lengths.
+-- Assumes nothing.
+use mathlib.Core.Bool.{true}
+use mathlib.Core.List.{List}
+use mathlib.Core.Path.{_≡_, refl}
+use Prim.Native.Nat.{_≤_, suc, zero, ℕ}
+use native.Mathlib.Omega.{arith}
+use lib.ListN.{length, length-replicate, replicate}
+use Rattle.chip.specs.Run.{before}
+use Rattle.chip.specs.Step.{freshChip, goodPhase, goodState}
+use Rattle.claims_good.proofs.Collected.{none-good}
+use Rattle.claims_good.proofs.Core.{is-core}
+use Rattle.claims_good.proofs.Verdict.{accepted}
+use Rattle.claims_good.specs.Good.{Arrays, Stands}
+use Rattle.claims_stars.specs.Table.{thePart}
+use Rattle.effect.specs.Effect.{Flash, flash}
+use Rattle.effect.specs.declared.Phase.the-variants.{ModeByte}
+use Rattle.frame.proofs.Laws.Sum.{Below, more, none}
+use Rattle.frame.specs.Collector.{fresh}
+use Rattle.options.proofs.Laws.{fresh-good}
+use Rattle.part.specs.Part.{blockSize, described, size}
+use Rattle.part.specs.declared.Area.the-variants.{CodeFlash, DataFlash}
+use Rattle.part.specs.declared.Part.{Part}
+use Rattle.words.proofs.Laws.{and-both}
+use Rattle.words.specs.Words.{_and_, _from_to_}
+
+below-zeros : (n : ℕ) → Below 256 (replicate n 0)
+below-zeros zero = none
+below-zeros (suc n) = more {b = 0} (omega arith) (below-zeros n)
+
+pub fresh-stands : (p : Part) (m : Flash) (room : List ℕ) → described p ≡ true → Arrays p → length (m .codeFlash) ≡ size p CodeFlash
+    → length (m .dataFlash) ≡ size p DataFlash → 32 ≤ length room → Stands p (before (freshChip p) m room)
+unfolding freshChip fresh goodState goodPhase
+fresh-stands p m room d n c e r =
+    record {
+      accepted =
+          accepted (record {
+            part = d;
+            codeLong = c;
+            dataLong = e;
+            state = and-both (none-good ModeByte _ _) (is-core (record { rate = omega arith; options = fresh-good p d; phase = refl }));
+            roomy = r;
+          });
+      places = length-replicate {A = ℕ} 260 0;
+      bytes = below-zeros 260;
+      arrays = n;
+    }
+
+-- The part of the examples, erased.
+pub erasedFlash : Flash
+erasedFlash = flash (replicate 16384 0xFF) (replicate 4096 0xFF)
+
+pub the-part-stands : Stands thePart (before (freshChip thePart) erasedFlash (replicate 32 0x00))
+unfolding described _from_to_ _and_ blockSize erasedFlash
+the-part-stands =
+    fresh-stands thePart erasedFlash (replicate 32 0x00) refl (record { deviceLong = refl; nameLong = refl; versionLong = refl }) (length-replicate {A = ℕ} 16384 0xFF)
+    (length-replicate {A = ℕ} 4096 0xFF) (omega (arith, length-replicate {A = ℕ} 32 0x00))
