@@ -167,3 +167,15 @@ replayedFrom p (r ∷ rs) x = whileWhole (nextOf p r x .ended) (replayedFrom p r
 unfoldable pub replayOf : Part → List ℕ → Chip → Flash → List ℕ → List ℕ → Replaying
 replayOf p capture c m room output =
     replayedFrom p (recordsOf recordSize capture) (record { ended = Whole; records = 0; bytes = 0; frames = 0; chip = c; memory = m; room = room; output = output })
+
+-- "The chip has 16 code and 4 data blocks, clock 32". Device code, name and version are those of 000, table 3-2, its misprint of one digit mended.
+unfoldable pub replayPart : Part
+replayPart =
+    record {
+      «code_blocks» = 16;
+      «data_blocks» = 4;
+      clock = 32;
+      device = 0x10 ∷ 0x00 ∷ 0x06 ∷ [];
+      name = 0x52 ∷ 0x35 ∷ 0x46 ∷ 0x31 ∷ 0x30 ∷ 0x30 ∷ 0x4C ∷ 0x45 ∷ 0x20 ∷ 0x20 ∷ [];
+      version = 0x01 ∷ 0x02 ∷ 0x03 ∷ [];
+    }

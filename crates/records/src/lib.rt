@@ -6,7 +6,7 @@ ghost use Prim.Native.Nat.{_<_, _≤_};
 ghost use lib.ListN.{length};
 ghost use Rattle.chip.specs.declared.Event.the-variants.{Byte, Gap};
 ghost use Rattle.effect.specs.Effect.{flash};
-ghost use Rattle.records.specs.Records.{kept, played, replaying, replayOf, starting, turning, turnOf};
+ghost use Rattle.records.specs.Records.{kept, played, replaying, replayOf, replayPart, starting, turning, turnOf};
 ghost use Rattle.records.specs.inner.Loop.{recordEnd};
 use capture::Record;
 use chip::Answer;
@@ -244,5 +244,19 @@ pub fn replay(
         bytes,
         frames,
         chip: last,
+    }
+}
+
+// The part of document 01's replay and examples.
+pub fn replay_part() -> Part
+    ensures { λ r. ⌜ r ≡ replayPart ⌝ }
+{
+    Part {
+        code_blocks: 16,
+        data_blocks: 4,
+        clock: 32,
+        device: [0x10, 0x00, 0x06],
+        name: [0x52, 0x35, 0x46, 0x31, 0x30, 0x30, 0x4C, 0x45, 0x20, 0x20],
+        version: [0x01, 0x02, 0x03],
     }
 }

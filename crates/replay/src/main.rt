@@ -1,0 +1,264 @@
+// Replays a recorded capture into a fresh chip and prints each reply frame as a line of hex: document 01, "Replay".
+// The records are judged, fed and answered by `records::replay`; here the capture is read and the lines are printed.
+ghost use Prim.Native.Nat.{_+_, _≤_};
+ghost use lib.ListN.{length};
+use chip::Chip;
+use chip::events;
+use libc::STDERR_FILENO;
+use libc::STDIN_FILENO;
+use libc::STDOUT_FILENO;
+use part::Part;
+use part::refusal::Refusal;
+use records::Ended;
+
+// How many bytes were read, or where there is room, and whether the call went well.
+struct Filled {
+    n: usize,
+    well: bool,
+}
+
+// Reads until the buffer is full or the input ends, so that only the last buffer can end within a record.
+fn fill(fd: i32, buf: &mut [u8]) -> Filled
+    ensures { λ r. ⌜ r .n ≤ length (now (buf .exit)) ⌝ }
+{
+    let mut n = 0;
+    while n < buf.len() {
+        let got = libc::read(fd, &mut buf[n..]);
+        if got < 0 {
+            return Filled { n, well: false };
+        }
+        let more = io::count(got, &buf[n..]);
+        if more == 0 {
+            return Filled { n, well: true };
+        }
+        n = n + more;
+    }
+    Filled { n, well: true }
+}
+
+// Where so many characters have room in the text: after those used, or, these having gone out, at the start.
+fn room_for(need: usize, text: &[u8], used: usize) -> Filled
+    requires { ⌜ (need ≤ length (now text)) × (used ≤ length (now text)) ⌝ }
+    ensures { λ r. ⌜ r .n + need ≤ length (now (text .entry)) ⌝ }
+{
+    if need <= text.len() - used {
+        return Filled {
+            n: used,
+            well: true,
+        };
+    }
+    let well = io::write_all(STDOUT_FILENO, &text[0..used]);
+    Filled { n: 0, well }
+}
+
+// Reply frames that lie end to end, a line each. The lines go out when the text is full and at the end.
+fn show(frames: &[u8], text: &mut [u8]) -> bool
+    requires { ⌜ 1024 ≤ length (now text) ⌝ }
+{
+    let mut at = 0;
+    let mut used = 0;
+    while at < frames.len() {
+        let rest = frames.len() - at;
+        if rest < 5 {
+            return false;
+        }
+        let payload = frame::counted(frames[at + 1]);
+        if 256 < payload {
+            return false;
+        }
+        let n = payload + 4;
+        if rest < n {
+            return false;
+        }
+        let place = room_for(3 * n, text, used);
+        if !place.well {
+            return false;
+        }
+        let from = place.n;
+        let end = at + n;
+        hex::line(&frames[at..end], &mut text[from..]);
+        used = from + 3 * n;
+        at = end;
+    }
+    io::write_all(STDOUT_FILENO, &text[0..used])
+}
+
+// How a buffer of the capture went: on to the next; up to a record that is not good; or no further.
+enum Way {
+    On,
+    Bad,
+    Lost,
+}
+
+struct Went {
+    way: Way,
+    chip: Chip,
+    records: usize,
+    frames: usize,
+}
+
+// A refusal is the chip's, which is proved not to occur (claims_replay), or for want of output, which is long enough for the buffer's records.
+fn way_on(ended: Ended) -> Way {
+    match ended {
+        Ended::Whole => Way::On,
+        Ended::AtBadRecord => Way::Bad,
+        Ended::Halted(refusal) => {
+            io::write_all(STDERR_FILENO, b"replay: a record was refused\n");
+            Way::Lost
+        }
+    }
+}
+
+fn told(is_shown: bool, way: Way) -> Way {
+    if is_shown {
+        return way;
+    }
+    os::fail(b"replay: standard output");
+    Way::Lost
+}
+
+// The records of one buffer, and the lines of their replies.
+fn turn(
+    part: Part,
+    chip: Chip,
+    capture: &[u8],
+    code: &mut [u8],
+    data: &mut [u8],
+    room: &mut [u8],
+    output: &mut [u8],
+    text: &mut [u8],
+) -> Went
+    requires { ⌜ 1024 ≤ length (now text) ⌝ }
+{
+    let played = records::replay(part, chip, capture, code, data, room, output);
+    let n = played.bytes;
+    let after = played.chip;
+    if output.len() < n {
+        return Went {
+            way: Way::Lost,
+            chip: after,
+            records: 0,
+            frames: 0,
+        };
+    }
+    let is_shown = show(&output[0..n], text);
+    let ended = played.ended;
+    Went {
+        way: told(is_shown, way_on(ended)),
+        chip: after,
+        records: played.records,
+        frames: played.frames,
+    }
+}
+
+// The last line, a word and a number.
+fn last_line(word: &[u8], n: u64) {
+    io::write_all(STDOUT_FILENO, word);
+    io::print_decimal(STDOUT_FILENO, n);
+    io::write_all(STDOUT_FILENO, b"\n");
+}
+
+// A buffer of 2,048 bytes is 256 records, for whose replies the output has room. A proved loop has to end, and nothing says that the input does: so it counts
+// its turns down, from a number that no run uses up.
+fn replay(fd: i32, name: &[u8]) {
+    let part = records::replay_part();
+    let fresh = events::fresh(part);
+    let mut chip = fresh.chip;
+    let mut code = [0xFFu8; 16384];
+    let mut data = [0xFFu8; 4096];
+    let mut room = [0u8; 32];
+    let mut capture = [0u8; 2048];
+    let mut output = io::large_buffer();
+    let mut text = io::large_buffer();
+    let mut records = 0u64;
+    let mut frames = 0u64;
+    let mut turns = u64::MAX;
+    while 0 < turns {
+        turns = turns - 1;
+        let filled = fill(fd, &mut capture);
+        let n = filled.n;
+        if !filled.well {
+            os::fail(name);
+            return;
+        }
+        let went = turn(
+            part,
+            chip,
+            &capture[0..n],
+            &mut code,
+            &mut data,
+            &mut room,
+            &mut output,
+            &mut text,
+        );
+        chip = went.chip;
+        records = std::num::wrapping_add_u64(records, went.records as u64);
+        frames = std::num::wrapping_add_u64(frames, went.frames as u64);
+        let way = went.way;
+        match way {
+            Way::On => {
+                if n < 2048 {
+                    last_line(b"END ", frames);
+                    return;
+                }
+            }
+            Way::Bad => {
+                last_line(b"BAD ", records);
+                return;
+            }
+            Way::Lost => {
+                return;
+            }
+        }
+    }
+}
+
+fn help() {
+    io::write_all(
+        STDOUT_FILENO,
+        b"replay [CAPTURE]: replays a recorded capture, from standard input where no file is named, into a fresh chip\n",
+    );
+    io::write_all(
+        STDOUT_FILENO,
+        b"(16 code and 4 data blocks, clock 32) and prints each reply frame as a line of hex. The last line is END and\n",
+    );
+    io::write_all(
+        STDOUT_FILENO,
+        b"the number of reply frames, or BAD and the number, from 0, of the first record that is not good.\n",
+    );
+    io::write_all(
+        STDOUT_FILENO,
+        b"A record has 8 bytes: kind 00 (a gap, all other bytes 00) or 01, count 1 to 6, and so many bytes, the rest 00.\n",
+    );
+}
+
+fn main() {
+    if os::arg_count() < 2 {
+        replay(STDIN_FILENO, b"replay: standard input");
+        return;
+    }
+    if 2 < os::arg_count() {
+        io::write_all(
+            STDERR_FILENO,
+            b"replay: more than one argument; see replay --help\n",
+        );
+        return;
+    }
+    let mut path = io::buffer();
+    let n = os::arg(1, &mut path);
+    if os::errno() != 0 {
+        os::fail(b"replay: its argument");
+        return;
+    }
+    if flash::is_same(&path[..n], b"--help") {
+        help();
+        return;
+    }
+    let fd = os::open_read(&path[..n]);
+    if fd < 0 {
+        os::fail(&path[..n]);
+        return;
+    }
+    replay(fd, &path[..n]);
+    libc::close(fd);
+}
