@@ -20,14 +20,14 @@ use Rattle.words.proofs.Laws.{and-left, and-right}
 use Rattle.words.specs.Words.{_and_, if_then_else_}
 
 -- The machine and the collector stand at the same place of the same frame.
-data Same : Framing → List ℕ → Type 0 where
+pub data Same : Framing → List ℕ → Type 0 where
   nothing : Same idle []
   header : (x : ℕ) → Same (begun x) (x ∷ [])
   some : (x l : ℕ) (rest : List ℕ) (n : ℕ) → 1 ≤ n → length rest + n ≡ counted l + 2 → Same (inside (x ∷ l ∷ rest) n) (x ∷ l ∷ rest)
 
-record Agree (f : Framed) (c : Collected) : Type 0 where
-  stands : Same (f .stands) (c .holds)
-  done : f .done ≡ c .taken
+pub record Agree (f : Framed) (c : Collected) : Type 0 where
+  pub stands : Same (f .stands) (c .holds)
+  pub done : f .done ≡ c .taken
 
 begins : (h : Header) (b : ℕ) (t : Bool) → Agree (if t then quiet (begun b) else quiet idle) (take-up (if t then b ∷ [] else []))
 unfolding take-up complete full _and_ if_then_else_
@@ -52,7 +52,7 @@ more x l rest n b h e (no k) =
     rw (lt-leb n 1 (omega arith), full-not (suc (suc (length (rest ++ b ∷ [])))) l (omega arith))
     (record { stands = some x l (rest ++ b ∷ []) (n - 1) (omega arith) (omega arith); done = refl })
 
-step-agrees : (h : Header) (v : Sound) {w : Framing} {hs : List ℕ} → Same w hs → Agree (framing h w v) (collecting h hs v)
+pub step-agrees : (h : Header) (v : Sound) {w : Framing} {hs : List ℕ} → Same w hs → Agree (framing h w v) (collecting h hs v)
 unfolding framing collecting hear
 step-agrees h gap s = record { stands = nothing; done = refl }
 step-agrees h (byte b) nothing = begins h b (eqb b (headerByte h))
@@ -82,15 +82,15 @@ pub gap-forgets : (h : Header) (w : Framing) (us vs : List Sound) → frames h w
 unfolding frames framing
 gap-forgets h w us vs = frames-append h w us (gap ∷ vs)
 
-step-begins : (h : Header) (x : ℕ) → x ≡ headerByte h → framing h idle (byte x) ≡ quiet (begun x)
+pub step-begins : (h : Header) (x : ℕ) → x ≡ headerByte h → framing h idle (byte x) ≡ quiet (begun x)
 unfolding framing if_then_else_
 step-begins h x e = rw (eq-eqb x (headerByte h) e)
 
-step-last : (h : Header) (got : List ℕ) (n b : ℕ) → n ≤ 1 → framing h (inside got n) (byte b) ≡ completes (got ++ b ∷ [])
+pub step-last : (h : Header) (got : List ℕ) (n b : ℕ) → n ≤ 1 → framing h (inside got n) (byte b) ≡ completes (got ++ b ∷ [])
 unfolding framing if_then_else_
 step-last h got n b k = rw (le-leb n 1 k)
 
-step-more : (h : Header) (got : List ℕ) (n b : ℕ) → 1 < n → framing h (inside got n) (byte b) ≡ quiet (inside (got ++ b ∷ []) (n - 1))
+pub step-more : (h : Header) (got : List ℕ) (n b : ℕ) → 1 < n → framing h (inside got n) (byte b) ≡ quiet (inside (got ++ b ∷ []) (n - 1))
 unfolding framing if_then_else_
 step-more h got n b k = rw (lt-leb n 1 k)
 

@@ -9,12 +9,12 @@ use lib.ListN.{length, length-replicate, replicate}
 use Rattle.chip.specs.Run.{before}
 use Rattle.chip.specs.Step.{freshChip, goodPhase, goodState}
 use Rattle.claims_good.proofs.Collected.{none-good}
-use Rattle.claims_good.proofs.Core.{is-core}
+use Rattle.claims_good.proofs.Core.{GoodCore, is-core}
 use Rattle.claims_good.proofs.Verdict.{accepted}
 use Rattle.claims_good.specs.Good.{Arrays, Stands}
 use Rattle.claims_stars.specs.Table.{thePart}
 use Rattle.effect.specs.Effect.{Flash, flash}
-use Rattle.effect.specs.declared.Phase.the-variants.{ModeByte}
+use Rattle.effect.specs.declared.Core.{Core}
 use Rattle.frame.proofs.Laws.Sum.{Below, more, none}
 use Rattle.frame.specs.Collector.{fresh}
 use Rattle.options.proofs.Laws.{fresh-good}
@@ -28,17 +28,18 @@ below-zeros : (n : ℕ) → Below 256 (replicate n 0)
 below-zeros zero = none
 below-zeros (suc n) = more {b = 0} (omega arith) (below-zeros n)
 
-pub fresh-stands : (p : Part) (m : Flash) (room : List ℕ) → described p ≡ true → Arrays p → length (m .codeFlash) ≡ size p CodeFlash
-    → length (m .dataFlash) ≡ size p DataFlash → 32 ≤ length room → Stands p (before (freshChip p) m room)
-unfolding freshChip fresh goodState goodPhase
-fresh-stands p m room d n c e r =
+-- Nothing collected, and a good record.
+pub new-stands : (p : Part) (k : Core) (m : Flash) (room : List ℕ) → described p ≡ true → Arrays p → GoodCore p k → length (m .codeFlash) ≡ size p CodeFlash
+    → length (m .dataFlash) ≡ size p DataFlash → 32 ≤ length room → Stands p (before (record { core = k; collector = fresh }) m room)
+unfolding fresh goodState
+new-stands p k m room d n g c e r =
     record {
       accepted =
           accepted (record {
             part = d;
             codeLong = c;
             dataLong = e;
-            state = and-both (none-good ModeByte _ _) (is-core (record { rate = omega arith; options = fresh-good p d; phase = refl }));
+            state = and-both (none-good (k .phase) _ _) (is-core g);
             roomy = r;
           });
       places = length-replicate {A = ℕ} 260 0;
@@ -46,12 +47,21 @@ fresh-stands p m room d n c e r =
       arrays = n;
     }
 
+pub fresh-stands : (p : Part) (m : Flash) (room : List ℕ) → described p ≡ true → Arrays p → length (m .codeFlash) ≡ size p CodeFlash
+    → length (m .dataFlash) ≡ size p DataFlash → 32 ≤ length room → Stands p (before (freshChip p) m room)
+unfolding freshChip goodPhase
+fresh-stands p m room d n c e r = new-stands p _ m room d n (record { rate = omega arith; options = fresh-good p d; phase = refl }) c e r
+
 -- The part of the examples, erased.
 pub erasedFlash : Flash
 erasedFlash = flash (replicate 16384 0xFF) (replicate 4096 0xFF)
 
+pub the-part-is : described thePart ≡ true
+unfolding described _from_to_ _and_
+the-part-is = refl
+
 pub the-part-stands : Stands thePart (before (freshChip thePart) erasedFlash (replicate 32 0x00))
-unfolding described _from_to_ _and_ blockSize erasedFlash
+unfolding blockSize erasedFlash
 the-part-stands =
-    fresh-stands thePart erasedFlash (replicate 32 0x00) refl (record { deviceLong = refl; nameLong = refl; versionLong = refl }) (length-replicate {A = ℕ} 16384 0xFF)
+    fresh-stands thePart erasedFlash (replicate 32 0x00) the-part-is (record { deviceLong = refl; nameLong = refl; versionLong = refl }) (length-replicate {A = ℕ} 16384 0xFF)
     (length-replicate {A = ℕ} 4096 0xFF) (omega (arith, length-replicate {A = ℕ} 32 0x00))

@@ -11,7 +11,7 @@ use Rattle.chip.specs.declared.Answer.the-variants.{Replied}
 use Rattle.chip.specs.declared.Chip.{Chip}
 use Rattle.chip.specs.declared.Event.{Event}
 use Rattle.claims_good.proofs.Stays.{onward-is, stays}
-use Rattle.claims_good.proofs.Verdict.{accepted, accepts}
+use Rattle.claims_good.proofs.Verdict.{accepted, conditions}
 use Rattle.claims_good.specs.Good.{Alike, AllAnswered, AllProper, Answered, SameChip, SameStep, Stands, Utterance, andAnswer, andEvent, noAnswer, noEvent, utterances, uttered}
 use Rattle.claims_stars.specs.Table.{bytesSaid}
 use Rattle.effect.specs.Effect.{Flash}
@@ -25,7 +25,7 @@ use Rattle.reply.proofs.Laws.{reply-long, send-lands}
 use Rattle.reply.specs.Reply.{Said, framesOf, payloads, said}
 
 -- What a reaction says.
-pub utteranceOf : Part → Reaction → Utterance
+unfoldable pub utteranceOf : Part → Reaction → Utterance
 utteranceOf p x =
     let rs = payloads p (x .does .core .options) (x .does .reply) in
     record { answer = Replied (length (framesOf rs)) (length rs); bytes = framesOf rs }
@@ -40,16 +40,41 @@ settled-utters p x c m room h =
     (take-append-seam (framesOf rs) (drop (length (framesOf rs)) room))
 
 roomy : {p : Part} {o : Outcome} → Stands p o → 32 ≤ length (o .room)
-roomy {p} s = accepts p _ _ _ _ _ _ _ (s .accepted) .roomy
+roomy {p} s = conditions p _ _ _ _ _ _ _ (s .accepted) .roomy
 
 -- The reaction to an event, from what stands.
-pub reactionOf : Part → Outcome → Event → Reaction
+unfoldable pub reactionOf : Part → Outcome → Event → Reaction
 reactionOf p o v = reactTo v p (o .chip .core) (heard (o .chip .collector)) (o .memory)
 
 pub says-reaction : (p : Part) (o : Outcome) (v : Event) → Stands p o → uttered (spokenIn (onward p o v)) ≡ utteranceOf p (reactionOf p o v)
 unfolding reactionOf
 says-reaction p o v s =
     ap (λ (u : Outcome). uttered (spokenIn u)) (onward-is p o v (s .accepted)) ∙ settled-utters p (reactionOf p o v) (o .chip) (o .memory) (o .room) (roomy s)
+
+-- What an event leaves, by its reaction.
+pub record Leaves (p : Part) (o : Outcome) (v : Event) : Type 0 where
+  pub core : onward p o v .chip .core ≡ reactionOf p o v .does .core
+  pub memory : onward p o v .memory ≡ reactionOf p o v .does .memory
+  pub hears : heard (onward p o v .chip .collector) ≡ reactionOf p o v .hears
+  pub count : onward p o v .chip .collector .len ≡ length (reactionOf p o v .hears)
+
+settled-leaves : (p : Part) (x : Reaction) (c : Chip) (m : Flash) (r : List ℕ)
+    → let u = settled Accepted p x c m r in
+    (u .chip .core ≡ x .does .core) × (u .memory ≡ x .does .memory) × (heard (u .chip .collector) ≡ x .hears) × (u .chip .collector .len ≡ length (x .hears))
+unfolding settled holding
+settled-leaves p x c m r = (refl, refl, heard-holding (c .collector) (x .hears), refl)
+
+pub leaves : (p : Part) (o : Outcome) (v : Event) → Stands p o → Leaves p o v
+unfolding reactionOf
+leaves p o v s =
+    let e = onward-is p o v (s .accepted) in
+    let l = settled-leaves p (reactionOf p o v) (o .chip) (o .memory) (o .room) in
+    record {
+      core = ap (λ (u : Outcome). u .chip .core) e ∙ l .0;
+      memory = ap (λ (u : Outcome). u .memory) e ∙ l .1;
+      hears = ap (λ (u : Outcome). heard (u .chip .collector)) e ∙ l .2;
+      count = ap (λ (u : Outcome). u .chip .collector .len) e ∙ l .3;
+    }
 
 answered : (p : Part) (o : Outcome) (v : Event) → Stands p o → Answered (spokenIn (onward p o v))
 unfolding utteranceOf
@@ -111,7 +136,7 @@ alike-utterances p (v ∷ vs) o u so su (andEvent h q) a =
 -- The room does not matter: with any other of at least 32 bytes the chip stands, and an event leaves the same chip and flash and says the same.
 pub stands-anywhere : (p : Part) (o u : Outcome) → Stands p o → SameChip o u → 32 ≤ length (u .room) → Stands p u
 stands-anywhere p o u s e r =
-    let a = accepts p _ _ _ _ _ _ _ (s .accepted) in
+    let a = conditions p _ _ _ _ _ _ _ (s .accepted) in
     record {
       accepted =
           accepted (record {

@@ -27,17 +27,17 @@ passes : (r : Refusal) {t : Bool} {v : Verdict} → t ≡ false → v ≡ Accept
 unfolding if_then_else_
 passes r e f = simp (e, f)
 
-pub record Accepts (p : Part) (k : Core) (count head len code extra room : ℕ) : Type 0 where
+pub record Conditions (p : Part) (k : Core) (count head len code extra room : ℕ) : Type 0 where
   pub part : described p ≡ true
   pub codeLong : code ≡ size p CodeFlash
   pub dataLong : extra ≡ size p DataFlash
   pub state : goodState p k count head len ≡ true
   pub roomy : 32 ≤ room
 
-pub accepts : (p : Part) (k : Core) (count head len code extra room : ℕ) → verdictOf p k count head len code extra room ≡ Accepted
-    → Accepts p k count head len code extra room
+pub conditions : (p : Part) (k : Core) (count head len code extra room : ℕ) → verdictOf p k count head len code extra room ≡ Accepted
+    → Conditions p k count head len code extra room
 unfolding verdictOf firstOf
-accepts p k count head len code extra room e =
+conditions p k count head len code extra room e =
     let a = not-barred (not (described p)) BadPart _ e in
     let b = not-barred (not (eqb code (size p CodeFlash))) CodeLength _ (a .1) in
     let c = not-barred (not (eqb extra (size p DataFlash))) DataLength _ (b .1) in
@@ -51,7 +51,7 @@ accepts p k count head len code extra room e =
       roomy = ltb-false room 32 (f .0);
     }
 
-pub accepted : {p : Part} {k : Core} {count head len code extra room : ℕ} → Accepts p k count head len code extra room
+pub accepted : {p : Part} {k : Core} {count head len code extra room : ℕ} → Conditions p k count head len code extra room
     → verdictOf p k count head len code extra room ≡ Accepted
 unfolding verdictOf firstOf
 accepted {p} {k} {count} {head} {len} {code} {extra} {room} a =

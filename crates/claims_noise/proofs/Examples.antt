@@ -1,0 +1,158 @@
+-- The premises of demand 3's claims can be met, and their conclusions say something: worked examples, by computation.
+-- Assumes nothing.
+use mathlib.Core.Bool.{Bool, false, true}
+use mathlib.Core.List.{List, [], _∷_, map}
+use mathlib.Core.Path.{_≡_, refl}
+use Prim.Native.Nat.{ℕ}
+use native.Mathlib.Omega.{arith}
+use lib.Dec.{ltb}
+use lib.ListN.{length-replicate, replicate, take}
+use borrow.Author.Tests.{ltb-true}
+use Rattle.chip.specs.Step.{byteIn, frameDoes, goodAwaited, goodBegun, goodCollected, goodCore, goodPhase, goodPlaces, goodState, heardByte, reactTo, settled, stepOf, verdictOf}
+use Rattle.claims_frame.proofs.Framing.{header, nothing}
+use Rattle.claims_good.proofs.Fresh.{new-stands, the-part-is}
+use Rattle.claims_good.specs.Good.{AllProper, Arrays, Stands, aByte, aGap, andEvent, noEvent}
+use Rattle.claims_noise.proofs.Claims.{noise-at-command}
+use Rattle.claims_noise.specs.Claims.{AsIf, Noise, OneByte, inReady, runBy, saysBy}
+use Rattle.claims_noise.specs.Examples.{allSaid, cutPage, eraseFrame, innerReset, longNoise, pageFrame, reset, writingChip, wrongPage}
+use Rattle.claims_noise.specs.Noise.{aCommand, allows, completesOnly, dataCompleted, empty, eventOf, goodFor, noFrame, only, permitted, thenAwaits, thenGap}
+use Rattle.claims_stars.specs.Table.{readyChip, thePart}
+use Rattle.effect.specs.Commands.{commandDoes}
+use Rattle.effect.specs.Pages.{badData, dataDoes, footerOf, isLastPage, lengthOf}
+use Rattle.flash.specs.Flash.{same}
+use Rattle.frame.proofs.Laws.Sum.{Below, more, none}
+use Rattle.frame.specs.Collector.{fresh, hear, heard, holding}
+use Rattle.frame.specs.Frame.{complete, counted, framed, full, isFrame}
+use Rattle.frame.specs.Framing.{Sound, byte, frames, framing, gap, idle, inside, quiet}
+use Rattle.frame.specs.Judgement.{fitting, judgeOf, summed}
+use Rattle.frame.specs.Sum.{less, lessAll, sumOf}
+use Rattle.frame.specs.declared.Header.the-variants.{Command}
+use Rattle.options.proofs.Laws.{fresh-good}
+use Rattle.options.specs.Options.{fixedBits, freshOptions, goodOptions, lastBlock}
+use Rattle.part.specs.Part.{blockOf, blockSize, described, liesIn, pageOf, placeIn, placeOf}
+use Rattle.part.specs.Refusal.{firstOf}
+use Rattle.reply.specs.Reply.{framesOf, payloads, sendOf}
+use Rattle.words.proofs.Laws.{and-left, and-right}
+use Rattle.words.specs.Words.{_and_, _from_to_, _or_, if_then_else_}
+
+-- Tests that the checker computes, for bytes.
+allBelow : List ℕ → Bool
+allBelow [] = true
+allBelow (b ∷ bs) = ltb b 256 and allBelow bs
+
+below-by : (bs : List ℕ) → allBelow bs ≡ true → Below 256 bs
+unfolding allBelow
+below-by [] e = none
+below-by (b ∷ bs) e = more (ltb-true b 256 (and-left _ _ e)) (below-by bs (and-right (ltb b 256) _ e))
+
+bytesOnly : List Sound → Bool
+bytesOnly [] = true
+bytesOnly (byte b ∷ vs) = ltb b 256 and bytesOnly vs
+bytesOnly (gap ∷ vs) = bytesOnly vs
+
+proper-by : (vs : List Sound) → bytesOnly vs ≡ true → AllProper (map eventOf vs)
+unfolding bytesOnly
+proper-by [] e = noEvent
+proper-by (byte b ∷ vs) e = andEvent (aByte (ltb-true b 256 (and-left _ _ e))) (proper-by vs (and-right (ltb b 256) _ e))
+proper-by (gap ∷ vs) e = andEvent aGap (proper-by vs e)
+
+the-arrays : Arrays thePart
+the-arrays = record { deviceLong = refl; nameLong = refl; versionLong = refl }
+
+-- The two chips stand.
+pub ready-stands : Stands thePart readyChip
+unfolding goodPhase blockSize
+ready-stands =
+    new-stands thePart _ _ (replicate 32 0x00) the-part-is the-arrays (record { rate = omega arith; options = fresh-good thePart the-part-is; phase = refl })
+    (length-replicate {A = ℕ} 16384 0xFF) (length-replicate {A = ℕ} 4096 0xFF) (omega (arith, length-replicate {A = ℕ} 32 0x00))
+
+pub writing-stands : Stands thePart writingChip
+unfolding goodPhase blockSize goodAwaited goodPlaces placeOf placeIn liesIn blockOf pageOf _and_ _or_ if_then_else_
+writing-stands =
+    new-stands thePart _ _ (replicate 32 0x00) the-part-is the-arrays (record { rate = omega arith; options = fresh-good thePart the-part-is; phase = refl })
+    (length-replicate {A = ℕ} 16384 0xFF) (length-replicate {A = ℕ} 4096 0xFF) (omega (arith, length-replicate {A = ℕ} 32 0x00))
+
+-- Noise with two bad frames in it, while a command is awaited.
+pub long-noise : Noise noFrame thePart readyChip longNoise
+unfolding fresh longNoise bytesOnly completesOnly permitted thenAwaits framing goodFor allows empty counted judgeOf isFrame summed sumOf lessAll less _and_ _or_ if_then_else_
+long-noise = record { stands = ready-stands; nothing = refl; bytes = proper-by longNoise refl; quiet = refl }
+
+-- In it the chip does answer: 07h, then 15h.
+pub long-noise-said : allSaid (saysBy stepOf thePart (thenGap longNoise) readyChip) ≡ 0x02 ∷ 0x01 ∷ 0x07 ∷ 0xF8 ∷ 0x03 ∷ 0x02 ∷ 0x01 ∷ 0x15 ∷ 0xEA ∷ 0x03 ∷ []
+unfolding allSaid saysBy thenGap longNoise stepOf settled verdictOf firstOf described _from_to_ _and_ _or_ if_then_else_ goodState goodCollected goodBegun goodCore goodOptions fixedBits goodPhase lastBlock freshOptions fresh heard holding hear complete full counted isFrame reactTo byteIn heardByte frameDoes commandDoes judgeOf summed sumOf lessAll less placeOf liesIn placeIn blockOf pageOf blockSize sendOf framesOf framed payloads
+long-noise-said = refl
+
+-- So the chip is as before it, though it has answered.
+pub long-noise-harmless : AsIf stepOf thePart readyChip (runBy stepOf thePart (thenGap longNoise) readyChip)
+long-noise-harmless = noise-at-command thePart readyChip longNoise inReady long-noise
+
+-- A page cut short leaves the chip awaiting the page.
+pub cut-page : Noise noFrame thePart writingChip cutPage
+unfolding fresh cutPage bytesOnly completesOnly permitted thenAwaits framing goodFor empty counted footerOf lengthOf isLastPage _and_ _or_ if_then_else_
+cut-page = record { stands = writing-stands; nothing = refl; bytes = proper-by cutPage refl; quiet = refl }
+
+pub cut-page-completes-none : dataCompleted cutPage ≡ false
+unfolding dataCompleted cutPage frames framing empty counted if_then_else_
+cut-page-completes-none = refl
+
+-- A page with the wrong footer ends the command, and what follows is framed as for a command.
+pub wrong-page : Noise noFrame thePart writingChip wrongPage
+unfolding fresh wrongPage bytesOnly completesOnly permitted thenAwaits framing goodFor allows empty counted footerOf lengthOf isLastPage fitting judgeOf isFrame summed sumOf lessAll less _and_ _or_ if_then_else_
+wrong-page = record { stands = writing-stands; nothing = refl; bytes = proper-by wrongPage refl; quiet = refl }
+
+pub wrong-page-completes-one : dataCompleted wrongPage ≡ true
+unfolding dataCompleted wrongPage frames framing empty counted if_then_else_
+wrong-page-completes-one = refl
+
+-- In it the page is blamed twice over, 15h 15h, and then the command with the wrong footer.
+pub wrong-page-said : allSaid (saysBy stepOf thePart (thenGap wrongPage) writingChip) ≡ 0x02 ∷ 0x02 ∷ 0x15 ∷ 0x15 ∷ 0xD4 ∷ 0x03 ∷ 0x02 ∷ 0x01 ∷ 0x15 ∷ 0xEA ∷ 0x03 ∷ []
+unfolding allSaid saysBy thenGap wrongPage dataDoes badData fitting footerOf lengthOf isLastPage goodAwaited goodPlaces stepOf settled verdictOf firstOf described _from_to_ _and_ _or_ if_then_else_ goodState goodCollected goodBegun goodCore goodOptions fixedBits goodPhase lastBlock freshOptions fresh heard holding hear complete full counted isFrame reactTo byteIn heardByte frameDoes commandDoes judgeOf summed sumOf lessAll less placeOf liesIn placeIn blockOf pageOf blockSize sendOf framesOf framed payloads
+wrong-page-said = refl
+
+-- The inner Reset: the premise fails, because the rule completes a good frame. It is met with that frame allowed, where nothing follows it.
+pub inner-reset-is-no-noise : completesOnly noFrame aCommand idle innerReset ≡ false
+unfolding innerReset completesOnly permitted thenAwaits framing goodFor allows empty counted judgeOf isFrame summed sumOf lessAll less _and_ _or_ if_then_else_
+inner-reset-is-no-noise = refl
+
+pub inner-reset-completes : frames Command idle innerReset ≡ reset ∷ []
+unfolding innerReset frames framing counted if_then_else_
+inner-reset-completes = refl
+
+pub inner-reset-is-good : goodFor aCommand reset ≡ true
+unfolding goodFor counted judgeOf isFrame summed sumOf lessAll less _and_ if_then_else_
+inner-reset-is-good = refl
+
+pub inner-reset-allowed : completesOnly (only reset) aCommand idle (take 8 innerReset) ≡ true
+unfolding innerReset completesOnly permitted thenAwaits framing goodFor allows same empty counted judgeOf isFrame summed sumOf lessAll less _and_ _or_ if_then_else_
+inner-reset-allowed = refl
+
+-- One byte: the erase command whose footer becomes 17h, and the page whose footer, 17h, becomes 03h.
+pub erase-changed : OneByte thePart readyChip eraseFrame 7 0x17
+unfolding fresh eraseFrame allBelow goodFor counted judgeOf isFrame summed sumOf lessAll less _and_ if_then_else_
+erase-changed =
+    record {
+      stands = ready-stands;
+      nothing = refl;
+      header = refl;
+      good = refl;
+      bytes = below-by eraseFrame refl;
+      after = omega arith;
+      inside = omega arith;
+      small = omega arith;
+      changed = λ e. let z : _≡_ {A = ℕ} 0x03 0x17 = e in omega arith;
+    }
+
+pub page-changed : OneByte thePart writingChip pageFrame 259 0x03
+unfolding fresh pageFrame framed footerOf lengthOf isLastPage fitting allBelow goodFor counted judgeOf isFrame summed sumOf lessAll less _and_ _or_ if_then_else_
+page-changed =
+    record {
+      stands = writing-stands;
+      nothing = refl;
+      header = refl;
+      good = refl;
+      bytes = below-by pageFrame refl;
+      after = omega arith;
+      inside = omega arith;
+      small = omega arith;
+      changed = λ e. let z : _≡_ {A = ℕ} 0x17 0x03 = e in omega arith;
+    }

@@ -1,0 +1,212 @@
+-- Noise changes nothing: the proofs of `NoiseAtCommand`, `NoiseAtData` and `NoiseBranches` for the definition of demand 2.
+-- Assumes nothing.
+use mathlib.Core.Bool.{Bool, false, false≢true, not, true}
+use mathlib.Core.List.{List, [], _++_, _∷_, map}
+use mathlib.Core.Path.{_∙_, _≡_, ap, refl, sym}
+use Prim.Native.Nat.{ℕ}
+use denote.Ref.{now}
+use Rattle.chip.proofs.Feeding.{run-append}
+use Rattle.chip.specs.Run.{answers, onward, run, spokenIn}
+use Rattle.chip.specs.Step.{Outcome, reactTo, stepOf}
+use Rattle.chip.specs.declared.Event.{Event}
+use Rattle.chip.specs.declared.Event.the-variants.{Gap}
+use Rattle.claims_frame.proofs.Framing.{Same, nothing}
+use Rattle.claims_good.proofs.Rooms.{alike-run, alike-utterances, leaves, reactionOf}
+use Rattle.claims_good.proofs.Stays.{run-stands, stays}
+use Rattle.claims_good.specs.Good.{Alike, AllProper, Proper, Stands, Utterance, aGap, andEvent, noEvent, utterances, uttered}
+use Rattle.claims_noise.proofs.Bad.{bad-does, badCore}
+use Rattle.claims_noise.proofs.Steps.{stepped, Stepped, frameDone, headerIn, onlyHeard}
+use Rattle.claims_noise.specs.Claims.{AsIf, AwaitsFrame, Noise, command, inReady, inSetup, page, runBy, saysBy}
+use Rattle.claims_noise.specs.Noise.{Awaits, allows, awaitedIn, completesOnly, empty, eventOf, goodFor, noFrame, permitted, thenAwaits, thenGap}
+use Rattle.effect.specs.Pages.{ready}
+use Rattle.effect.specs.declared.Core.{Core}
+use Rattle.effect.specs.declared.Phase.{Phase}
+use Rattle.effect.specs.declared.Phase.the-variants.{Awaiting, ModeByte, Ready, Setup}
+use Rattle.frame.proofs.Laws.Collector.{heard-none}
+use Rattle.frame.specs.Collector.{heard}
+use Rattle.frame.specs.Framing.{Framing, Sound, frames, framing, idle}
+use Rattle.frame.specs.declared.Header.the-variants.{Data}
+use Rattle.part.specs.declared.Part.{Part}
+use Rattle.words.proofs.Laws.{and-left, and-right}
+use Rattle.words.specs.Words.{_and_, _or_, if_then_else_}
+
+-- The definition's runs are runs.
+pub run-by : (p : Part) (vs : List Event) (o : Outcome) → runBy stepOf p vs o ≡ run p vs o
+unfolding runBy run
+run-by p [] o = refl
+run-by p (v ∷ vs) o = run-by p vs (onward p o v)
+
+pub says-by : (p : Part) (vs : List Event) (o : Outcome) → saysBy stepOf p vs o ≡ utterances p vs o
+unfolding saysBy utterances answers
+says-by p [] o = refl
+says-by p (v ∷ vs) o = ap (λ (xs : List Utterance). uttered (spokenIn (onward p o v)) ∷ xs) (says-by p vs (onward p o v))
+
+-- What is alike is as if it were the same.
+pub as-if : (p : Part) (o u : Outcome) → Stands p o → Stands p u → Alike o u → AsIf stepOf p o u
+as-if p o u s t a =
+    record {
+      now = a;
+      answers = λ vs q. says-by p vs o ∙ alike-utterances p vs o u s t q a ∙ sym (says-by p vs u);
+      later = λ vs q. rw (run-by p vs o, run-by p vs u) (alike-run p vs o u s t q a);
+    }
+
+-- The record that noise leaves, from a place in a frame.
+unfoldable pub leftIn : Phase → Core → Framing → List Sound → Core
+leftIn ModeByte k w vs = k
+leftIn Setup k w vs = k
+leftIn Ready k w vs = k
+leftIn (Awaiting x) k w vs = if empty (frames Data w vs) then k else ready k
+
+unfoldable pub leftCore : Core → Framing → List Sound → Core
+leftCore k w vs = leftIn (k .phase) k w vs
+
+record Left (u : Outcome) (w : Framing) (vs : List Sound) (t : Outcome) : Type 0 where
+  core : t .chip .core ≡ leftCore (u .chip .core) w vs
+  memory : t .memory ≡ u .memory
+
+-- A sound that completes nothing.
+left-on : (k : Core) (w : Framing) (v : Sound) (vs : List Sound) → AwaitsFrame (k .phase) → framing (headerIn (k .phase)) w v .done ≡ []
+    → leftCore k w (v ∷ vs) ≡ leftCore k (framing (headerIn (k .phase)) w v .stands) vs
+unfolding leftCore leftIn frames
+left-on k w v vs a e = go (k .phase) a e
+  where
+    go : (f : Phase) → AwaitsFrame f → framing (headerIn f) w v .done ≡ [] → leftIn f k w (v ∷ vs) ≡ leftIn f k (framing (headerIn f) w v .stands) vs
+    go f (command inSetup) e = refl
+    go f (command inReady) e = refl
+    go f (page x) e = ap (λ (ds : List (List ℕ)). if empty (ds ++ frames Data (framing Data w v .stands) vs) then k else ready k) e
+
+-- A sound that completes a bad frame.
+left-bad : (k : Core) (w x : Framing) (v : Sound) (vs : List Sound) (f : List ℕ) (fs : List (List ℕ)) → AwaitsFrame (k .phase)
+    → framing (headerIn (k .phase)) w v .done ≡ f ∷ fs → leftCore k w (v ∷ vs) ≡ leftCore (badCore (k .phase) k) x vs
+unfolding leftCore leftIn frames badCore empty if_then_else_
+left-bad k w x v vs f fs a e = go (k .phase) refl a e
+  where
+    go : (g : Phase) → k .phase ≡ g → AwaitsFrame g → framing (headerIn g) w v .done ≡ f ∷ fs → leftIn g k w (v ∷ vs) ≡ leftIn (badCore g k .phase) (badCore g k) x vs
+    go g q (command inSetup) e = rw q
+    go g q (command inReady) e = rw q
+    go g q (page y) e = ap (λ (ds : List (List ℕ)). if empty (ds ++ frames Data (framing Data w v .stands) vs) then k else ready k) e
+
+-- Where no frame is allowed, a completed frame is bad.
+none-allowed : (a : Awaits) (f : List ℕ) (fs : List (List ℕ)) (end : Bool) → permitted noFrame a (f ∷ fs) end ≡ true → goodFor a f ≡ false
+unfolding permitted allows _or_ _and_
+none-allowed a f fs end e = go (goodFor a f) e
+  where
+    go : (t : Bool) → not t or false and end ≡ true → t ≡ false
+    go true e = absurd (false≢true e)
+    go false e = refl
+
+bad-awaits : (f : Phase) (k : Core) → AwaitsFrame f → k .phase ≡ f → AwaitsFrame (badCore f k .phase)
+unfolding badCore
+bad-awaits f k (command inSetup) e = rw e (command inSetup)
+bad-awaits f k (command inReady) e = rw e (command inReady)
+bad-awaits f k (page w) e = command inReady
+
+bad-next : (f : Phase) (k : Core) (g : List ℕ) (gs : List (List ℕ)) → AwaitsFrame f → k .phase ≡ f → thenAwaits (awaitedIn f) (g ∷ gs) ≡ awaitedIn (badCore f k .phase)
+unfolding badCore thenAwaits
+bad-next f k g gs (command inSetup) e = rw e
+bad-next f k g gs (command inReady) e = rw e
+bad-next f k g gs (page w) e = refl
+
+left-none : (k : Core) (w : Framing) → leftCore k w [] ≡ k
+unfolding leftCore leftIn frames empty if_then_else_
+left-none k w = go (k .phase)
+  where
+    go : (f : Phase) → leftIn f k w [] ≡ k
+    go ModeByte = refl
+    go Setup = refl
+    go Ready = refl
+    go (Awaiting x) = refl
+
+-- What the rest of a noise does, from the state that its first sound leaves.
+Rest : Part → List Sound → Outcome → Type 0
+Rest p vs u =
+    (w : Framing) → Stands p u → AwaitsFrame (u .chip .core .phase) → Same w (heard (u .chip .collector))
+    → completesOnly noFrame (awaitedIn (u .chip .core .phase)) w vs ≡ true → Left u w vs (run p (map eventOf vs) u)
+
+module _ (p : Part) (v : Sound) (vs : List Sound) (u : Outcome) (w : Framing) (s : Stands p u) (a : AwaitsFrame (u .chip .core .phase))
+    (h : Proper (eventOf v)) (rest : Rest p vs (onward p u (eventOf v)))
+    (e : completesOnly noFrame (awaitedIn (u .chip .core .phase)) w (v ∷ vs) ≡ true) where
+  permits : permitted noFrame (awaitedIn (u .chip .core .phase)) (framing (headerIn (u .chip .core .phase)) w v .done) (empty vs) ≡ true
+  unfolding completesOnly
+  permits = and-left _ _ e
+
+  rests : completesOnly noFrame (thenAwaits (awaitedIn (u .chip .core .phase)) (framing (headerIn (u .chip .core .phase)) w v .done))
+      (framing (headerIn (u .chip .core .phase)) w v .stands) vs ≡ true
+  unfolding completesOnly
+  rests = and-right _ _ e
+
+  -- The rest, where the record is now k.
+  resting : (k : Core) → onward p u (eventOf v) .chip .core ≡ k → AwaitsFrame (k .phase)
+      → Same (framing (headerIn (u .chip .core .phase)) w v .stands) (heard (onward p u (eventOf v) .chip .collector))
+      → thenAwaits (awaitedIn (u .chip .core .phase)) (framing (headerIn (u .chip .core .phase)) w v .done) ≡ awaitedIn (k .phase)
+      → Left (onward p u (eventOf v)) (framing (headerIn (u .chip .core .phase)) w v .stands) vs (run p (map eventOf vs) (onward p u (eventOf v)))
+  unfolding Rest
+  resting k c b m t =
+      let x = framing (headerIn (u .chip .core .phase)) w v .stands in
+      rest x (stays p u (eventOf v) s h) (rw c b) m
+      (ap (λ (l : Core). completesOnly noFrame (awaitedIn (l .phase)) x vs) c ∙ ap (λ (y : Awaits). completesOnly noFrame y x vs) (sym t) ∙ rests)
+
+  one-sound : Stepped p u v w → Left u w (v ∷ vs) (run p (map eventOf vs) (onward p u (eventOf v)))
+  unfolding thenAwaits
+  one-sound (onlyHeard d g) =
+      let x = framing (headerIn (u .chip .core .phase)) w v .stands in
+      let l = resting (u .chip .core) (g .core) a (g .same) (ap (thenAwaits (awaitedIn (u .chip .core .phase))) d) in
+      record {
+        core = l .core ∙ ap (λ (k : Core). leftCore k x vs) (g .core) ∙ sym (left-on (u .chip .core) w v vs a d);
+        memory = l .memory ∙ g .memory;
+      }
+  one-sound (frameDone f fs d g) =
+      let x = framing (headerIn (u .chip .core .phase)) w v .stands in
+      let bad = none-allowed (awaitedIn (u .chip .core .phase)) f fs (empty vs) (rw d at permits) in
+      let b = bad-does (u .chip .core .phase) p (u .chip .core) (u .memory) f a bad in
+      let k : Core = badCore (u .chip .core .phase) (u .chip .core) in
+      let l = resting k (g .core ∙ b .core) (bad-awaits (u .chip .core .phase) (u .chip .core) a refl) (g .same)
+      (ap (thenAwaits (awaitedIn (u .chip .core .phase))) d ∙ bad-next (u .chip .core .phase) (u .chip .core) f fs a refl) in
+      record {
+        core = l .core ∙ ap (λ (k : Core). leftCore k x vs) (g .core ∙ b .core) ∙ sym (left-bad (u .chip .core) w x v vs f fs a d);
+        memory = l .memory ∙ g .memory ∙ b .memory;
+      }
+
+-- The whole of a noise.
+noise-run : (p : Part) (vs : List Sound) (u : Outcome) (w : Framing) → Stands p u → AwaitsFrame (u .chip .core .phase) → Same w (heard (u .chip .collector))
+    → AllProper (map eventOf vs) → completesOnly noFrame (awaitedIn (u .chip .core .phase)) w vs ≡ true → Left u w vs (run p (map eventOf vs) u)
+unfolding run Rest
+noise-run p [] u w s a m q e = record { core = sym (left-none (u .chip .core) w); memory = refl }
+noise-run p (v ∷ vs) u w s a m (andEvent h q) e =
+    one-sound p v vs u w s a h (λ w′ s′ a′ m′ e′. noise-run p vs (onward p u (eventOf v)) w′ s′ a′ m′ q e′) e (stepped p u v w s a m)
+
+-- And the gap after it.
+gap-leaves : (p : Part) (t : Outcome) → Stands p t → (onward p t Gap .chip .core ≡ t .chip .core) × (onward p t Gap .memory ≡ t .memory)
+    × (onward p t Gap .chip .collector .len ≡ 0) × (heard (onward p t Gap .chip .collector) ≡ [])
+unfolding reactionOf reactTo
+gap-leaves p t s = let l = leaves p t Gap s in (l .core, l .memory, l .count, l .hears)
+
+proper-append : {us vs : List Event} → AllProper us → AllProper vs → AllProper (us ++ vs)
+proper-append noEvent r = r
+proper-append (andEvent h q) r = andEvent h (proper-append q r)
+
+pub record NoiseLeaves (p : Part) (o : Outcome) (vs : List Sound) (t : Outcome) : Type 0 where
+  pub core : t .chip .core ≡ leftCore (o .chip .core) idle vs
+  pub memory : t .memory ≡ o .memory
+  pub count : t .chip .collector .len ≡ 0
+  pub hears : heard (t .chip .collector) ≡ []
+  pub stands : Stands p t
+
+pub noise-leaves : (p : Part) (o : Outcome) (vs : List Sound) → AwaitsFrame (o .chip .core .phase) → Noise noFrame p o vs
+    → NoiseLeaves p o vs (run p (thenGap vs) o)
+unfolding thenGap run
+noise-leaves p o vs a n =
+    let z : heard (o .chip .collector) ≡ [] = heard-none (o .chip .collector) (n .nothing) in
+    let t : Outcome = run p (map eventOf vs) o in
+    let l = noise-run p vs o idle (n .stands) a (rw z nothing) (n .bytes) (n .quiet) in
+    let st = run-stands p (map eventOf vs) o (n .stands) (n .bytes) in
+    let g = gap-leaves p t st in
+    let e : run p (thenGap vs) o ≡ onward p t Gap = run-append p (map eventOf vs) (Gap ∷ []) o in
+    rw e
+    (record {
+      core = g .0 ∙ l .core;
+      memory = g .1 ∙ l .memory;
+      count = g .2;
+      hears = g .3;
+      stands = stays p t Gap st aGap;
+    })

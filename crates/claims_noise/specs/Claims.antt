@@ -1,0 +1,173 @@
+-- The statements of demand 3, each proved in proofs/ under its own name. They speak of any chip M, that is, of what a chip does with an event; the one
+-- that they are proved of is `stepOf`, the definition of demand 2.
+use mathlib.Core.Bool.{true, false}
+use mathlib.Core.List.{List, [], _++_, _∷_, map}
+use mathlib.Core.Logic.{_≢_}
+use mathlib.Core.Path.{_≡_}
+use Prim.Native.Nat.{_-_, _<_, _≤_, ℕ}
+use lib.ListN.{getD, length, replicate, set}
+use Rattle.chip.specs.Run.{spokenIn}
+use Rattle.chip.specs.Step.{Outcome}
+use Rattle.chip.specs.declared.Answer.the-variants.{Replied}
+use Rattle.chip.specs.declared.Chip.{Chip}
+use Rattle.chip.specs.declared.Event.{Event}
+use Rattle.chip.specs.declared.Event.the-variants.{Byte}
+use Rattle.claims_good.specs.Good.{Alike, AllProper, Stands, Utterance, uttered}
+use Rattle.claims_noise.specs.Noise.{Allowed, Awaits, awaitedIn, completesOnly, dataCompleted, eventOf, goodFor, headerOf, noFrame, only, thenAwaits, thenGap}
+use Rattle.effect.specs.Effect.{Flash, flash}
+use Rattle.effect.specs.Pages.{ready}
+use Rattle.effect.specs.declared.Awaited.{Awaited}
+use Rattle.effect.specs.declared.Core.{Core}
+use Rattle.effect.specs.declared.Phase.{Phase}
+use Rattle.effect.specs.declared.Phase.the-variants.{Awaiting, ModeByte, Ready, Setup}
+use Rattle.frame.proofs.Laws.Sum.{Below}
+use Rattle.frame.specs.Frame.{dataFrame, headerByte}
+use Rattle.frame.specs.Framing.{Framed, Framing, Sound, byte, frames, framing, idle}
+use Rattle.frame.specs.declared.Footer.the-variants.{Last}
+use Rattle.part.specs.declared.Part.{Part}
+use lib.Dec.{eqb}
+use Rattle.words.specs.Words.{if_then_else_}
+
+-- A chip, its runs, and what it says to each event.
+abbrev pub Machine : Type 0
+Machine = Part → Chip → Event → Flash → List ℕ → Outcome
+
+abbrev pub onwardBy : Machine → Part → Outcome → Event → Outcome
+onwardBy M p o v = M p (o .chip) v (o .memory) (o .room)
+
+unfoldable pub runBy : Machine → Part → List Event → Outcome → Outcome
+runBy M p [] o = o
+runBy M p (v ∷ vs) o = runBy M p vs (onwardBy M p o v)
+
+unfoldable pub saysBy : Machine → Part → List Event → Outcome → List Utterance
+saysBy M p [] o = []
+saysBy M p (v ∷ vs) o = uttered (spokenIn (onwardBy M p o v)) ∷ saysBy M p vs (onwardBy M p o v)
+
+-- u is as if it were o: flash, options, rate and phase are the same, and nothing more or else is collected; "every later event gets the answer" that o
+-- would give, and after any later events flash, options, rate and phase are those of o.
+pub record AsIf (M : Machine) (p : Part) (o u : Outcome) : Type 0 where
+  pub now : Alike o u
+  pub answers : (vs : List Event) → AllProper vs → saysBy M p vs o ≡ saysBy M p vs u
+  pub later : (vs : List Event) → AllProper vs → Alike (runBy M p vs o) (runBy M p vs u)
+
+-- "Take a chip that awaits a command": phases 2 and 3.
+pub data AwaitsCommand : Phase → Type 0 where
+  inSetup : AwaitsCommand Setup
+  inReady : AwaitsCommand Ready
+
+-- "with nothing collected. Let it hear any bytes and gaps in which the framing rule of demand 2 completes no good frame": g is the one good frame
+-- allowed, or none.
+pub record Noise (g : Allowed) (p : Part) (o : Outcome) (vs : List Sound) : Type 0 where
+  pub stands : Stands p o
+  pub nothing : o .chip .collector .len ≡ 0
+  pub bytes : AllProper (map eventOf vs)
+  pub quiet : completesOnly g (awaitedIn (o .chip .core .phase)) idle vs ≡ true
+
+-- ", then a gap. Flash, options, rate and phase are as before, and every later event gets the answer that a chip without the noise would give."
+abbrev pub NoiseAtCommand : Machine → Type 0
+NoiseAtCommand M =
+    (p : Part) (o : Outcome) (vs : List Sound) → AwaitsCommand (o .chip .core .phase) → Noise noFrame p o vs → AsIf M p o (runBy M p (thenGap vs) o)
+
+-- "the command is over, and the chip awaits a command": flash (pages stored earlier included), options and rate are as before.
+unfoldable pub commandOver : Outcome → Outcome
+commandOver o =
+    record {
+      answer = o .answer;
+      chip = record { core = ready (o .chip .core); collector = o .chip .collector };
+      memory = flash (o .memory .codeFlash) (o .memory .dataFlash);
+      room = o .room;
+    }
+
+-- "If it awaited a data frame instead, either the same holds, or a bad frame was completed": the second exactly when a data frame was completed.
+unfoldable pub leftBy : List Sound → Outcome → Outcome
+leftBy vs o = if dataCompleted vs then commandOver o else o
+
+abbrev pub NoiseAtData : Machine → Type 0
+NoiseAtData M =
+    (p : Part) (o : Outcome) (w : Awaited) (vs : List Sound) → o .chip .core .phase ≡ Awaiting w → Noise noFrame p o vs
+    → AsIf M p (leftBy vs o) (runBy M p (thenGap vs) o)
+
+-- The branch is an if-and-only-if: the chip still awaits data exactly when no data frame was completed, else it is ready.
+pub record Branch (M : Machine) (p : Part) (o : Outcome) (w : Awaited) (vs : List Sound) : Type 0 where
+  pub stays : dataCompleted vs ≡ false → runBy M p (thenGap vs) o .chip .core .phase ≡ Awaiting w
+  pub ends : dataCompleted vs ≡ true → runBy M p (thenGap vs) o .chip .core .phase ≡ Ready
+  pub stayed : runBy M p (thenGap vs) o .chip .core .phase ≡ Awaiting w → dataCompleted vs ≡ false
+  pub ended : runBy M p (thenGap vs) o .chip .core .phase ≡ Ready → dataCompleted vs ≡ true
+
+abbrev pub NoiseBranches : Machine → Type 0
+NoiseBranches M =
+    (p : Part) (o : Outcome) (w : Awaited) (vs : List Sound) → o .chip .core .phase ≡ Awaiting w → Noise noFrame p o vs → Branch M p o w vs
+
+-- "A good frame with exactly one byte after its length byte changed": f is good where it is awaited, and its byte i becomes v.
+pub record OneByte (p : Part) (o : Outcome) (f : List ℕ) (i v : ℕ) : Type 0 where
+  pub stands : Stands p o
+  pub nothing : o .chip .collector .len ≡ 0
+  pub header : getD f 0 0 ≡ headerByte (headerOf (awaitedIn (o .chip .core .phase)))
+  pub good : goodFor (awaitedIn (o .chip .core .phase)) f ≡ true
+  pub bytes : Below 256 f
+  pub after : 2 ≤ i
+  pub inside : i < length f
+  pub small : v < 256
+  pub changed : getD f i 0 ≢ v
+
+-- A bad frame's status: 15h or 07h.
+pub data Blame : ℕ → Type 0 where
+  is15h : Blame 0x15
+  is07h : Blame 0x07
+
+-- A byte that is only heard is answered by nothing; a bad command frame and A0h's bad data by one status, a bad page by the status twice.
+abbrev pub silence : Utterance
+silence = record { answer = Replied 0 0; bytes = [] }
+
+abbrev pub saysFrame : List ℕ → Utterance
+saysFrame ds = record { answer = Replied (length (dataFrame ds Last)) 1; bytes = dataFrame ds Last }
+
+abbrev pub blames : Phase → ℕ → Utterance
+blames ModeByte s = saysFrame (s ∷ [])
+blames Setup s = saysFrame (s ∷ [])
+blames Ready s = saysFrame (s ∷ [])
+blames (Awaiting w) s = if eqb (w .command) 0xA0 then saysFrame (s ∷ []) else saysFrame (s ∷ s ∷ [])
+
+-- What is awaited after it: a command.
+abbrev pub afterBad : Phase → Outcome → Outcome
+afterBad ModeByte o = o
+afterBad Setup o = o
+afterBad Ready o = o
+afterBad (Awaiting w) o = commandOver o
+
+-- ".. is not good in the state that awaited it": it is one complete frame, it is not good, it is blamed, and nothing else happens but that a command with
+-- data is over.
+pub record IsBad (M : Machine) (p : Part) (o : Outcome) (f : List ℕ) : Type 0 where
+  pub alone : frames (headerOf (awaitedIn (o .chip .core .phase))) idle (map byte f) ≡ f ∷ []
+  pub bad : goodFor (awaitedIn (o .chip .core .phase)) f ≡ false
+  pub status : ℕ
+  pub blame : Blame status
+  pub answers : saysBy M p (map Byte f) o ≡ replicate (length f - 1) silence ++ blames (o .chip .core .phase) status ∷ []
+  pub leaves : AsIf M p (afterBad (o .chip .core .phase) o) (runBy M p (map Byte f) o)
+
+-- Phases that await a frame: 2, 3 and 4.
+pub data AwaitsFrame : Phase → Type 0 where
+  command : {f : Phase} → AwaitsCommand f → AwaitsFrame f
+  page : (w : Awaited) → AwaitsFrame (Awaiting w)
+
+abbrev pub OneByteChanged : Machine → Type 0
+OneByteChanged M =
+    (p : Part) (o : Outcome) (f : List ℕ) (i v : ℕ) → AwaitsFrame (o .chip .core .phase) → OneByte p o f i v → IsBad M p o (set f i v)
+
+-- With one frame allowed, for a claim about a whole cable: where the rule stands after some sounds, and what the premise then says.
+pub record Line : Type 0 where
+  pub awaits : Awaits
+  pub stands : Framing
+
+unfoldable pub lineAfter : Awaits → Framing → List Sound → Line
+lineAfter a w [] = record { awaits = a; stands = w }
+lineAfter a w (v ∷ vs) = lineAfter (thenAwaits a (framing (headerOf a) w v .done)) (framing (headerOf a) w v .stands) vs
+
+-- Either no good frame was completed, or the last sound completed the one allowed, good where it was awaited, and before it there was only noise.
+pub data OnlyThis (f : List ℕ) (a : Awaits) (w : Framing) (vs : List Sound) : Type 0 where
+  noneGood : completesOnly noFrame a w vs ≡ true → OnlyThis f a w vs
+  lastGood : (us : List Sound) (v : Sound) → vs ≡ us ++ v ∷ [] → completesOnly noFrame a w us ≡ true
+      → framing (headerOf (lineAfter a w us .awaits)) (lineAfter a w us .stands) v .done ≡ f ∷ [] → goodFor (lineAfter a w us .awaits) f ≡ true → OnlyThis f a w vs
+
+abbrev pub AllowedOrNone : Type 0
+AllowedOrNone = (f : List ℕ) (a : Awaits) (w : Framing) (vs : List Sound) → completesOnly (only f) a w vs ≡ true → OnlyThis f a w vs

@@ -1,0 +1,81 @@
+-- Noise, by the framing rule alone: demand 3. No flash, no options and no verdict of the chip is in it, only the bytes and gaps that come, the
+-- header that is awaited, and footer, SUM and LEN of the frames that they complete.
+use mathlib.Core.Bool.{Bool, false, not, true}
+use mathlib.Core.List.{List, [], _++_, _∷_, map}
+use Prim.Native.Nat.{ℕ}
+use Rattle.chip.specs.declared.Event.{Event}
+use Rattle.chip.specs.declared.Event.the-variants.{Byte, Gap}
+use Rattle.effect.specs.Pages.{footerOf, lengthOf}
+use Rattle.effect.specs.declared.Phase.{Phase}
+use Rattle.effect.specs.declared.Phase.the-variants.{Awaiting, ModeByte, Ready, Setup}
+use Rattle.flash.specs.Flash.{same}
+use Rattle.frame.specs.Framing.{Framed, Framing, Sound, byte, frames, framing, gap, idle}
+use Rattle.frame.specs.Judgement.{fitting, isGood, judgeOf}
+use Rattle.frame.specs.declared.Footer.{Footer}
+use Rattle.frame.specs.declared.Footer.the-variants.{Last}
+use Rattle.frame.specs.declared.Header.{Header}
+use Rattle.frame.specs.declared.Header.the-variants.{Command, Data}
+use Rattle.words.specs.Words.{_and_, _or_}
+
+-- What is awaited: a command frame, or a data frame with this footer and so many data bytes.
+pub data Awaits : Type 0 where
+  aCommand : Awaits
+  aPage : Footer → ℕ → Awaits
+
+abbrev pub headerOf : Awaits → Header
+headerOf aCommand = Command
+headerOf (aPage f n) = Data
+
+-- "A good frame has right footer and SUM; a data frame also needs the right LEN.": for a command whatever the command.
+unfoldable pub goodFor : Awaits → List ℕ → Bool
+goodFor aCommand bs = isGood (judgeOf Last bs)
+goodFor (aPage f n) bs = isGood (fitting n bs (judgeOf f bs))
+
+-- What a phase awaits. (Phase 1 awaits no frame, and no claim is made of it.)
+abbrev pub awaitedIn : Phase → Awaits
+awaitedIn ModeByte = aCommand
+awaitedIn Setup = aCommand
+awaitedIn Ready = aCommand
+awaitedIn (Awaiting w) = aPage (footerOf w) (lengthOf w)
+
+-- The one good frame that may be completed, or none.
+pub data Allowed : Type 0 where
+  noFrame : Allowed
+  only : List ℕ → Allowed
+
+unfoldable pub allows : Allowed → List ℕ → Bool
+allows noFrame bs = false
+allows (only f) bs = same f bs
+
+unfoldable pub empty : {A : Type 0} → List A → Bool
+empty [] = true
+empty (x ∷ xs) = false
+
+-- A completed frame is not good, or it is the one allowed, and nothing comes after it.
+unfoldable pub permitted : Allowed → Awaits → List (List ℕ) → Bool → Bool
+permitted g a [] end = true
+permitted g a (f ∷ fs) end = not (goodFor a f) or allows g f and end
+
+-- After a bad data frame "the command is over": what follows is framed as for a command.
+unfoldable pub thenAwaits : Awaits → List (List ℕ) → Awaits
+thenAwaits a [] = a
+thenAwaits a (f ∷ fs) = aCommand
+
+-- "any bytes and gaps in which the framing rule of demand 2 completes no good frame", but for the one allowed.
+unfoldable pub completesOnly : Allowed → Awaits → Framing → List Sound → Bool
+completesOnly g a w [] = true
+completesOnly g a w (v ∷ vs) =
+    let s = framing (headerOf a) w v in
+    permitted g a (s .done) (empty vs) and completesOnly g (thenAwaits a (s .done)) (s .stands) vs
+
+-- A data frame was completed.
+unfoldable pub dataCompleted : List Sound → Bool
+dataCompleted vs = not (empty (frames Data idle vs))
+
+-- The events of bytes and gaps; "then a gap".
+abbrev pub eventOf : Sound → Event
+eventOf (byte b) = Byte b
+eventOf gap = Gap
+
+unfoldable pub thenGap : List Sound → List Event
+thenGap vs = map eventOf vs ++ Gap ∷ []
