@@ -2,24 +2,27 @@
 -- Assumes nothing.
 use mathlib.Core.Bool.{Bool, false, true}
 use mathlib.Core.List.{List, [], _∷_, map}
-use mathlib.Core.Path.{_≡_, refl}
+use mathlib.Core.Path.{_≡_, ap, refl, sym}
 use Prim.Native.Nat.{ℕ}
 use native.Mathlib.Omega.{arith}
 use lib.Dec.{ltb}
-use lib.ListN.{length-replicate, replicate, take}
+use lib.ListN.{getD, length-replicate, replicate, set, take}
 use borrow.Author.Tests.{ltb-true}
 use Rattle.chip.specs.Step.{byteIn, frameDoes, goodAwaited, goodBegun, goodCollected, goodCore, goodPhase, goodPlaces, goodState, heardByte, reactTo, settled, stepOf, verdictOf}
+use Rattle.chip.specs.declared.Event.the-variants.{Byte}
 use Rattle.claims_frame.proofs.Framing.{header, nothing}
 use Rattle.claims_good.proofs.Fresh.{new-stands, the-part-is}
 use Rattle.claims_good.specs.Good.{AllProper, Arrays, Stands, aByte, aGap, andEvent, noEvent}
 use Rattle.claims_noise.proofs.Claims.{noise-at-command}
-use Rattle.claims_noise.specs.Claims.{AsIf, Noise, OneByte, inReady, runBy, saysBy}
-use Rattle.claims_noise.specs.Examples.{allSaid, cutPage, eraseFrame, innerReset, longNoise, pageFrame, reset, writingChip, wrongPage}
+use Rattle.claims_noise.proofs.OneByte.{one-byte-changed}
+use Rattle.claims_noise.specs.Claims.{AsIf, IsBad, Noise, OneByte, commandOver, inReady, page, runBy, saysBy}
+use Rattle.claims_noise.specs.Examples.{allSaid, cutPage, eraseFrame, innerReset, longNoise, pageFrame, reset, secondPage, writingChip, wrongPage}
 use Rattle.claims_noise.specs.Noise.{aCommand, allows, completesOnly, dataCompleted, empty, eventOf, goodFor, noFrame, only, permitted, thenAwaits, thenGap}
 use Rattle.claims_stars.specs.Table.{readyChip, thePart}
 use Rattle.effect.specs.Commands.{commandDoes}
-use Rattle.effect.specs.Pages.{badData, dataDoes, footerOf, isLastPage, lengthOf}
-use Rattle.flash.specs.Flash.{same}
+use Rattle.effect.specs.Effect.{Flash}
+use Rattle.effect.specs.Pages.{badData, dataDoes, footerOf, goodData, isLastPage, lengthOf, nextPage, pageIn, pageStored, programPage, storedReply}
+use Rattle.flash.specs.Flash.{blank, same}
 use Rattle.frame.proofs.Laws.Sum.{Below, more, none}
 use Rattle.frame.specs.Collector.{fresh, hear, heard, holding}
 use Rattle.frame.specs.Frame.{complete, counted, framed, full, isFrame}
@@ -27,6 +30,7 @@ use Rattle.frame.specs.Framing.{Sound, byte, frames, framing, gap, idle, inside
 use Rattle.frame.specs.Judgement.{fitting, judgeOf, summed}
 use Rattle.frame.specs.Sum.{less, lessAll, sumOf}
 use Rattle.frame.specs.declared.Header.the-variants.{Command}
+use Rattle.lent.specs.Lent.{putAt, putOf}
 use Rattle.options.proofs.Laws.{fresh-good}
 use Rattle.options.specs.Options.{fixedBits, freshOptions, goodOptions, lastBlock}
 use Rattle.part.specs.Part.{blockOf, blockSize, described, liesIn, pageOf, placeIn, placeOf}
@@ -156,3 +160,15 @@ page-changed =
       small = omega arith;
       changed = λ e. let z : _≡_ {A = ℕ} 0x17 0x03 = e in omega arith;
     }
+
+-- So the one changed byte keeps the page out: unchanged it is stored at 0500h, changed it is not, and it is blamed.
+pub page-stored : getD (runBy stepOf thePart (map Byte pageFrame) writingChip .memory .codeFlash) 0x0500 0 ≡ 0xAA
+unfolding runBy pageFrame dataDoes goodData programPage pageIn pageStored blank putOf putAt nextPage storedReply badData fitting footerOf lengthOf isLastPage goodAwaited goodPlaces stepOf settled verdictOf firstOf described _from_to_ _and_ _or_ if_then_else_ goodState goodCollected goodBegun goodCore goodOptions fixedBits goodPhase lastBlock freshOptions fresh heard holding hear complete full counted isFrame reactTo byteIn heardByte frameDoes commandDoes judgeOf summed sumOf lessAll less placeOf liesIn placeIn blockOf pageOf blockSize sendOf framesOf framed payloads
+page-stored = refl
+
+pub page-changed-is-bad : IsBad stepOf thePart writingChip (set pageFrame 259 0x03)
+page-changed-is-bad = one-byte-changed thePart writingChip pageFrame 259 0x03 (page secondPage) page-changed
+
+pub page-changed-not-stored : getD (runBy stepOf thePart (map Byte (set pageFrame 259 0x03)) writingChip .memory .codeFlash) 0x0500 0 ≡ 0xFF
+unfolding commandOver
+page-changed-not-stored = ap (λ (m : Flash). getD (m .codeFlash) 0x0500 0) (sym (page-changed-is-bad .leaves .now .memory))

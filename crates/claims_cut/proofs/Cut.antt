@@ -1,0 +1,192 @@
+-- The proofs of `OneEvent` and `PowerOnKeeps`.
+-- Assumes nothing.
+use mathlib.Core.Bool.{Bool, false, false≢true, true}
+use mathlib.Core.List.{List}
+use mathlib.Core.Path.{_≡_, ap, refl}
+use Prim.Native.Nat.{_%_, _*_, _+_, _-_, _≤_, ℕ}
+use native.Mathlib.Nat.{mul-le-mul-right, suc-mul}
+use native.Mathlib.Numerals.{add-one}
+use native.Mathlib.Omega.{arith}
+use lib.Dec.{eqb}
+use lib.ListN.{drop, getD, length, length-drop, length-replicate, replicate}
+use lib.Seq.{length-take-le}
+use borrow.Author.Tests.{eqb-true, not-false}
+use Rattle.chip.specs.Step.{Reaction, byteIn, frameDoes, goodAwaited, goodPhase, goodState, heardByte, reactTo}
+use Rattle.chip.specs.declared.Event.{Event}
+use Rattle.chip.specs.declared.Event.the-variants.{Byte, Gap, PowerOn}
+use Rattle.claims_cut.proofs.Put.{put-becomes}
+use Rattle.claims_cut.specs.Cut.{Change, OneEvent, PowerOnKeeps, nothing, oneBlock, onePage}
+use Rattle.claims_good.proofs.Awaited.{Pages, good-walk}
+use Rattle.claims_good.proofs.Core.{core-is}
+use Rattle.claims_good.proofs.Rooms.{leaves, reactionOf}
+use Rattle.claims_good.proofs.Verdict.{Conditions, conditions}
+use Rattle.effect.specs.Commands.{blockErase, commandDoes, erasedIn, work}
+use Rattle.effect.specs.Effect.{Effect, Flash, bytesIn, effect}
+use Rattle.effect.specs.Pages.{dataDoes, footerOf, goodData, lengthOf, pageIn, pageStored, payloadOf, programPage}
+use Rattle.effect.specs.declared.Asked.{Asked}
+use Rattle.effect.specs.declared.Asked.the-variants.{BlankCheck, BlockErase, Checksum, Programming, RateSet, Reset, SecurityGet, SecurityRelease, SecuritySet, SignatureGet, Unfit, Unknown, Verify}
+use Rattle.effect.specs.declared.Awaited.{Awaited}
+use Rattle.effect.specs.declared.Core.{Core}
+use Rattle.effect.specs.declared.Done.{Done}
+use Rattle.effect.specs.declared.Phase.{Phase}
+use Rattle.effect.specs.declared.Phase.the-variants.{Awaiting, ModeByte, Ready, Setup}
+use Rattle.flash.specs.Flash.{eraseOf, erased}
+use Rattle.frame.specs.Collector.{heard}
+use Rattle.frame.specs.Judgement.{fitting, isGood, judgeOf}
+use Rattle.frame.specs.declared.judgement.Judgement.{Judgement}
+use Rattle.frame.specs.declared.judgement.Judgement.the-variants.{Good, UnfitLength, WrongFooter, WrongSum}
+use Rattle.part.proofs.Laws.{Spot, block-page, lies-place, place-lies}
+use Rattle.part.specs.Part.{blockSize, blocks, described, first, pageSize, placeIn, placeOf, size}
+use Rattle.part.specs.declared.Area.{Area}
+use Rattle.part.specs.declared.Area.the-variants.{CodeFlash, DataFlash}
+use Rattle.part.specs.declared.Part.{Part}
+use Rattle.part.specs.declared.Place.{Place}
+use Rattle.part.specs.declared.Place.the-variants.{In, Outside}
+use Rattle.words.proofs.Laws.{and-right, if-all}
+use Rattle.words.specs.Words.{if_then_else_}
+
+record Does (p : Part) (m : Flash) (x : Effect) : Type 0 where
+  change : Change p m (x .memory)
+
+stays-so : {p : Part} (m : Flash) (d : Done) → Does p m (effect d m)
+stays-so m d = record { change = nothing refl }
+
+-- A block that begins in its area ends in it.
+block-inside : (p : Part) (at : ℕ) (a : Area) (offset block page : ℕ) → Spot p at a offset block page → offset % blockSize p a ≡ 0
+    → offset + blockSize p a ≤ size p a
+block-inside p at a offset block page s z =
+    let n = blockSize p a in
+    let e : offset ≡ block * n = omega (arith, s .in-block, z) in
+    let l : (block + 1) * n ≤ blocks p a * n = mul-le-mul-right n (omega (arith, s .block-below)) in
+    let k : (block + 1) * n ≡ block * n + n = rw add-one (suc-mul block n) in
+    omega arith
+
+-- A good page has 256 bytes.
+fitting-long : (n : ℕ) (bs : List ℕ) (j : Judgement) → isGood (fitting n bs j) ≡ true → length bs ≡ n + 4
+unfolding fitting if_then_else_
+fitting-long n bs Good e = go (eqb (length bs) (n + 4)) refl e
+  where
+    go : (t : Bool) → eqb (length bs) (n + 4) ≡ t → isGood (if t then Good else UnfitLength) ≡ true → length bs ≡ n + 4
+    go true q e = eqb-true _ _ q
+    go false q e = absurd (false≢true e)
+fitting-long n bs WrongFooter e = absurd (false≢true e)
+fitting-long n bs WrongSum e = absurd (false≢true e)
+fitting-long n bs UnfitLength e = absurd (false≢true e)
+
+payload-long : (w : Awaited) (f : List ℕ) → eqb (w .command) 0xA0 ≡ false → isGood (fitting (lengthOf w) f (judgeOf (footerOf w) f)) ≡ true
+    → length (payloadOf f) ≡ 256
+unfolding lengthOf if_then_else_
+payload-long w f n g =
+    let l : lengthOf w ≡ 256 = ap (λ (t : Bool). if t then 8 else 256) n in
+    let e : length f ≡ lengthOf w + 4 = fitting-long (lengthOf w) f (judgeOf (footerOf w) f) g in
+    length-take-le 256 (drop 2 f) (rw length-drop (omega arith))
+
+module _ (p : Part) (k : Core) (m : Flash) (long : (a : Area) → length (bytesIn a m) ≡ size p a) where
+  erases : (at : ℕ) (x : Place) → placeOf p at ≡ x → Does p m (blockErase p k x m)
+  unfolding blockErase erasedIn eraseOf
+  erases at Outside e = stays-so m _
+  erases at (In a offset block page) e =
+      if-all (Does p m) _ (λ t. stays-so m _)
+      (λ t. if-all (Does p m) _ (λ u. stays-so m _)
+      (λ u.
+      let z : offset % blockSize p a ≡ 0 = eqb-true _ _ (not-false _ t) in
+      let n : length (replicate (blockSize p a) erased) ≡ blockSize p a = length-replicate {A = ℕ} (blockSize p a) erased in
+      let i = block-inside p at a offset block page (place-lies p at a offset block page e) z in
+      record { change = oneBlock a offset z (put-becomes a offset (replicate (blockSize p a) erased) m (omega (arith, long a))) }))
+
+  works : (a : Asked) (f : List ℕ) → Does p m (work a p k f m)
+  unfolding work
+  works Unknown f = stays-so m _
+  works Unfit f = stays-so m _
+  works RateSet f = stays-so m _
+  works Reset f = stays-so m _
+  works BlockErase f = erases _ _ refl
+  works BlankCheck f = stays-so m _
+  works Programming f = stays-so m _
+  works Verify f = stays-so m _
+  works Checksum f = stays-so m _
+  works SignatureGet f = stays-so m _
+  works SecurityGet f = stays-so m _
+  works SecuritySet f = stays-so m _
+  works SecurityRelease f = stays-so m _
+
+  command-does : (f : List ℕ) → Does p m (commandDoes p k f m)
+  unfolding commandDoes
+  command-does f = if-all (Does p m) _ (λ t. stays-so m _) (λ t. works _ f)
+
+  -- The page is stored where all was FFh, or nothing is.
+  programs : (w : Awaited) (a : Area) (offset block page : ℕ) (ds : List ℕ) → offset % pageSize ≡ 0 → offset + 256 ≤ size p a → length ds ≡ 256
+      → Does p m (programPage k w (In a offset block page) ds m)
+  unfolding programPage pageIn pageStored
+  programs w a offset block page ds z i n =
+      if-all (Does p m) _ (λ t. stays-so m _)
+      (λ t. record { change = onePage a offset ds z n (not-false _ t) (put-becomes a offset ds m (omega (arith, long a))) })
+
+  module _ (part : described p ≡ true) (w : Awaited) (awaited : goodAwaited p w ≡ true) where
+    -- A page that is awaited lies in its area.
+    page-inside : (s : Pages p w) → (w .next - first (s .area)) + 256 ≤ size p (s .area)
+    page-inside s =
+        let g = s .walk in
+        let a = s .area in
+        let e : (w .last - first a + 1) % pageSize ≡ 0 = block-page p a (w .last - first a + 1) (g .end) in
+        omega (arith, e, g .page, g .order, g .here .low, g .there .low, g .there .high)
+
+    page-does : eqb (w .command) 0xA0 ≡ false → (ds : List ℕ) → length ds ≡ 256 → Does p m (programPage k w (placeOf p (w .next)) ds m)
+    unfolding placeIn
+    page-does n ds e =
+        let s = good-walk p w awaited n in
+        rw (lies-place p (s .area) (w .next) part (s .walk .here))
+        (programs w (s .area) (w .next - first (s .area)) _ _ ds (s .walk .page) (page-inside s) e)
+
+    data-does : (f : List ℕ) → Does p m (dataDoes p k w f m)
+    unfolding dataDoes goodData
+    data-does f =
+        if-all (Does p m) _ (λ t. stays-so m _)
+        (λ t. if-all (Does p m) _ (λ u. stays-so m _)
+        (λ u. if-all (Does p m) _ (λ v. page-does u (payloadOf f) (payload-long w f u (not-false _ t))) (λ v. stays-so m _)))
+
+  frame-does : (f : Phase) → described p ≡ true → goodPhase p f ≡ true → (g : List ℕ) → Does p m (frameDoes f p k g m)
+  unfolding frameDoes goodPhase
+  frame-does ModeByte d e g = command-does g
+  frame-does Setup d e g = command-does g
+  frame-does Ready d e g = command-does g
+  frame-does (Awaiting w) d e g = data-does d w e g
+
+-- The same of a reaction.
+record DoesSo (p : Part) (m : Flash) (x : Reaction) : Type 0 where
+  change : Change p m (x .does .memory)
+
+heard-does : (p : Part) (k : Core) (m : Flash) (hs : List ℕ) (x : Effect) → Does p m x → DoesSo p m (heardByte hs x k m)
+unfolding heardByte
+heard-does p k m hs x d = if-all (DoesSo p m) _ (λ t. record { change = d .change }) (λ t. record { change = nothing refl })
+
+byte-does : (p : Part) (k : Core) (m : Flash) (f : Phase) (hs : List ℕ) (b : ℕ) → ((a : Area) → length (bytesIn a m) ≡ size p a) → described p ≡ true
+    → goodPhase p f ≡ true → DoesSo p m (byteIn f p k hs b m)
+unfolding byteIn
+byte-does p k m ModeByte hs b l d g = record { change = nothing refl }
+byte-does p k m Setup hs b l d g = heard-does p k m _ _ (frame-does p k m l Setup d g _)
+byte-does p k m Ready hs b l d g = heard-does p k m _ _ (frame-does p k m l Ready d g _)
+byte-does p k m (Awaiting w) hs b l d g = heard-does p k m _ _ (frame-does p k m l (Awaiting w) d g _)
+
+reaction-does : (p : Part) (k : Core) (m : Flash) (hs : List ℕ) (v : Event) → ((a : Area) → length (bytesIn a m) ≡ size p a) → described p ≡ true
+    → goodPhase p (k .phase) ≡ true → DoesSo p m (reactTo v p k hs m)
+unfolding reactTo
+reaction-does p k m hs (Byte b) l d g = byte-does p k m (k .phase) hs b l d g
+reaction-does p k m hs Gap l d g = record { change = nothing refl }
+reaction-does p k m hs PowerOn l d g = record { change = nothing refl }
+
+pub one-event : OneEvent
+unfolding reactionOf goodState
+one-event p o v s q =
+    let a = conditions p _ _ _ _ _ _ _ (s .accepted) in
+    let g = core-is p (o .chip .core) (and-right _ _ (a .state)) in
+    rw (leaves p o v s .memory) (reaction-does p (o .chip .core) (o .memory) (heard (o .chip .collector)) v (lengths a) (a .part) (g .phase) .change)
+  where
+    lengths : Conditions p (o .chip .core) (o .chip .collector .len) (getD (o .chip .collector .bytes) 0 0) (getD (o .chip .collector .bytes) 1 0)
+        (length (o .memory .codeFlash)) (length (o .memory .dataFlash)) (length (o .room)) → (a : Area) → length (bytesIn a (o .memory)) ≡ size p a
+    lengths c CodeFlash = c .codeLong
+    lengths c DataFlash = c .dataLong
+
+pub power-on-keeps : PowerOnKeeps
+unfolding reactionOf reactTo
+power-on-keeps p o s = let l = leaves p o PowerOn s in record { memory = l .memory; core = l .core; count = l .count }
