@@ -2,7 +2,7 @@
 -- Assumes nothing.
 use mathlib.Core.Bool.{Bool, false, false≢true, not, true}
 use mathlib.Core.List.{List, [], _++_, _∷_}
-use mathlib.Core.Path.{_∙_, _≡_, ap, refl}
+use mathlib.Core.Path.{_∙_, _≡_, ap, refl, sym}
 use Prim.Native.Nat.{_-_, ℕ}
 use native.Mathlib.Omega.{arith}
 use lib.Dec.{eqb, leb}
@@ -11,7 +11,7 @@ use Rattle.claims_noise.specs.Noise.{Allowed, Awaits, allows, completesO
 use Rattle.flash.proofs.Laws.{same-is}
 use Rattle.flash.specs.Flash.{same}
 use Rattle.frame.specs.Frame.{headerByte}
-use Rattle.frame.specs.Framing.{Framing, Sound, begun, byte, completes, framing, gap, idle, inside, quiet}
+use Rattle.frame.specs.Framing.{Framed, Framing, Sound, begun, byte, completes, framing, gap, idle, inside, quiet}
 use Rattle.frame.specs.declared.Header.{Header}
 use Rattle.words.proofs.Laws.{and-both, and-left, and-right}
 use Rattle.words.specs.Words.{_and_, _or_, if_then_else_}
@@ -38,20 +38,25 @@ bad-permitted : (g : List ℕ) (gs : List (List ℕ)) (a : Awaits) (end : Bool) 
 unfolding permitted _or_
 bad-permitted g gs a end e = rw e
 
-one-frame : (h : Header) (w : Framing) (v : Sound) (g : List ℕ) (gs : List (List ℕ)) → framing h w v .done ≡ g ∷ gs → gs ≡ []
+-- A sound completes one frame at most, and nothing is begun then.
+pub done-completes : (h : Header) (w : Framing) (v : Sound) (g : List ℕ) (gs : List (List ℕ)) → framing h w v .done ≡ g ∷ gs → framing h w v ≡ completes g
 unfolding framing if_then_else_
-one-frame h w gap g gs e = absurd (let z : _≡_ {A = ℕ} 0 1 = cc in omega arith)
-one-frame h idle (byte b) g gs e = go (eqb b (headerByte h)) e
+done-completes h w gap g gs e = absurd (let z : _≡_ {A = ℕ} 0 1 = cc in omega arith)
+done-completes h idle (byte b) g gs e = go (eqb b (headerByte h)) e
   where
-    go : (t : Bool) → (if t then quiet (begun b) else quiet idle) .done ≡ g ∷ gs → gs ≡ []
+    go : (t : Bool) → (if t then quiet (begun b) else quiet idle) .done ≡ g ∷ gs → (if t then quiet (begun b) else quiet idle) ≡ completes g
     go true e = absurd (let z : _≡_ {A = ℕ} 0 1 = cc in omega arith)
     go false e = absurd (let z : _≡_ {A = ℕ} 0 1 = cc in omega arith)
-one-frame h (begun x) (byte b) g gs e = absurd (let z : _≡_ {A = ℕ} 0 1 = cc in omega arith)
-one-frame h (inside bs n) (byte b) g gs e = go (leb n 1) e
+done-completes h (begun x) (byte b) g gs e = absurd (let z : _≡_ {A = ℕ} 0 1 = cc in omega arith)
+done-completes h (inside bs n) (byte b) g gs e = go (leb n 1) e
   where
-    go : (t : Bool) → (if t then completes (bs ++ b ∷ []) else quiet (inside (bs ++ b ∷ []) (n - 1))) .done ≡ g ∷ gs → gs ≡ []
-    go true e = cc
+    go : (t : Bool) → (if t then completes (bs ++ b ∷ []) else quiet (inside (bs ++ b ∷ []) (n - 1))) .done ≡ g ∷ gs
+        → (if t then completes (bs ++ b ∷ []) else quiet (inside (bs ++ b ∷ []) (n - 1))) ≡ completes g
+    go true e = let q : bs ++ b ∷ [] ≡ g = cc in ap (λ (f : List ℕ). completes f) q
     go false e = absurd (let z : _≡_ {A = ℕ} 0 1 = cc in omega arith)
+
+one-frame : (h : Header) (w : Framing) (v : Sound) (g : List ℕ) (gs : List (List ℕ)) → framing h w v .done ≡ g ∷ gs → gs ≡ []
+one-frame h w v g gs e = let q : g ∷ gs ≡ g ∷ [] = sym e ∙ ap (λ (x : Framed). x .done) (done-completes h w v g gs e) in cc
 
 -- A permitted sound before an OnlyThis.
 then-only : (f : List ℕ) (a : Awaits) (w : Framing) (v : Sound) (vs : List Sound)

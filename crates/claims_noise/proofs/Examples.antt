@@ -130,6 +130,10 @@ pub inner-reset-allowed : completesOnly (only reset) aCommand idle (take 8 inner
 unfolding innerReset completesOnly permitted thenAwaits framing goodFor allows same empty counted judgeOf isFrame summed sumOf lessAll less _and_ _or_ if_then_else_
 inner-reset-allowed = refl
 
+pub reset-carried : Noise (only reset) thePart readyChip (take 8 innerReset)
+unfolding fresh innerReset bytesOnly _and_
+reset-carried = record { stands = ready-stands; nothing = refl; bytes = proper-by (take 8 innerReset) refl; quiet = inner-reset-allowed }
+
 -- One byte: the erase command whose footer becomes 17h, and the page whose footer, 17h, becomes 03h.
 pub erase-changed : OneByte thePart readyChip eraseFrame 7 0x17
 unfolding fresh eraseFrame allBelow goodFor counted judgeOf isFrame summed sumOf lessAll less _and_ if_then_else_

@@ -1,7 +1,9 @@
 pub mod Steps
 pub mod Bad
 pub mod Noise
+pub mod Frames
 pub mod Claims
 pub mod OneByte
 pub mod Allowed
+pub mod Carried
 pub mod Examples

@@ -16,7 +16,7 @@ use Rattle.claims_good.proofs.Stays.{run-stands, stays}
 use Rattle.claims_good.specs.Good.{Alike, AllProper, Proper, Stands, Utterance, aGap, andEvent, noEvent, utterances, uttered}
 use Rattle.claims_noise.proofs.Bad.{bad-does, badCore}
 use Rattle.claims_noise.proofs.Steps.{stepped, Stepped, frameDone, headerIn, onlyHeard}
-use Rattle.claims_noise.specs.Claims.{AsIf, AwaitsFrame, Noise, command, inReady, inSetup, page, runBy, saysBy}
+use Rattle.claims_noise.specs.Claims.{AsIf, AwaitsFrame, Line, Noise, command, inReady, inSetup, lineAfter, page, runBy, saysBy}
 use Rattle.claims_noise.specs.Noise.{Awaits, allows, awaitedIn, completesOnly, empty, eventOf, goodFor, noFrame, permitted, thenAwaits, thenGap}
 use Rattle.effect.specs.Pages.{ready}
 use Rattle.effect.specs.declared.Core.{Core}
@@ -60,9 +60,12 @@ leftIn (Awaiting x) k w vs = if empty (frames Data w vs) then k else ready k
 unfoldable pub leftCore : Core → Framing → List Sound → Core
 leftCore k w vs = leftIn (k .phase) k w vs
 
-record Left (u : Outcome) (w : Framing) (vs : List Sound) (t : Outcome) : Type 0 where
-  core : t .chip .core ≡ leftCore (u .chip .core) w vs
-  memory : t .memory ≡ u .memory
+pub record Left (u : Outcome) (w : Framing) (vs : List Sound) (t : Outcome) : Type 0 where
+  pub core : t .chip .core ≡ leftCore (u .chip .core) w vs
+  pub memory : t .memory ≡ u .memory
+  pub frame : AwaitsFrame (t .chip .core .phase)
+  pub awaits : awaitedIn (t .chip .core .phase) ≡ lineAfter (awaitedIn (u .chip .core .phase)) w vs .awaits
+  pub same : Same (lineAfter (awaitedIn (u .chip .core .phase)) w vs .stands) (heard (t .chip .collector))
 
 -- A sound that completes nothing.
 left-on : (k : Core) (w : Framing) (v : Sound) (vs : List Sound) → AwaitsFrame (k .phase) → framing (headerIn (k .phase)) w v .done ≡ []
@@ -146,12 +149,27 @@ module _ (p : Part) (v : Sound) (vs : List Sound) (u : Outcome) (w : Framing) (s
       rest x (stays p u (eventOf v) s h) (rw c b) m
       (ap (λ (l : Core). completesOnly noFrame (awaitedIn (l .phase)) x vs) c ∙ ap (λ (y : Awaits). completesOnly noFrame y x vs) (sym t) ∙ rests)
 
+  -- The line after the rest is the line after all.
+  line-is : (k : Core) → onward p u (eventOf v) .chip .core ≡ k
+      → thenAwaits (awaitedIn (u .chip .core .phase)) (framing (headerIn (u .chip .core .phase)) w v .done) ≡ awaitedIn (k .phase)
+      → lineAfter (awaitedIn (onward p u (eventOf v) .chip .core .phase)) (framing (headerIn (u .chip .core .phase)) w v .stands) vs
+      ≡ lineAfter (awaitedIn (u .chip .core .phase)) w (v ∷ vs)
+  unfolding lineAfter
+  line-is k c t =
+      let x = framing (headerIn (u .chip .core .phase)) w v .stands in
+      ap (λ (l : Core). lineAfter (awaitedIn (l .phase)) x vs) c ∙ ap (λ (y : Awaits). lineAfter y x vs) (sym t)
+
   one-sound : Stepped p u v w → Left u w (v ∷ vs) (run p (map eventOf vs) (onward p u (eventOf v)))
   unfolding thenAwaits
   one-sound (onlyHeard d g) =
       let x = framing (headerIn (u .chip .core .phase)) w v .stands in
-      let l = resting (u .chip .core) (g .core) a (g .same) (ap (thenAwaits (awaitedIn (u .chip .core .phase))) d) in
+      let z = ap (thenAwaits (awaitedIn (u .chip .core .phase))) d in
+      let l = resting (u .chip .core) (g .core) a (g .same) z in
+      let y = line-is (u .chip .core) (g .core) z in
       record {
+        frame = l .frame;
+        awaits = l .awaits ∙ ap (λ (x : Line). x .awaits) y;
+        same = rw y at (l .same);
         core = l .core ∙ ap (λ (k : Core). leftCore k x vs) (g .core) ∙ sym (left-on (u .chip .core) w v vs a d);
         memory = l .memory ∙ g .memory;
       }
@@ -160,18 +178,22 @@ module _ (p : Part) (v : Sound) (vs : List Sound) (u : Outcome) (w : Framing) (s
       let bad = none-allowed (awaitedIn (u .chip .core .phase)) f fs (empty vs) (rw d at permits) in
       let b = bad-does (u .chip .core .phase) p (u .chip .core) (u .memory) f a bad in
       let k : Core = badCore (u .chip .core .phase) (u .chip .core) in
-      let l = resting k (g .core ∙ b .core) (bad-awaits (u .chip .core .phase) (u .chip .core) a refl) (g .same)
-      (ap (thenAwaits (awaitedIn (u .chip .core .phase))) d ∙ bad-next (u .chip .core .phase) (u .chip .core) f fs a refl) in
+      let z = ap (thenAwaits (awaitedIn (u .chip .core .phase))) d ∙ bad-next (u .chip .core .phase) (u .chip .core) f fs a refl in
+      let l = resting k (g .core ∙ b .core) (bad-awaits (u .chip .core .phase) (u .chip .core) a refl) (g .same) z in
+      let y = line-is k (g .core ∙ b .core) z in
       record {
+        frame = l .frame;
+        awaits = l .awaits ∙ ap (λ (x : Line). x .awaits) y;
+        same = rw y at (l .same);
         core = l .core ∙ ap (λ (k : Core). leftCore k x vs) (g .core ∙ b .core) ∙ sym (left-bad (u .chip .core) w x v vs f fs a d);
         memory = l .memory ∙ g .memory ∙ b .memory;
       }
 
 -- The whole of a noise.
-noise-run : (p : Part) (vs : List Sound) (u : Outcome) (w : Framing) → Stands p u → AwaitsFrame (u .chip .core .phase) → Same w (heard (u .chip .collector))
+pub noise-run : (p : Part) (vs : List Sound) (u : Outcome) (w : Framing) → Stands p u → AwaitsFrame (u .chip .core .phase) → Same w (heard (u .chip .collector))
     → AllProper (map eventOf vs) → completesOnly noFrame (awaitedIn (u .chip .core .phase)) w vs ≡ true → Left u w vs (run p (map eventOf vs) u)
-unfolding run Rest
-noise-run p [] u w s a m q e = record { core = sym (left-none (u .chip .core) w); memory = refl }
+unfolding run Rest lineAfter
+noise-run p [] u w s a m q e = record { core = sym (left-none (u .chip .core) w); memory = refl; frame = a; awaits = refl; same = m }
 noise-run p (v ∷ vs) u w s a m (andEvent h q) e =
     one-sound p v vs u w s a h (λ w′ s′ a′ m′ e′. noise-run p vs (onward p u (eventOf v)) w′ s′ a′ m′ q e′) e (stepped p u v w s a m)
 

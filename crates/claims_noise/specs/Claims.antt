@@ -171,3 +171,23 @@ pub data OnlyThis (f : List ℕ) (a : Awaits) (w : Framing) (vs : List Sound) : 
 
 abbrev pub AllowedOrNone : Type 0
 AllowedOrNone = (f : List ℕ) (a : Awaits) (w : Framing) (vs : List Sound) → completesOnly (only f) a w vs ≡ true → OnlyThis f a w vs
+
+-- What noise leaves before a gap, but for what is collected: as before, or, where data was awaited and a data frame was completed, the command over.
+abbrev pub leftAt : Phase → List Sound → Outcome → Outcome
+leftAt ModeByte vs o = o
+leftAt Setup vs o = o
+leftAt Ready vs o = o
+leftAt (Awaiting w) vs o = leftBy vs o
+
+-- A line on which at most the frame f came: only noise came, or noise and then f. In the second case all is as if f had come alone, byte by byte, to the chip
+-- that the noise before it leaves, and the same is said to its last byte.
+pub data Carried (M : Machine) (p : Part) (o : Outcome) (f : List ℕ) (vs : List Sound) : Type 0 where
+  noiseOnly : Noise noFrame p o vs → Carried M p o f vs
+  frameCame : (us : List Sound) (v : Sound) → vs ≡ us ++ v ∷ [] → Noise noFrame p o us
+      → AsIf M p (runBy M p (map Byte f) (leftAt (o .chip .core .phase) us o)) (runBy M p (map eventOf vs) o)
+      → uttered (spokenIn (runBy M p (map Byte f) (leftAt (o .chip .core .phase) us o))) ≡ uttered (spokenIn (runBy M p (map eventOf vs) o))
+      → Carried M p o f vs
+
+abbrev pub OneFrameCarried : Machine → Type 0
+OneFrameCarried M =
+    (p : Part) (o : Outcome) (f : List ℕ) (vs : List Sound) → Below 256 f → AwaitsFrame (o .chip .core .phase) → Noise (only f) p o vs → Carried M p o f vs

@@ -1,0 +1,206 @@
+-- At most one good frame came: the proof of `OneFrameCarried` for the definition of demand 2.
+-- Assumes nothing.
+use mathlib.Core.Bool.{Bool, false, not, true}
+use mathlib.Core.List.{List, [], _++_, _∷_, map}
+use mathlib.Core.Path.{_∙_, _≡_, ap, refl, sym}
+use Prim.Native.Nat.{_+_, _-_, ℕ}
+use lib.ListN.{getD}
+use borrow.Author.Tests.{eqb-true}
+use Rattle.chip.specs.Run.{onward, run, spokenIn}
+use Rattle.chip.specs.Step.{Outcome, reaction, stepOf}
+use Rattle.chip.specs.declared.Event.the-variants.{Byte}
+use Rattle.claims_frame.proofs.Framing.{nothing}
+use Rattle.claims_good.proofs.Rooms.{utteranceOf}
+use Rattle.claims_good.proofs.Stays.{run-stands, stays}
+use Rattle.claims_good.specs.Good.{Alike, AllProper, Proper, Stands, andEvent, noEvent, uttered}
+use Rattle.claims_noise.proofs.Allowed.{allowed-or-none, done-completes}
+use Rattle.claims_noise.proofs.Claims.{over-stands}
+use Rattle.claims_noise.proofs.Frames.{Completed, FrameRun, bytes-proper, completed, does-same, doesIn, frame-runs, no-frame}
+use Rattle.claims_noise.proofs.Noise.{Left, as-if, leftCore, leftIn, noise-run, run-by}
+use Rattle.claims_noise.proofs.OneByte.{footerIn, good-judged}
+use Rattle.claims_noise.proofs.Steps.{stepped, headerIn}
+use Rattle.claims_noise.specs.Claims.{AsIf, AwaitsFrame, Carried, Line, Noise, OneFrameCarried, OnlyThis, command, commandOver, frameCame, inReady, inSetup, lastGood, leftAt, leftBy, lineAfter, noiseOnly, noneGood, page, runBy}
+use Rattle.claims_noise.specs.Noise.{Awaits, awaitedIn, dataCompleted, empty, eventOf, goodFor, headerOf, noFrame, thenAwaits}
+use Rattle.effect.specs.Effect.{Effect}
+use Rattle.effect.specs.Pages.{ready}
+use Rattle.effect.specs.declared.Awaited.{Awaited}
+use Rattle.effect.specs.declared.Core.{Core}
+use Rattle.effect.specs.declared.Phase.{Phase}
+use Rattle.effect.specs.declared.Phase.the-variants.{Awaiting}
+use Rattle.frame.proofs.Laws.Collector.{heard-none}
+use Rattle.frame.proofs.Laws.Judgement.{good-is}
+use Rattle.frame.proofs.Laws.Sum.{Below}
+use Rattle.frame.specs.Frame.{counted, headerByte}
+use Rattle.frame.specs.Framing.{Framed, Framing, Sound, begun, byte, frames, framing, gap, idle, inside, quiet}
+use Rattle.frame.specs.declared.Header.{Header}
+use Rattle.frame.specs.declared.Header.the-variants.{Data}
+use Rattle.part.specs.declared.Part.{Part}
+use Rattle.words.proofs.Laws.{if-all}
+use Rattle.words.specs.Words.{if_then_else_}
+
+-- A frame that is begun is begun by the awaited header.
+data Headed (h : Header) : Framing → Type 0 where
+  headIdle : Headed h idle
+  headBegun : (x : ℕ) → x ≡ headerByte h → Headed h (begun x)
+  headInside : (x : ℕ) (xs : List ℕ) (n : ℕ) → x ≡ headerByte h → Headed h (inside (x ∷ xs) n)
+
+record Goes (h : Header) (f : Framed) : Type 0 where
+  stands : Headed h (f .stands)
+  begins : (g : List ℕ) (gs : List (List ℕ)) → f .done ≡ g ∷ gs → getD g 0 0 ≡ headerByte h
+
+goes-on : {h : Header} {w : Framing} → Headed h w → Goes h (quiet w)
+goes-on k = record { stands = k; begins = λ g gs e. absurd (no-frame g gs e) }
+
+goes : (h : Header) (w : Framing) (v : Sound) → Headed h w → Goes h (framing h w v)
+unfolding framing
+goes h w gap k = goes-on headIdle
+goes h idle (byte b) headIdle = if-all (Goes h) _ (λ t. goes-on (headBegun b (eqb-true _ _ t))) (λ t. goes-on headIdle)
+goes h (begun y) (byte b) (headBegun x e) = goes-on (headInside y (b ∷ []) (counted b + 2) e)
+goes h (inside (y ∷ ys) m) (byte b) (headInside x xs n e) =
+    if-all (Goes h) _
+    (λ t. record { stands = headIdle; begins = λ g gs q. let z : y ∷ (ys ++ b ∷ []) ≡ g = cc in ap (λ (l : List ℕ). getD l 0 0) (sym z) ∙ e })
+    (λ t. goes-on (headInside y (ys ++ b ∷ []) (m - 1) e))
+
+next-headed : (a : Awaits) (w : Framing) (v : Sound) (ds : List (List ℕ)) → Headed (headerOf a) w → framing (headerOf a) w v .done ≡ ds
+    → Headed (headerOf (thenAwaits a ds)) (framing (headerOf a) w v .stands)
+unfolding thenAwaits
+next-headed a w v [] k e = goes (headerOf a) w v k .stands
+next-headed a w v (g ∷ gs) k e = rw (ap (λ (x : Framed). x .stands) (done-completes (headerOf a) w v g gs e)) headIdle
+
+line-headed : (a : Awaits) (w : Framing) (vs : List Sound) → Headed (headerOf a) w → Headed (headerOf (lineAfter a w vs .awaits)) (lineAfter a w vs .stands)
+unfolding lineAfter
+line-headed a w [] k = k
+line-headed a w (v ∷ vs) k =
+    line-headed (thenAwaits a (framing (headerOf a) w v .done)) (framing (headerOf a) w v .stands) vs (next-headed a w v (framing (headerOf a) w v .done) k refl)
+
+-- The events of a list that ends with a sound.
+proper-front : (us : List Sound) (v : Sound) → AllProper (map eventOf (us ++ v ∷ [])) → AllProper (map eventOf us) × Proper (eventOf v)
+proper-front [] v (andEvent h q) = (noEvent, h)
+proper-front (u ∷ us) v (andEvent h q) = let r = proper-front us v q in (andEvent h (r .0), r .1)
+
+run-front : (p : Part) (us : List Sound) (v : Sound) (o : Outcome) → run p (map eventOf (us ++ v ∷ [])) o ≡ onward p (run p (map eventOf us) o) (eventOf v)
+unfolding run
+run-front p [] v o = refl
+run-front p (u ∷ us) v o = run-front p us v (onward p o (eventOf u))
+
+-- The state that the noise before the frame leaves.
+record LeftAt (p : Part) (o : Outcome) (us : List Sound) (q : Outcome) : Type 0 where
+  core : q .chip .core ≡ leftCore (o .chip .core) idle us
+  memory : q .memory ≡ o .memory
+  count : q .chip .collector .len ≡ 0
+  stands : Stands p q
+
+left-data : (p : Part) (o : Outcome) (us : List Sound) (w : Awaited) → Stands p o → o .chip .collector .len ≡ 0 → o .chip .core .phase ≡ Awaiting w
+    → LeftAt p o us (leftBy us o)
+unfolding leftBy dataCompleted leftCore leftIn commandOver if_then_else_
+left-data p o us w s n e = go (empty (frames Data idle us)) refl
+  where
+    core-is-left : (t : Bool) → empty (frames Data idle us) ≡ t
+        → (if t then o .chip .core else ready (o .chip .core)) ≡ leftIn (o .chip .core .phase) (o .chip .core) idle us
+    core-is-left t q =
+        sym (ap (λ (f : Phase). leftIn f (o .chip .core) idle us) e ∙ ap (λ (t : Bool). if t then o .chip .core else ready (o .chip .core)) q)
+
+    go : (t : Bool) → empty (frames Data idle us) ≡ t → LeftAt p o us (if not t then commandOver o else o)
+    go true q = record { core = core-is-left true q; memory = refl; count = n; stands = s }
+    go false q = record { core = core-is-left false q; memory = refl; count = n; stands = over-stands p o s n }
+
+left-at : (p : Part) (o : Outcome) (us : List Sound) → Stands p o → o .chip .collector .len ≡ 0 → AwaitsFrame (o .chip .core .phase)
+    → LeftAt p o us (leftAt (o .chip .core .phase) us o)
+unfolding leftCore leftIn
+left-at p o us s n a = go (o .chip .core .phase) refl a
+  where
+    go : (f : Phase) → o .chip .core .phase ≡ f → AwaitsFrame f → LeftAt p o us (leftAt f us o)
+    go f e (command inSetup) = record { core = sym (ap (λ (f : Phase). leftIn f (o .chip .core) idle us) e); memory = refl; count = n; stands = s }
+    go f e (command inReady) = record { core = sym (ap (λ (f : Phase). leftIn f (o .chip .core) idle us) e); memory = refl; count = n; stands = s }
+    go f e (page w) = left-data p o us w s n e
+
+-- The frame came, after the noise us, with the sound v.
+module _ (p : Part) (o : Outcome) (f : List ℕ) (us : List Sound) (v : Sound) (below : Below 256 f) (a : AwaitsFrame (o .chip .core .phase))
+    (n : Noise noFrame p o us) (h : Proper (eventOf v))
+    (d : framing (headerOf (lineAfter (awaitedIn (o .chip .core .phase)) idle us .awaits)) (lineAfter (awaitedIn (o .chip .core .phase)) idle us .stands) v .done ≡ f ∷ [])
+    (g : goodFor (lineAfter (awaitedIn (o .chip .core .phase)) idle us .awaits) f ≡ true) where
+  line : Line
+  line = lineAfter (awaitedIn (o .chip .core .phase)) idle us
+
+  u : Outcome
+  u = run p (map eventOf us) o
+
+  q : Outcome
+  q = leftAt (o .chip .core .phase) us o
+
+  heard-left : Left o idle us u
+  unfolding u
+  heard-left = noise-run p us o idle (n .stands) a (rw (heard-none (o .chip .collector) (n .nothing)) nothing) (n .bytes) (n .quiet)
+
+  u-stands : Stands p u
+  unfolding u
+  u-stands = run-stands p (map eventOf us) o (n .stands) (n .bytes)
+
+  q-left : LeftAt p o us q
+  unfolding q
+  q-left = left-at p o us (n .stands) (n .nothing) a
+
+  same-core : q .chip .core ≡ u .chip .core
+  same-core = q-left .core ∙ sym (heard-left .core)
+
+  same-memory : q .memory ≡ u .memory
+  same-memory = q-left .memory ∙ sym (heard-left .memory)
+
+  the-header : getD f 0 0 ≡ headerByte (headerOf (line .awaits))
+  unfolding line
+  the-header = goes (headerOf (line .awaits)) (line .stands) v (line-headed (awaitedIn (o .chip .core .phase)) idle us headIdle) .begins f [] d
+
+  q-header : getD f 0 0 ≡ headerByte (headerIn (q .chip .core .phase))
+  unfolding line
+  q-header =
+      the-header ∙ ap (λ (x : Awaits). headerByte (headerOf x)) (sym (heard-left .awaits))
+      ∙ ap (λ (k : Core). headerByte (headerIn (k .phase))) (sym same-core)
+
+  alone : FrameRun p q f f
+  unfolding line
+  alone =
+      frame-runs p q f (q-left .stands) (rw same-core (heard-left .frame)) (q-left .count)
+      (good-is (footerIn (line .awaits)) f (good-judged (line .awaits) f g) .frame) q-header below
+
+  came : Completed p u v f
+  unfolding line
+  came =
+      completed p u (line .stands) v f
+      (ap (λ (x : Awaits). framing (headerOf x) (line .stands) v) (heard-left .awaits) ∙ done-completes (headerOf (line .awaits)) (line .stands) v f [] d)
+      (stepped p u v (line .stands) u-stands (heard-left .frame) (heard-left .same))
+
+  does-alike : doesIn p f (q .chip .core) (q .memory) ≡ doesIn p f (u .chip .core) (u .memory)
+  does-alike = does-same p f same-core same-memory
+
+  frame-alike : Alike (run p (map Byte f) q) (onward p u (eventOf v))
+  frame-alike =
+      record {
+        core = alone .core ∙ ap (λ (x : Effect). x .core) does-alike ∙ sym (came .core);
+        count = alone .count ∙ sym (came .count);
+        hears = heard-none (run p (map Byte f) q .chip .collector) (alone .count) ∙ sym (heard-none (onward p u (eventOf v) .chip .collector) (came .count));
+        memory = alone .memory ∙ ap (λ (x : Effect). x .memory) does-alike ∙ sym (came .memory);
+      }
+
+  frame-as-if : AsIf stepOf p (run p (map Byte f) q) (onward p u (eventOf v))
+  frame-as-if =
+      as-if p (run p (map Byte f) q) (onward p u (eventOf v)) (run-stands p (map Byte f) q (q-left .stands) (bytes-proper below)) (stays p u (eventOf v) u-stands h)
+      frame-alike
+
+  frame-said : uttered (spokenIn (run p (map Byte f) q)) ≡ uttered (spokenIn (onward p u (eventOf v)))
+  frame-said = alone .last ∙ ap (λ (x : Effect). utteranceOf p (reaction [] x)) does-alike ∙ sym (came .says)
+
+  frame-carried : (vs : List Sound) → vs ≡ us ++ v ∷ [] → Carried stepOf p o f vs
+  unfolding u q
+  frame-carried vs e =
+      let r : runBy stepOf p (map eventOf vs) o ≡ onward p u (eventOf v) =
+      run-by p (map eventOf vs) o ∙ ap (λ (xs : List Sound). run p (map eventOf xs) o) e ∙ run-front p us v o in
+      frameCame us v e n (rw (r, run-by p (map Byte f) q) frame-as-if) (rw (r, run-by p (map Byte f) q) frame-said)
+
+pub one-frame-carried : OneFrameCarried stepOf
+one-frame-carried p o f vs below a n = go (allowed-or-none f (awaitedIn (o .chip .core .phase)) idle vs (n .quiet))
+  where
+    go : OnlyThis f (awaitedIn (o .chip .core .phase)) idle vs → Carried stepOf p o f vs
+    go (noneGood e) = noiseOnly (record { stands = n .stands; nothing = n .nothing; bytes = n .bytes; quiet = e })
+    go (lastGood us v e c d g) =
+        let r = proper-front us v (rw e at (n .bytes)) in
+        frame-carried p o f us v below a (record { stands = n .stands; nothing = n .nothing; bytes = r .0; quiet = c }) (r .1) d g vs e
