@@ -10,7 +10,7 @@ use Rattle.chip.specs.Step.{goodAwaited, goodPlaces, sameArea}
 use Rattle.effect.proofs.Laws.{not-last}
 use Rattle.effect.specs.Pages.{isLastPage}
 use Rattle.effect.specs.declared.Awaited.{Awaited}
-use Rattle.part.proofs.Laws.{LiesIn, Spot, block-page, lies-place, place-lies, range-good, stretch-whole, in-order}
+use Rattle.part.proofs.Laws.{LiesIn, Spot, block-page, in-order, lies-place, place-lies, range-good, stretch-whole}
 use Rattle.part.specs.Part.{blockSize, described, first, pageSize, placeIn, placeOf, rangeOf}
 use Rattle.part.specs.declared.Area.{Area}
 use Rattle.part.specs.declared.Area.the-variants.{CodeFlash, DataFlash}

@@ -14,7 +14,7 @@ use Rattle.chip.specs.declared.Event.{Event}
 use Rattle.chip.specs.declared.Event.the-variants.{Byte, Gap, PowerOn}
 use Rattle.claims_good.proofs.Collected.{Holds, begins-good, below-hear, below-heard, good-begins, hear-begins, holds, none-good}
 use Rattle.claims_good.proofs.Core.{GoodCore, core-is, enters, is-core}
-use Rattle.claims_good.proofs.Effects.{command-keeps, data-keeps, Keeps, stays-so}
+use Rattle.claims_good.proofs.Effects.{Keeps, command-keeps, data-keeps, stays-so}
 use Rattle.claims_good.proofs.Verdict.{accepted, conditions}
 use Rattle.claims_good.specs.Good.{AllProper, Proper, Stands, aByte, aGap, aPowerOn, andEvent, verdictIn}
 use Rattle.effect.specs.Effect.{Effect, Flash}

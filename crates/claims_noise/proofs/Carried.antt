@@ -18,7 +18,7 @@ use Rattle.claims_noise.proofs.Claims.{over-stands}
 use Rattle.claims_noise.proofs.Frames.{Completed, FrameRun, bytes-proper, completed, does-same, doesIn, frame-runs, no-frame}
 use Rattle.claims_noise.proofs.Noise.{Left, as-if, leftCore, leftIn, noise-run, run-by}
 use Rattle.claims_noise.proofs.OneByte.{footerIn, good-judged}
-use Rattle.claims_noise.proofs.Steps.{stepped, headerIn}
+use Rattle.claims_noise.proofs.Steps.{headerIn, stepped}
 use Rattle.claims_noise.specs.Claims.{AsIf, AwaitsFrame, Carried, Line, Noise, OneFrameCarried, OnlyThis, command, commandOver, frameCame, inReady, inSetup, lastGood, leftAt, leftBy, lineAfter, noiseOnly, noneGood, page, runBy}
 use Rattle.claims_noise.specs.Noise.{Awaits, awaitedIn, dataCompleted, empty, eventOf, goodFor, headerOf, noFrame, thenAwaits}
 use Rattle.effect.specs.Effect.{Effect}

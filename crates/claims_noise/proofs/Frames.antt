@@ -15,7 +15,7 @@ use Rattle.claims_frame.proofs.Framing.{Same, header, nothing, some, step-begin
 use Rattle.claims_good.proofs.Rooms.{utteranceOf}
 use Rattle.claims_good.proofs.Stays.{stays}
 use Rattle.claims_good.specs.Good.{AllProper, Stands, Utterance, aByte, andEvent, noEvent, utterances, uttered}
-use Rattle.claims_noise.proofs.Steps.{stepped, Stepped, does, frameDone, headerIn, onlyHeard}
+use Rattle.claims_noise.proofs.Steps.{Stepped, does, frameDone, headerIn, onlyHeard, stepped}
 use Rattle.claims_noise.specs.Claims.{AwaitsFrame, silence}
 use Rattle.claims_noise.specs.Noise.{eventOf}
 use Rattle.effect.specs.Effect.{Effect, Flash}

@@ -15,7 +15,7 @@ use Rattle.claims_good.proofs.Rooms.{alike-run, alike-utterances, leaves, react
 use Rattle.claims_good.proofs.Stays.{run-stands, stays}
 use Rattle.claims_good.specs.Good.{Alike, AllProper, Proper, Stands, Utterance, aGap, andEvent, noEvent, utterances, uttered}
 use Rattle.claims_noise.proofs.Bad.{bad-does, badCore}
-use Rattle.claims_noise.proofs.Steps.{stepped, Stepped, frameDone, headerIn, onlyHeard}
+use Rattle.claims_noise.proofs.Steps.{Stepped, frameDone, headerIn, onlyHeard, stepped}
 use Rattle.claims_noise.specs.Claims.{AsIf, AwaitsFrame, Line, Noise, command, inReady, inSetup, lineAfter, page, runBy, saysBy}
 use Rattle.claims_noise.specs.Noise.{Awaits, allows, awaitedIn, completesOnly, empty, eventOf, goodFor, noFrame, permitted, thenAwaits, thenGap}
 use Rattle.effect.specs.Pages.{ready}

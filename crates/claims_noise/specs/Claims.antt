@@ -1,6 +1,6 @@
 -- The statements of demand 3, each proved in proofs/ under its own name. They speak of any chip M, that is, of what a chip does with an event; the one
 -- that they are proved of is `stepOf`, the definition of demand 2.
-use mathlib.Core.Bool.{true, false}
+use mathlib.Core.Bool.{false, true}
 use mathlib.Core.List.{List, [], _++_, _∷_, map}
 use mathlib.Core.Logic.{_≢_}
 use mathlib.Core.Path.{_≡_}
@@ -17,12 +17,11 @@ use Rattle.claims_noise.specs.Noise.{Allowed, Awaits, awaitedIn, complet
 use Rattle.effect.specs.Effect.{Flash, flash}
 use Rattle.effect.specs.Pages.{ready}
 use Rattle.effect.specs.declared.Awaited.{Awaited}
-use Rattle.effect.specs.declared.Core.{Core}
 use Rattle.effect.specs.declared.Phase.{Phase}
 use Rattle.effect.specs.declared.Phase.the-variants.{Awaiting, ModeByte, Ready, Setup}
 use Rattle.frame.proofs.Laws.Sum.{Below}
 use Rattle.frame.specs.Frame.{dataFrame, headerByte}
-use Rattle.frame.specs.Framing.{Framed, Framing, Sound, byte, frames, framing, idle}
+use Rattle.frame.specs.Framing.{Framing, Sound, byte, frames, framing, idle}
 use Rattle.frame.specs.declared.Footer.the-variants.{Last}
 use Rattle.part.specs.declared.Part.{Part}
 use lib.Dec.{eqb}

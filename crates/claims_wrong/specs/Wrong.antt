@@ -11,7 +11,6 @@ use Rattle.chip.specs.declared.Answer.{Answer}
 use Rattle.chip.specs.declared.Answer.the-variants.{Refused, Replied}
 use Rattle.chip.specs.declared.Chip.{Chip}
 use Rattle.chip.specs.declared.Event.{Event}
-use Rattle.chip.specs.declared.Event.the-variants.{Byte}
 use Rattle.claims_noise.specs.Claims.{Machine}
 use Rattle.claims_stars.specs.Table.{readyChip, thePart}
 use Rattle.effect.specs.Effect.{Flash}
