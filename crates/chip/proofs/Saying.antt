@@ -30,11 +30,11 @@ use Rattle.reply.specs.declared.Reply.{Reply}
 use Rattle.reply.specs.declared.Reply.the-variants.{LastStored, Pair, Rate, Security, Signature, Silence, Status, Sum}
 use Rattle.words.specs.Words.{if_then_else_}
 
--- The part's arrays have the lengths that their types give them.
+-- "The description also holds device code (3 bytes), name (10), firmware version (3)." The types of the code's arrays give these lengths.
 pub record Arrays (p : Part) : Type 0 where
-  pub device : length (p .device) ≡ 3
-  pub name : length (p .name) ≡ 10
-  pub version : length (p .version) ≡ 3
+  pub deviceLong : length (p .device) ≡ 3
+  pub nameLong : length (p .name) ≡ 10
+  pub versionLong : length (p .version) ≡ 3
 
 pub record Fitting (a : Answer) (room : ℕ) : Type 0 where
   pub long : (n k : ℕ) → a ≡ Replied n k → n ≤ 31
@@ -93,7 +93,7 @@ unfolding settled
 settled-fits (Barred r) p x c m room a h = refused-fits r (length room)
 settled-fits Accepted p x c m room a h =
     let rs = payloads p (x .does .core .options) (x .does .reply) in
-    let l : length (framesOf rs) ≤ 31 = reply-long p (x .does .core .options) (x .does .reply) (a .device) (a .name) (a .version) in
+    let l : length (framesOf rs) ≤ 31 = reply-long p (x .does .core .options) (x .does .reply) (a .deviceLong) (a .nameLong) (a .versionLong) in
     let k : length (sendOf rs room .room) ≡ length room = send-keeps rs room (omega arith) in
     let f = said-fits rs (length room) l (few-payloads p (x .does .core .options) (x .does .reply)) (h refl) in
     rw (k, send-lands rs room (h refl)) f

@@ -11,7 +11,8 @@ use Rattle.chip.specs.Step.{freshChip, goodPhase, goodState}
 use Rattle.claims_good.proofs.Collected.{none-good}
 use Rattle.claims_good.proofs.Core.{GoodCore, is-core}
 use Rattle.claims_good.proofs.Verdict.{accepted}
-use Rattle.claims_good.specs.Good.{Arrays, Stands}
+use Rattle.chip.proofs.Saying.{Arrays}
+use Rattle.claims_good.specs.Good.{Stands}
 use Rattle.claims_stars.specs.Table.{thePart}
 use Rattle.effect.specs.Effect.{Flash, flash}
 use Rattle.effect.specs.declared.Core.{Core}

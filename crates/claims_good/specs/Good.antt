@@ -3,6 +3,7 @@ use mathlib.Core.List.{List, [], _∷_, map}
 use mathlib.Core.Path.{_≡_}
 use Prim.Native.Nat.{_<_, _≤_, ℕ}
 use lib.ListN.{getD, length}
+use Rattle.chip.proofs.Saying.{Arrays}
 use Rattle.chip.specs.Run.{Spoken, answers, spokenIn}
 use Rattle.chip.specs.Step.{Outcome, verdictOf}
 use Rattle.chip.specs.declared.Answer.{Answer}
@@ -21,12 +22,6 @@ abbrev pub verdictIn : Part → Outcome → Verdict
 verdictIn p o =
     verdictOf p (o .chip .core) (o .chip .collector .len) (getD (o .chip .collector .bytes) 0 0) (getD (o .chip .collector .bytes) 1 0)
     (length (o .memory .codeFlash)) (length (o .memory .dataFlash)) (length (o .room))
-
--- "The description also holds device code (3 bytes), name (10), firmware version (3)."
-pub record Arrays (p : Part) : Type 0 where
-  pub deviceLong : length (p .device) ≡ 3
-  pub nameLong : length (p .name) ≡ 10
-  pub versionLong : length (p .version) ≡ 3
 
 -- None of the refusals 1, 2, 3, 9 and 4 is given. The rest holds of all that the language can hand in: the collector's array has 260 places, each a
 -- byte, and the description's arrays have their lengths.

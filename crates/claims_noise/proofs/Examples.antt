@@ -12,7 +12,8 @@ use Rattle.chip.specs.Step.{byteIn, frameDoes, goodAwaited, goodBegun, goodColl
 use Rattle.chip.specs.declared.Event.the-variants.{Byte}
 use Rattle.claims_frame.proofs.Framing.{header, nothing}
 use Rattle.claims_good.proofs.Fresh.{new-stands, the-part-is}
-use Rattle.claims_good.specs.Good.{AllProper, Arrays, Stands, aByte, aGap, andEvent, noEvent}
+use Rattle.chip.proofs.Saying.{Arrays}
+use Rattle.claims_good.specs.Good.{AllProper, Stands, aByte, aGap, andEvent, noEvent}
 use Rattle.claims_noise.proofs.Claims.{noise-at-command}
 use Rattle.claims_noise.proofs.OneByte.{one-byte-changed}
 use Rattle.claims_noise.specs.Claims.{AsIf, IsBad, Noise, OneByte, commandOver, inReady, page, runBy, saysBy}

@@ -8,4 +8,5 @@ pub mod Reply
 pub mod Effect
 pub mod Chip
 pub mod Capture
+pub mod Hex
 pub mod Records

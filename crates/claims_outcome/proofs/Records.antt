@@ -11,9 +11,14 @@ use Rattle.records.proofs.record.Reads as «record»
 use Rattle.records.proofs.record.Kinds as record-kinds
 use Rattle.records.proofs.replay.Reads as replay
 use Rattle.records.proofs.replay.Kinds as replay-kinds
+use Rattle.records.proofs.replay_part.Reads as replay-part
+use Rattle.records.proofs.replay_part.Kinds as replay-part-kinds
 
 pub record-once : (κs : Lfts 5) (a : Dens κs record-kinds.ps) → OneOutcome {R = resT record-kinds.r κs .Denot} {X = AtExit (endedOf 5 record-kinds.ps record-kinds.r) κs} («record».Post κs a) (λ r x. turning r (flash (now (x .1 .1 .1 .0)) (now (x .1 .1 .1 .1 .0))) (now (x .1 .1 .1 .1 .1 .0)) (now (x .1 .1 .1 .1 .1 .1 .0)))
 record-once κs a = one-outcome («record».Post κs a) (λ r x. turning r (flash (now (x .1 .1 .1 .0)) (now (x .1 .1 .1 .1 .0))) (now (x .1 .1 .1 .1 .1 .0)) (now (x .1 .1 .1 .1 .1 .1 .0))) _ (λ r x p. p)
 
 pub replay-once : (κs : Lfts 5) (a : Dens κs replay-kinds.ps) → OneOutcome {R = resT replay-kinds.r κs .Denot} {X = AtExit (endedOf 5 replay-kinds.ps replay-kinds.r) κs} (replay.Post κs a) (λ r x. replaying r (flash (now (x .1 .1 .1 .0)) (now (x .1 .1 .1 .1 .0))) (now (x .1 .1 .1 .1 .1 .0)) (now (x .1 .1 .1 .1 .1 .1 .0)))
 replay-once κs a = one-outcome (replay.Post κs a) (λ r x. replaying r (flash (now (x .1 .1 .1 .0)) (now (x .1 .1 .1 .1 .0))) (now (x .1 .1 .1 .1 .1 .0)) (now (x .1 .1 .1 .1 .1 .1 .0))) _ (λ r x p. p)
+
+pub replay-part-once : (κs : Lfts 0) (a : Dens κs replay-part-kinds.ps) → OneOutcome {R = resT replay-part-kinds.r κs .Denot} {X = AtExit (endedOf 0 replay-part-kinds.ps replay-part-kinds.r) κs} (replay-part.Post κs a) (λ r x. r)
+replay-part-once κs a = one-outcome (replay-part.Post κs a) (λ r x. r) _ (λ r x p. p)

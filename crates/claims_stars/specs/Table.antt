@@ -15,18 +15,11 @@ use Rattle.frame.specs.Sum.{sumOf}
 use Rattle.frame.specs.declared.Footer.the-variants.{Last}
 use Rattle.options.specs.Options.{freshOptions}
 use Rattle.part.specs.declared.Part.{Part}
+use Rattle.records.specs.Records.{replayPart}
 
--- "The chip has 16 code and 4 data blocks, clock 32, all fresh."; device code, name and version as in 000, table 3-2.
+-- "Examples, on that part": the part of the replay.
 abbrev pub thePart : Part
-thePart =
-    record {
-      «code_blocks» = 16;
-      «data_blocks» = 4;
-      clock = 32;
-      device = 0x10 ∷ 0x00 ∷ 0x06 ∷ [];
-      name = 0x52 ∷ 0x35 ∷ 0x46 ∷ 0x31 ∷ 0x30 ∷ 0x30 ∷ 0x4C ∷ 0x45 ∷ 0x20 ∷ 0x20 ∷ [];
-      version = 0x01 ∷ 0x02 ∷ 0x03 ∷ [];
-    }
+thePart = replayPart
 
 -- Ready, all fresh, nothing collected; the room is the least that is accepted.
 abbrev pub readyChip : Outcome

@@ -49,7 +49,7 @@ saying-forgets (Refused r) o x y e f = rw (e, f)
 abbrev goesFrom : Part → ℕ → List ℕ → Feeding → Playing → Playing
 goesFrom p n bs f x = goesOn (f .left .answer) (played p (map Byte (drop (f .taken - n) bs)) (after (f .left) x)) (after (f .left) x)
 
-goes-replied : (a : Answer) (n k : ℕ) (x y : Playing) → a ≡ Replied n k → goesOn a x y ≡ x
+pub goes-replied : (a : Answer) (n k : ℕ) (x y : Playing) → a ≡ Replied n k → goesOn a x y ≡ x
 unfolding goesOn
 goes-replied a n k x y e = rw e
 

@@ -169,7 +169,7 @@ replayOf p capture c m room output =
     replayedFrom p (recordsOf recordSize capture) (record { ended = Whole; records = 0; bytes = 0; frames = 0; chip = c; memory = m; room = room; output = output })
 
 -- "The chip has 16 code and 4 data blocks, clock 32". Device code, name and version are those of 000, table 3-2, its misprint of one digit mended.
-unfoldable pub replayPart : Part
+abbrev pub replayPart : Part
 replayPart =
     record {
       «code_blocks» = 16;

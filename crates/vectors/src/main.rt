@@ -1,35 +1,18 @@
 // Writes the worked frames of the documents by the frame layer's own code, and judges the damaged one, a line of hex for each.
 // What it must print, in `stdout`, is copied from the documents: 000 chapter 2 and 003 sections 6.1.2, 6.9.2, 6.10.2, 6.11.2 and 6.13.2.
-ghost use Prim.Native.Nat.{_<_};
 use frame::Footer;
 use frame::judgement;
 use frame::wire;
 use frame::wire::Wrote;
 
-fn digit(n: u8) -> u8
-    requires { ⌜ n < 16 ⌝ }
-{
-    if n < 10 { 48 + n } else { 55 + n }
-}
-
+// Frames of at most eight bytes, as the documents print them.
 fn show(bytes: &[u8]) {
-    for i in 0..bytes.len() {
-        separate(i);
-        let b = bytes[i];
-        let hex = [digit(b / 16), digit(b % 16)];
-        io::write_all(1, &hex);
+    let mut text = [0u8; 24];
+    if bytes.len() <= 8 {
+        hex::line(bytes, &mut text);
+        let end = 3 * bytes.len();
+        io::write_all(1, &text[0..end]);
     }
-    end_line();
-}
-
-fn separate(i: usize) {
-    if 0 < i {
-        io::write_all(1, b" ");
-    }
-}
-
-fn end_line() {
-    io::write_all(1, b"\n");
 }
 
 fn show_written(wrote: Wrote, room: &[u8]) {

@@ -31,7 +31,7 @@ abbrev μ-loop : tie.MeasureT-loop
 
 loop-holds : tie.Need-loop-holds Inv-loop μ-loop
 loop-holds c =
-    (refl, refl, refl, search needs, search needs, record { device = search needs; name = search needs; version = search needs }, played-start _ _ _ _ _ _)
+    (refl, refl, refl, search needs, search needs, record { deviceLong = search needs; nameLong = search needs; versionLong = search needs }, played-start _ _ _ _ _ _)
 
 add-i : tie.Need-add-i Inv-loop μ-loop
 add-i c =

@@ -9,7 +9,7 @@ use Rattle.records.proofs.play_gap.Tie as tie
 
 -- The lengths of the part's arrays.
 arrays : (c : tie.Start) → Arrays (c .args .part)
-arrays c = record { device = search needs; name = search needs; version = search needs }
+arrays c = record { deviceLong = search needs; nameLong = search needs; versionLong = search needs }
 
 part-put-end : tie.Need-part-put-end
 part-put-end c = omega (arith, one-lies _ _ _ _ _ _ _ _ (arrays (c .before .before .before .before .before .before .before .before .before .before .before .before .before .before .before .before .before .before .before .before)) (c .before .before .before .before .before .before .before .before .before .before .before .before .step .ensures) (c .before .before .before .answer2 .given .1))

@@ -28,7 +28,7 @@ abbrev μ-loop : tie.MeasureT-loop
 μ-loop part capture code₀ data₀ room₀ output₀ last₀ at₀ records₀ bytes₀ frames₀ code «data» room output last at records bytes frames = length capture - at
 
 loop-holds : tie.Need-loop-holds Inv-loop μ-loop
-loop-holds c = (refl, refl, refl, refl, omega arith, record { device = search needs; name = search needs; version = search needs }, replayed-start _ _ _ _ _ _)
+loop-holds c = (refl, refl, refl, refl, omega arith, record { deviceLong = search needs; nameLong = search needs; versionLong = search needs }, replayed-start _ _ _ _ _ _)
 
 part-record-end : tie.Need-part-record-end Inv-loop μ-loop
 part-record-end c = omega (arith, c .record-end .ensures, end-within _ _ (c .before .loop-test .taken))

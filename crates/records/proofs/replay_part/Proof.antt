@@ -1,12 +1,10 @@
 -- `records::replay_part` meets its contract: the struct is the definition.
 -- Assumes nothing.
 use mathlib.Core.Path.{refl}
-use Rattle.records.specs.Records.{replayPart}
 use Rattle.records.proofs.replay_part.Statement.{statement}
 use Rattle.records.proofs.replay_part.Tie as tie
 
 returns : tie.Need-returns
-unfolding replayPart
 returns c = refl
 
 pub replay-part-spec : {M : Type 1} → statement M

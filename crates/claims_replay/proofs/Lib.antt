@@ -1,0 +1,2 @@
+pub mod NeverRefused
+pub mod WholeCase

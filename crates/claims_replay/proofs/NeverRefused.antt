@@ -1,0 +1,106 @@
+-- The chip's refusals do not occur in the replay of a capture: from a chip that stands (a fresh one does: `fresh-stands`), no record is stopped by the chip, and
+-- the chip stands again after it. Only output that is too short halts a capture.
+-- Assumes nothing.
+use mathlib.Core.List.{List, [], _∷_, map}
+use mathlib.Core.Path.{_∙_, _≡_, ap, refl, subst, sym}
+use Prim.Native.Nat.{_≤_, ℕ}
+use native.Mathlib.Omega.{arith}
+use lib.ListN.{length}
+use borrow.Author.Tests.{le-ltb}
+use Rattle.capture.specs.Capture.{carried, recordOf, recordSize}
+use Rattle.capture.specs.declared.Record.{Record}
+use Rattle.capture.specs.declared.Record.the-variants.{BadRecord, BytesRecord, GapRecord}
+use Rattle.chip.specs.Run.{answers, before, onward, spokenIn}
+use Rattle.chip.specs.Step.{Outcome}
+use Rattle.chip.specs.declared.Answer.{Answer}
+use Rattle.chip.specs.declared.Answer.the-variants.{Refused, Replied}
+use Rattle.chip.specs.declared.Chip.{Chip}
+use Rattle.chip.specs.declared.Event.{Event}
+use Rattle.chip.specs.declared.Event.the-variants.{Byte, Gap}
+use Rattle.claims_good.proofs.Rooms.{never-refused}
+use Rattle.claims_good.proofs.Stays.{stays}
+use Rattle.claims_good.proofs.Verdict.{accepted}
+use Rattle.claims_good.specs.Good.{AllAnswered, AllProper, Answered, Proper, Stands, aByte, aGap, andAnswer, andEvent, noEvent}
+use Rattle.effect.specs.Effect.{Flash}
+use Rattle.frame.proofs.Laws.Sum.{Below, below-drop, below-take, more, none}
+use Rattle.part.specs.declared.Part.{Part}
+use Rattle.part.specs.declared.refusal.Refusal.{Refusal}
+use Rattle.records.proofs.Laws.{goes-replied}
+use Rattle.records.specs.Records.{Playing, Turning, eventsOf, kept, outputLeast, played, saying, starting, turnBy, turnOf, turnWith, turnedBy}
+use Rattle.records.specs.declared.Turned.the-variants.{Stopped}
+use Rattle.words.specs.Words.{if_then_else_}
+
+-- An outcome stands whatever its last answer was.
+again : {p : Part} {o : Outcome} → Stands p o → Stands p (before (o .chip) (o .memory) (o .room))
+again s = record { accepted = s .accepted; places = s .places; bytes = s .bytes; arrays = s .arrays }
+
+one-answered : (p : Part) (v : Event) (o : Outcome) → Stands p o → Proper v → Answered (spokenIn (onward p o v))
+unfolding answers
+one-answered p v o s e = go (never-refused p (v ∷ []) o s (andEvent e noEvent))
+  where
+    go : AllAnswered (spokenIn (onward p o v) ∷ []) → Answered (spokenIn (onward p o v))
+    go (andAnswer a r) = a
+
+-- What playing leaves: the chip stands, and its last answer is no refusal.
+pub record Plays (p : Part) (x : Playing) : Type 0 where
+  pub bytes : ℕ
+  pub frames : ℕ
+  pub replied : x .left .answer ≡ Replied bytes frames
+  pub stands : Stands p (x .left)
+
+saying-left : (a : Answer) (o : Outcome) (x : Playing) → saying a o x .left ≡ o
+unfolding saying
+saying-left (Replied n k) o x = refl
+saying-left (Refused r) o x = refl
+
+pub plays : (p : Part) (vs : List Event) (x : Playing) → Plays p x → AllProper vs → Plays p (played p vs x)
+unfolding played
+plays p [] x w noEvent = w
+plays p (v ∷ vs) x w (andEvent e es) =
+    let o = onward p (x .left) v in
+    let a = one-answered p v (x .left) (w .stands) e in
+    let y = saying (o .answer) o x in
+    let l : y .left ≡ o = saying-left (o .answer) o x in
+    let z : Plays p y =
+    record {
+      bytes = a .count;
+      frames = a .frames;
+      replied = ap (λ (q : Outcome). q .answer) l ∙ a .replied;
+      stands = subst (λ (q : Outcome). Stands p q) (sym l) (stays p (x .left) v (w .stands) e);
+    } in
+    subst (λ (q : Playing). Plays p q) (sym (goes-replied (o .answer) (a .count) (a .frames) (played p vs y) y (a .replied))) (plays p vs y z es)
+
+all-bytes : (bs : List ℕ) → Below 256 bs → AllProper (map Byte bs)
+all-bytes [] none = noEvent
+all-bytes (b ∷ bs) (more h r) = andEvent (aByte h) (all-bytes bs r)
+
+-- What a record's turn leaves, where its output suffices.
+pub record Turns (p : Part) (t : Turning) : Type 0 where
+  pub goes : (r : Refusal) → t .turned ≡ Stopped r → ⊥
+  pub stands : Stands p (before (t .chip) (t .memory) (t .room))
+
+by-goes : (a : Answer) (n k : ℕ) (x : Playing) → a ≡ Replied n k → (r : Refusal) → turnedBy a x ≡ Stopped r → ⊥
+unfolding turnedBy
+by-goes (Replied i j) n k x e r q = let z : _≡_ {A = ℕ} 0 1 = cc in omega arith
+by-goes (Refused s) n k x e r q = let z : _≡_ {A = ℕ} 0 1 = cc in omega arith
+
+kept-turns : (p : Part) (x : Playing) (output : List ℕ) → Plays p x → Turns p (kept x output)
+unfolding kept
+kept-turns p x output w = record { goes = λ r e. by-goes (x .left .answer) (w .bytes) (w .frames) x (w .replied) r e; stands = again (w .stands) }
+
+with-turns : (p : Part) (vs : List Event) (c : Chip) (m : Flash) (room output : List ℕ) → Stands p (before c m room) → AllProper vs → outputLeast ≤ length output
+    → Turns p (turnWith vs p c m room output)
+unfolding turnWith if_then_else_
+with-turns p vs c m room output s e h =
+    rw (le-ltb (length output) 192 h)
+    (kept-turns p (played p vs (starting c m room)) output (plays p vs (starting c m room) (record { bytes = 0; frames = 0; replied = refl; stands = s }) e))
+
+pub turn-plays : (p : Part) (bs : List ℕ) (c : Chip) (m : Flash) (room output : List ℕ) → Stands p (before c m room) → Below 256 bs → outputLeast ≤ length output
+    → Turns p (turnOf p bs c m room output)
+unfolding turnOf turnBy eventsOf
+turn-plays p bs c m room output s b h = go (recordOf recordSize bs)
+  where
+    go : (r : Record) → Turns p (turnBy r p bs c m room output)
+    go GapRecord = with-turns p (Gap ∷ []) c m room output s (andEvent aGap noEvent) h
+    go (BytesRecord n) = with-turns p (map Byte (carried n bs)) c m room output s (all-bytes (carried n bs) (below-take 256 n (below-drop 256 2 b))) h
+    go BadRecord = record { goes = λ r e. let z : _≡_ {A = ℕ} 0 1 = cc in omega arith; stands = s }

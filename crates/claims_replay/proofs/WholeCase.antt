@@ -1,0 +1,52 @@
+-- Document 01's whole case, computed on the definitions: the capture's four records, and the characters that their replay prints.
+-- Assumes nothing.
+use mathlib.Core.List.{List, [], _++_, _∷_}
+use mathlib.Core.Path.{_≡_, refl}
+use Prim.Native.Nat.{ℕ}
+use Rattle.capture.specs.Capture.{bytesRecord, gapRecord, recordOf, recordsIn, recordsOf, unused}
+use Rattle.chip.specs.Step.{byteIn, frameDoes, freshChip, goodBegun, goodCollected, goodCore, goodPhase, goodState, heardByte, modeByte, reactTo, settled, stepOf, verdictOf}
+use Rattle.claims_replay.specs.Printed.{digitsIn, lastLine, linesIn, printed}
+use Rattle.effect.specs.Commands.{askedIn, commandDoes, commandsIn, fitted, rateSet, readyCommands, setupCommands, work}
+use Rattle.effect.specs.Effect.{number3}
+use Rattle.frame.specs.Collector.{fresh, hear, heard, holding}
+use Rattle.frame.specs.Frame.{complete, counted, framed, full, isFrame}
+use Rattle.frame.specs.Judgement.{judgeOf, summed}
+use Rattle.frame.specs.Sum.{less, lessAll, sumOf}
+use Rattle.hex.specs.Hex.{digitOf, lineOf, separator}
+use Rattle.lent.specs.Lent.{allAre}
+use Rattle.options.specs.Options.{fixedBits, freshOptions, goodOptions, lastBlock, security}
+use Rattle.part.specs.Part.{blockSize, described}
+use Rattle.part.specs.Rate.{acceptsRate, modeOf}
+use Rattle.part.specs.Refusal.{firstOf}
+use Rattle.records.specs.Records.{eventsOf, goesOn, kept, nextBy, played, replayOf, replayedFrom, saying, turnBy, turnOf, turnWith, turnedBy, whileWhole}
+use Rattle.reply.specs.Reply.{framesOf, payloads, sendOf}
+use Rattle.words.specs.Words.{_and_, _from_to_, _or_, if_then_else_}
+
+abbrev pub wholeCase : List ℕ
+wholeCase =
+    0x01 ∷ 0x01 ∷ 0x3A ∷ 0x00 ∷ 0x00 ∷ 0x00 ∷ 0x00 ∷ 0x00
+    ∷ 0x01 ∷ 0x06 ∷ 0x01 ∷ 0x03 ∷ 0x9A ∷ 0x00 ∷ 0x21 ∷ 0x42
+    ∷ 0x01 ∷ 0x01 ∷ 0x03 ∷ 0x00 ∷ 0x00 ∷ 0x00 ∷ 0x00 ∷ 0x00
+    ∷ 0x01 ∷ 0x05 ∷ 0x01 ∷ 0x01 ∷ 0xA1 ∷ 0x5E ∷ 0x03 ∷ 0x00
+    ∷ []
+
+-- "02 03 06 20 00 D7 03", "02 01 06 F9 03", "02 08 FF 03 00 00 0F 00 FF FF E9 03", "END 3": each line's bytes, and the last line as characters.
+abbrev pub wholePrinted : List ℕ
+wholePrinted =
+    lineOf (0x02 ∷ 0x03 ∷ 0x06 ∷ 0x20 ∷ 0x00 ∷ 0xD7 ∷ 0x03 ∷ [])
+    ++ lineOf (0x02 ∷ 0x01 ∷ 0x06 ∷ 0xF9 ∷ 0x03 ∷ [])
+    ++ lineOf (0x02 ∷ 0x08 ∷ 0xFF ∷ 0x03 ∷ 0x00 ∷ 0x00 ∷ 0x0F ∷ 0x00 ∷ 0xFF ∷ 0xFF ∷ 0xE9 ∷ 0x03 ∷ [])
+    ++ 0x45 ∷ 0x4E ∷ 0x44 ∷ 0x20 ∷ 0x33 ∷ 0x0A ∷ []
+
+pub whole-case : printed wholeCase ≡ wholePrinted
+unfolding printed linesIn digitsIn lastLine replayOf replayedFrom recordsOf recordsIn nextBy whileWhole turnOf turnBy turnWith recordOf gapRecord bytesRecord unused allAre eventsOf played saying goesOn kept turnedBy stepOf settled verdictOf firstOf described blockSize _from_to_ _and_ _or_ if_then_else_ goodState goodCollected goodBegun goodCore goodOptions fixedBits goodPhase lastBlock freshOptions freshChip fresh heard holding hear complete full counted isFrame reactTo byteIn modeByte heardByte frameDoes commandDoes judgeOf summed sumOf lessAll less askedIn commandsIn setupCommands readyCommands fitted work rateSet acceptsRate modeOf number3 sendOf framesOf framed payloads security lineOf digitOf separator
+whole-case = refl
+
+-- An empty capture prints "END 0", a short record "BAD" and its number.
+pub empty-case : printed [] ≡ 0x45 ∷ 0x4E ∷ 0x44 ∷ 0x20 ∷ 0x30 ∷ 0x0A ∷ []
+unfolding printed linesIn digitsIn lastLine replayOf replayedFrom recordsOf recordsIn if_then_else_
+empty-case = refl
+
+pub short-case : printed (0x00 ∷ []) ≡ 0x42 ∷ 0x41 ∷ 0x44 ∷ 0x20 ∷ 0x30 ∷ 0x0A ∷ []
+unfolding printed linesIn digitsIn lastLine replayOf replayedFrom recordsOf recordsIn nextBy whileWhole turnOf turnBy recordOf if_then_else_
+short-case = refl

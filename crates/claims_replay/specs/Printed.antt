@@ -1,0 +1,47 @@
+-- What the replay of a capture prints: document 01, "Replay", from the capture's bytes to the characters on standard output.
+use mathlib.Core.List.{List, [], _++_, _∷_}
+use Prim.Native.Nat.{_%_, _*_, _+_, _/_, suc, zero, ℕ}
+use lib.Dec.{ltb}
+use lib.ListN.{drop, getD, length, replicate, take}
+use Rattle.chip.specs.Step.{freshChip}
+use Rattle.effect.specs.Effect.{flash}
+use Rattle.frame.specs.Frame.{counted}
+use Rattle.hex.specs.Hex.{lineOf}
+use Rattle.records.specs.Records.{Replaying, outputLeast, replayOf, replayPart}
+use Rattle.records.specs.declared.Ended.{Ended}
+use Rattle.records.specs.declared.Ended.the-variants.{AtBadRecord, Halted, Whole}
+use Rattle.words.specs.Words.{if_then_else_}
+
+-- "Each reply frame is one line of hex": frames end to end, cut by their LEN bytes. (No frames are more than their bytes.)
+unfoldable pub linesIn : ℕ → List ℕ → List ℕ
+linesIn zero bs = []
+linesIn (suc most) [] = []
+linesIn (suc most) (b ∷ bs) =
+    let n = counted (getD (b ∷ bs) 1 0) + 4 in
+    lineOf (take n (b ∷ bs)) ++ linesIn most (drop n (b ∷ bs))
+
+abbrev pub lines : List ℕ → List ℕ
+lines bs = linesIn (length bs) bs
+
+-- A number in decimal digits, the last written first.
+unfoldable pub digitsIn : ℕ → ℕ → List ℕ
+digitsIn zero n = []
+digitsIn (suc most) n = if ltb n 10 then (0x30 + n) ∷ [] else digitsIn most (n / 10) ++ (0x30 + n % 10) ∷ []
+
+abbrev pub decimal : ℕ → List ℕ
+decimal n = digitsIn (suc n) n
+
+-- "a bad or short record prints `BAD`, a space and its number from 0, and stops there; else the last line is `END` and the count of reply frames"
+unfoldable pub lastLine : Replaying → Ended → List ℕ
+lastLine x Whole = 0x45 ∷ 0x4E ∷ 0x44 ∷ 0x20 ∷ decimal (x .frames) ++ 0x0A ∷ []
+lastLine x AtBadRecord = 0x42 ∷ 0x41 ∷ 0x44 ∷ 0x20 ∷ decimal (x .records) ++ 0x0A ∷ []
+lastLine x (Halted r) = []
+
+-- "The chip has 16 code and 4 data blocks, clock 32, all fresh." The output has room for every record's replies.
+abbrev pub freshReplay : List ℕ → Replaying
+freshReplay capture =
+    replayOf replayPart capture (freshChip replayPart) (flash (replicate 16384 0xFF) (replicate 4096 0xFF)) (replicate 32 0x00)
+    (replicate (outputLeast * length capture) 0x00)
+
+unfoldable pub printed : List ℕ → List ℕ
+printed capture = let x = freshReplay capture in lines (take (x .bytes) (x .output)) ++ lastLine x (x .ended)

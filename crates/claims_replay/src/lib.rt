@@ -1,0 +1,1 @@
+// Theorems about the replay of captures: the chip's refusals do not occur, and document 01's whole case prints what it prints; there is no code.
