@@ -1,13 +1,14 @@
 -- The chip's refusals do not occur in the replay of a capture: from a chip that stands (a fresh one does: `fresh-stands`), no record is stopped by the chip, and
 -- the chip stands again after it. Only output that is too short halts a capture.
 -- Assumes nothing.
-use mathlib.Core.List.{List, [], _∷_, map}
+use mathlib.Core.List.{List, [], _++_, _∷_, map}
 use mathlib.Core.Path.{_∙_, _≡_, ap, refl, subst, sym}
-use Prim.Native.Nat.{_≤_, ℕ}
+use Prim.Native.Nat.{_*_, _+_, _-_, _≤_, suc, zero, ℕ}
 use native.Mathlib.Omega.{arith}
-use lib.ListN.{length}
+use lib.ListN.{drop, length, length-append, length-drop, take}
+use lib.Seq.{length-take-le}
 use borrow.Author.Tests.{le-ltb}
-use Rattle.capture.specs.Capture.{carried, recordOf, recordSize}
+use Rattle.capture.specs.Capture.{carried, recordOf, recordSize, recordsIn, recordsOf}
 use Rattle.capture.specs.declared.Record.{Record}
 use Rattle.capture.specs.declared.Record.the-variants.{BadRecord, BytesRecord, GapRecord}
 use Rattle.chip.specs.Run.{answers, before, onward, spokenIn}
@@ -25,9 +26,12 @@ use Rattle.effect.specs.Effect.{Flash}
 use Rattle.frame.proofs.Laws.Sum.{Below, below-drop, below-take, more, none}
 use Rattle.part.specs.declared.Part.{Part}
 use Rattle.part.specs.declared.refusal.Refusal.{Refusal}
-use Rattle.records.proofs.Laws.{goes-replied}
-use Rattle.records.specs.Records.{Playing, Turning, eventsOf, kept, outputLeast, played, saying, starting, turnBy, turnOf, turnWith, turnedBy}
-use Rattle.records.specs.declared.Turned.the-variants.{Stopped}
+use Rattle.records.proofs.Laws.{goes-replied, turn-fits, turn-keeps}
+use Rattle.records.specs.Records.{Playing, Replaying, Turning, afterTurn, eventsOf, kept, nextBy, outputLeast, played, replayOf, replayedFrom, saying, starting, turnBy, turnOf, turnWith, turnedBy, whileWhole}
+use Rattle.records.specs.declared.Ended.{Ended}
+use Rattle.records.specs.declared.Ended.the-variants.{Halted, Whole}
+use Rattle.records.specs.declared.Turned.{Turned}
+use Rattle.records.specs.declared.Turned.the-variants.{NotGood, Played, Stopped}
 use Rattle.words.specs.Words.{if_then_else_}
 
 -- An outcome stands whatever its last answer was.
@@ -104,3 +108,65 @@ turn-plays p bs c m room output s b h = go (recordOf recordSize bs)
     go GapRecord = with-turns p (Gap ∷ []) c m room output s (andEvent aGap noEvent) h
     go (BytesRecord n) = with-turns p (map Byte (carried n bs)) c m room output s (all-bytes (carried n bs) (below-take 256 n (below-drop 256 2 b))) h
     go BadRecord = record { goes = λ r e. let z : _≡_ {A = ℕ} 0 1 = cc in omega arith; stands = s }
+
+-- A whole capture: with output for every record it is never halted.
+pub data AllBelow : List (List ℕ) → Type 0 where
+  noRecord : AllBelow []
+  andRecord : {r : List ℕ} {rs : List (List ℕ)} → Below 256 r → AllBelow rs → AllBelow (r ∷ rs)
+
+pub record Goes (p : Part) (rs : List (List ℕ)) (x : Replaying) : Type 0 where
+  pub stands : Stands p (before (x .chip) (x .memory) (x .room))
+  pub whole : x .ended ≡ Whole
+  pub within : x .bytes ≤ length (x .output)
+  pub enough : outputLeast * length rs + x .bytes ≤ length (x .output)
+
+goes-on : (p : Part) (r : List ℕ) (rs : List (List ℕ)) (x : Replaying) (n k : ℕ) → Goes p (r ∷ rs) x → Below 256 r
+    → turnOf p r (x .chip) (x .memory) (x .room) (drop (x .bytes) (x .output)) .turned ≡ Played n k
+    → Goes p rs (afterTurn Whole 1 n k (turnOf p r (x .chip) (x .memory) (x .room) (drop (x .bytes) (x .output))) x)
+goes-on p r rs x n k g b e =
+    let l = drop (x .bytes) (x .output) in
+    let w : length l ≡ length (x .output) - x .bytes = length-drop (x .bytes) (x .output) in
+    let a : outputLeast ≤ length l = omega (arith, w, g .enough) in
+    let t = turnOf p r (x .chip) (x .memory) (x .room) l in
+    let f = turn-fits p r (x .chip) (x .memory) (x .room) l (g .stands .arrays) in
+    let o : length (take (x .bytes) (x .output) ++ t .output) ≡ length (x .output) =
+    length-append (take (x .bytes) (x .output)) (t .output)
+    ∙ (rw (length-take-le (x .bytes) (x .output) (g .within), turn-keeps p r (x .chip) (x .memory) (x .room) l (g .stands .arrays)) (omega (arith, w, g .within))) in
+    record {
+      stands = turn-plays p r (x .chip) (x .memory) (x .room) l (g .stands) b a .stands;
+      whole = refl;
+      within = omega (arith, o, w, f .bytes n k e, g .within);
+      enough = omega (arith, o, g .enough, f .short n k e);
+    }
+
+pub replayed-never-halted : (p : Part) (rs : List (List ℕ)) (x : Replaying) → AllBelow rs → Goes p rs x → (q : Refusal) → replayedFrom p rs x .ended ≡ Halted q → ⊥
+unfolding replayedFrom whileWhole nextBy
+replayed-never-halted p [] x noRecord g q h = let z : _≡_ {A = Ended} Whole (Halted q) = sym (g .whole) ∙ h in let y : _≡_ {A = ℕ} 0 1 = cc in omega arith
+replayed-never-halted p (r ∷ rs) x (andRecord b bs) g q h = go (t .turned) refl (λ y w. replayed-never-halted p rs y bs w q) h
+  where
+    t : Turning
+    t = turnOf p r (x .chip) (x .memory) (x .room) (drop (x .bytes) (x .output))
+
+    room : outputLeast ≤ length (drop (x .bytes) (x .output))
+    room = let w : length (drop (x .bytes) (x .output)) ≡ length (x .output) - x .bytes = length-drop (x .bytes) (x .output) in omega (arith, w, g .enough)
+
+    go : (a : Turned) → t .turned ≡ a → ((y : Replaying) → Goes p rs y → replayedFrom p rs y .ended ≡ Halted q → ⊥)
+        → whileWhole (nextBy a t x .ended) (replayedFrom p rs (nextBy a t x)) (nextBy a t x) .ended ≡ Halted q → ⊥
+    go (Played n k) e rest h = rest (afterTurn Whole 1 n k t x) (goes-on p r rs x n k g b e) h
+    go NotGood e rest h = let z : _≡_ {A = ℕ} 0 1 = cc in omega arith
+    go (Stopped s) e rest h = turn-plays p r (x .chip) (x .memory) (x .room) (drop (x .bytes) (x .output)) (g .stands) b room .goes s e
+
+records-below : (most : ℕ) (bs : List ℕ) → Below 256 bs → AllBelow (recordsIn recordSize most bs)
+unfolding recordsIn
+records-below zero bs b = noRecord
+records-below (suc most) [] b = noRecord
+records-below (suc most) (x ∷ bs) b = andRecord (below-take 256 recordSize b) (records-below most (drop recordSize (x ∷ bs)) (below-drop 256 recordSize b))
+
+pub never-halted : (p : Part) (capture : List ℕ) (c : Chip) (m : Flash) (room output : List ℕ) → Stands p (before c m room) → Below 256 capture
+    → outputLeast * length (recordsOf recordSize capture) ≤ length output → (q : Refusal) → replayOf p capture c m room output .ended ≡ Halted q → ⊥
+unfolding replayOf recordsOf
+never-halted p capture c m room output s b h q e =
+    replayed-never-halted p (recordsIn recordSize (length capture) capture)
+    (record { ended = Whole; records = 0; bytes = 0; frames = 0; chip = c; memory = m; room = room; output = output })
+    (records-below (length capture) capture b)
+    (record { stands = s; whole = refl; within = omega arith; enough = omega (arith, h) }) q e

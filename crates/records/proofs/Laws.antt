@@ -339,22 +339,25 @@ played-framed p (v ∷ vs) x a h =
 pub record Fits (t : Turned) (output : ℕ) : Type 0 where
   pub bytes : (n k : ℕ) → t ≡ Played n k → n ≤ output
   pub frames : (n k : ℕ) → t ≡ Played n k → k ≤ n
+  pub short : (n k : ℕ) → t ≡ Played n k → n ≤ 192
 
-by-fits : (a : Answer) (x : Playing) (output : ℕ) → length (x .said) ≤ output → x .frames ≤ length (x .said) → Fits (turnedBy a x) output
+by-fits : (a : Answer) (x : Playing) (output : ℕ) → length (x .said) ≤ 192 → 192 ≤ output → x .frames ≤ length (x .said) → Fits (turnedBy a x) output
 unfolding turnedBy
-by-fits (Replied n k) x output l f =
+by-fits (Replied n k) x output l h f =
     record {
       bytes = λ i j e. let u : length (x .said) ≡ i = cc in omega arith;
       frames = λ i j e. let u : length (x .said) ≡ i = cc in let v : x .frames ≡ j = cc in omega arith;
+      short = λ i j e. let u : length (x .said) ≡ i = cc in omega arith;
     }
-by-fits (Refused r) x output l f =
+by-fits (Refused r) x output l h f =
     record {
       bytes = λ i j e. absurd (let z : _≡_ {A = ℕ} 0 1 = cc in omega arith);
       frames = λ i j e. absurd (let z : _≡_ {A = ℕ} 0 1 = cc in omega arith);
+      short = λ i j e. absurd (let z : _≡_ {A = ℕ} 0 1 = cc in omega arith);
     }
 
 none-fits : (t : Turned) (output : ℕ) → ((n k : ℕ) → t ≡ Played n k → ⊥) → Fits t output
-none-fits t output h = record { bytes = λ n k e. absurd (h n k e); frames = λ n k e. absurd (h n k e) }
+none-fits t output h = record { bytes = λ n k e. absurd (h n k e); frames = λ n k e. absurd (h n k e); short = λ n k e. absurd (h n k e) }
 
 with-fits : (vs : List Event) (p : Part) (c : Chip) (m : Flash) (room output : List ℕ) → Arrays p → length vs ≤ 6 → Fits (turnWith vs p c m room output .turned) (length output)
 unfolding turnWith kept if_then_else_
@@ -364,7 +367,7 @@ with-fits vs p c m room output a h = go (decLe 192 (length output))
     go (yes k) =
         let x = played p vs (starting c m room) in
         rw (le-ltb (length output) 192 k)
-        (by-fits (x .left .answer) x (length output) (omega (arith, played-long p vs (starting c m room) a)) (played-framed p vs (starting c m room) a (omega arith)))
+        (by-fits (x .left .answer) x (length output) (omega (arith, played-long p vs (starting c m room) a)) k (played-framed p vs (starting c m room) a (omega arith)))
     go (no k) = rw (lt-ltb (length output) 192 (omega arith)) (none-fits (Stopped ShortRoom) (length output) (λ n i e. let z : _≡_ {A = ℕ} 0 1 = cc in omega arith))
 
 by-record : (r : Record) (p : Part) (bs : List ℕ) (c : Chip) (m : Flash) (room output : List ℕ) → Arrays p → ((n : ℕ) → r ≡ BytesRecord n → n ≤ 6)
@@ -378,3 +381,21 @@ by-record BadRecord p bs c m room output a h = none-fits NotGood (length output)
 pub turn-fits : (p : Part) (bs : List ℕ) (c : Chip) (m : Flash) (room output : List ℕ) → Arrays p → Fits (turnOf p bs c m room output .turned) (length output)
 unfolding turnOf
 turn-fits p bs c m room output a = by-record (recordOf recordSize bs) p bs c m room output a (λ n e. carries-is n bs e .most)
+
+-- The output keeps its length.
+with-keeps : (vs : List Event) (p : Part) (c : Chip) (m : Flash) (room output : List ℕ) → Arrays p → length vs ≤ 6 → length (turnWith vs p c m room output .output) ≡ length output
+unfolding turnWith kept if_then_else_
+with-keeps vs p c m room output a h = go (decLe 192 (length output))
+  where
+    go : Dec (192 ≤ length output) → length (turnWith vs p c m room output .output) ≡ length output
+    go (yes k) = rw (le-ltb (length output) 192 k, length-append, length-drop) (omega (arith, played-long p vs (starting c m room) a))
+    go (no k) = rw (lt-ltb (length output) 192 (omega arith))
+
+pub turn-keeps : (p : Part) (bs : List ℕ) (c : Chip) (m : Flash) (room output : List ℕ) → Arrays p → length (turnOf p bs c m room output .output) ≡ length output
+unfolding turnOf turnBy eventsOf
+turn-keeps p bs c m room output a = go (recordOf recordSize bs) (λ n e. carries-is n bs e .most)
+  where
+    go : (r : Record) → ((n : ℕ) → r ≡ BytesRecord n → n ≤ 6) → length (turnBy r p bs c m room output .output) ≡ length output
+    go GapRecord h = with-keeps (Gap ∷ []) p c m room output a (omega arith)
+    go (BytesRecord n) h = with-keeps (map Byte (carried n bs)) p c m room output a (rw (length-map, length-take) (omega (arith, h n refl)))
+    go BadRecord h = refl
