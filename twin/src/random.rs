@@ -490,22 +490,34 @@ fn push_bytes(records: &mut Vec<u8>, carried: &mut Vec<u8>) {
 /// One capture in ten gets a bad record somewhere, one in twenty a short tail.
 fn spoil_records(choice: &mut Generator, records: &mut Vec<u8>) {
     if choice.chance(10) {
-        let any = choice.between(2, 255) as u8;
-        let bad = choice.pick(&[
-            [any, 0, 0, 0, 0, 0, 0, 0],
-            [0, 1, 0, 0, 0, 0, 0, 0],
-            [0, 0, 0, 0, 0, 0, 0, any],
-            [1, 0, 0, 0, 0, 0, 0, 0],
-            [1, 7, 1, 1, 1, 1, 1, 1],
-            [1, 3, 1, 1, 1, 0, any, 0],
-        ]);
         let at = choice.below(records.len() / RECORD + 1) * RECORD;
-        records.splice(at..at, bad);
+        records.splice(at..at, bad_record(choice));
     }
     if choice.chance(5) {
         let short = choice.between(1, RECORD - 1);
-        records.extend((0..short).map(|_| 0x01));
+        let any = choice.byte();
+        records.extend((0..short).map(|_| choice.pick(&[0x00, 0x01, any])));
     }
+}
+
+/// A record that is bad in one of 01's ways: kind, count, or an unused byte.
+fn bad_record(choice: &mut Generator) -> [u8; RECORD] {
+    let mut record = [0; RECORD];
+    let any = choice.between(1, 255) as u8;
+    match choice.below(6) {
+        0 => record[0] = choice.between(2, 255) as u8,
+        1 => record[1] = any,
+        2 => record[choice.between(2, RECORD - 1)] = any,
+        3 => record[0] = 0x01,
+        4 => {
+            record = [any; RECORD];
+            record[0] = 0x01;
+            record[1] = choice.between(7, 255) as u8;
+        }
+        // a good Reset, and the unused byte after it
+        _ => record = [0x01, 0x05, 0x01, 0x01, 0x00, 0xFF, 0x03, any],
+    }
+    record
 }
 
 /// How often each status byte came in replies.
@@ -530,6 +542,12 @@ impl Tally {
 
     pub fn of(&self, status: u8) -> u64 {
         self.0[usize::from(status)]
+    }
+
+    pub fn add(&mut self, other: &Tally) {
+        for (count, more) in self.0.iter_mut().zip(other.0) {
+            *count += more;
+        }
     }
 }
 
