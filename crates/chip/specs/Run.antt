@@ -1,14 +1,15 @@
 -- Runs: the fold of the step's definition over events. Noise, recordings and the whole cable all stand on it.
-use mathlib.Core.List.{List, [], _∷_}
+use mathlib.Core.List.{List, [], _++_, _∷_}
 use Prim.Native.Nat.{_+_, ℕ}
 use lib.Dec.{eqb}
-use Rattle.chip.specs.declared.Fed.{Fed}
+use lib.ListN.{take}
 use Rattle.chip.specs.Step.{Outcome, stepOf}
 use Rattle.chip.specs.declared.Answer.{Answer}
 use Rattle.chip.specs.declared.Answer.the-variants.{Refused, Replied}
 use Rattle.chip.specs.declared.Chip.{Chip}
 use Rattle.chip.specs.declared.Event.{Event}
 use Rattle.chip.specs.declared.Event.the-variants.{Byte}
+use Rattle.chip.specs.declared.Fed.{Fed}
 use Rattle.effect.specs.Effect.{Flash}
 use Rattle.part.specs.declared.Part.{Part}
 use Rattle.words.specs.Words.{if_then_else_}
@@ -59,3 +60,12 @@ fed f m room = feeding (f .taken) (record { answer = f .answer; chip = f .chip; 
 
 unfoldable pub feedOf : Part → List ℕ → Outcome → Feeding
 feedOf p bs o = feedFrom p 0 bs o
+
+-- The reply bytes to each event, one after the other.
+abbrev pub bytesSaid : Answer → List ℕ → List ℕ
+bytesSaid (Replied n f) room = take n room
+bytesSaid (Refused r) room = []
+
+unfoldable pub heardBack : List Spoken → List ℕ
+heardBack [] = []
+heardBack (x ∷ xs) = bytesSaid (x .answer) (x .room) ++ heardBack xs

@@ -5,7 +5,7 @@ use mathlib.Core.Path.{_∙_, _≡_, ap, refl, sym}
 use Prim.Native.Nat.{_≤_, ℕ}
 use lib.ListN.{drop, length}
 use lib.Seq.{take-append-seam}
-use Rattle.chip.specs.Run.{answers, onward, run, spokenIn}
+use Rattle.chip.specs.Run.{answers, bytesSaid, onward, run, spokenIn}
 use Rattle.chip.specs.Step.{Outcome, Reaction, reactTo, replied, settled}
 use Rattle.chip.specs.declared.Answer.the-variants.{Replied}
 use Rattle.chip.specs.declared.Chip.{Chip}
@@ -13,7 +13,6 @@ use Rattle.chip.specs.declared.Event.{Event}
 use Rattle.claims_good.proofs.Stays.{onward-is, stays}
 use Rattle.claims_good.proofs.Verdict.{accepted, conditions}
 use Rattle.claims_good.specs.Good.{Alike, AllAnswered, AllProper, Answered, SameChip, SameStep, Stands, Utterance, andAnswer, andEvent, noAnswer, noEvent, utterances, uttered}
-use Rattle.claims_stars.specs.Table.{bytesSaid}
 use Rattle.effect.specs.Effect.{Flash}
 use Rattle.effect.specs.declared.Core.{Core}
 use Rattle.frame.proofs.Laws.Collector.{heard-holding}

@@ -4,13 +4,12 @@ use mathlib.Core.Path.{_≡_}
 use Prim.Native.Nat.{_<_, _≤_, ℕ}
 use lib.ListN.{getD, length}
 use Rattle.chip.proofs.Saying.{Arrays}
-use Rattle.chip.specs.Run.{Spoken, answers, spokenIn}
+use Rattle.chip.specs.Run.{Spoken, answers, bytesSaid, spokenIn}
 use Rattle.chip.specs.Step.{Outcome, verdictOf}
 use Rattle.chip.specs.declared.Answer.{Answer}
 use Rattle.chip.specs.declared.Answer.the-variants.{Replied}
 use Rattle.chip.specs.declared.Event.{Event}
 use Rattle.chip.specs.declared.Event.the-variants.{Byte, Gap, PowerOn}
-use Rattle.claims_stars.specs.Table.{bytesSaid}
 use Rattle.frame.proofs.Laws.Sum.{Below}
 use Rattle.frame.specs.Collector.{heard}
 use Rattle.part.specs.declared.Part.{Part}

@@ -8,8 +8,8 @@ use native.Mathlib.Omega.{arith}
 use lib.Dec.{eqb, leb}
 use Rattle.claims_noise.specs.Claims.{AllowedOrNone, OnlyThis, lastGood, lineAfter, noneGood}
 use Rattle.claims_noise.specs.Noise.{Allowed, Awaits, allows, completesOnly, empty, goodFor, headerOf, noFrame, only, permitted, thenAwaits}
-use Rattle.flash.proofs.Laws.{same-is}
-use Rattle.flash.specs.Flash.{same}
+use Rattle.lent.proofs.Laws.{same-is}
+use Rattle.lent.specs.Lent.{same}
 use Rattle.frame.specs.Frame.{headerByte}
 use Rattle.frame.specs.Framing.{Framed, Framing, Sound, begun, byte, completes, framing, gap, idle, inside, quiet}
 use Rattle.frame.specs.declared.Header.{Header}

@@ -23,7 +23,7 @@ use Rattle.claims_stars.specs.Table.{readyChip, thePart}
 use Rattle.effect.specs.Commands.{commandDoes}
 use Rattle.effect.specs.Effect.{Flash}
 use Rattle.effect.specs.Pages.{badData, dataDoes, footerOf, goodData, isLastPage, lengthOf, nextPage, pageIn, pageStored, programPage, storedReply}
-use Rattle.flash.specs.Flash.{blank, same}
+use Rattle.flash.specs.Flash.{blank}
 use Rattle.frame.proofs.Laws.Sum.{Below, more, none}
 use Rattle.frame.specs.Collector.{fresh, hear, heard, holding}
 use Rattle.frame.specs.Frame.{complete, counted, framed, full, isFrame}
@@ -31,7 +31,7 @@ use Rattle.frame.specs.Framing.{Sound, byte, frames, framing, gap, idle, inside
 use Rattle.frame.specs.Judgement.{fitting, judgeOf, summed}
 use Rattle.frame.specs.Sum.{less, lessAll, sumOf}
 use Rattle.frame.specs.declared.Header.the-variants.{Command}
-use Rattle.lent.specs.Lent.{putAt, putOf}
+use Rattle.lent.specs.Lent.{allAre, putAt, putOf, same}
 use Rattle.options.proofs.Laws.{fresh-good}
 use Rattle.options.specs.Options.{fixedBits, freshOptions, goodOptions, lastBlock}
 use Rattle.part.specs.Part.{blockOf, blockSize, described, liesIn, pageOf, placeIn, placeOf}
@@ -168,7 +168,7 @@ page-changed =
 
 -- So the one changed byte keeps the page out: unchanged it is stored at 0500h, changed it is not, and it is blamed.
 pub page-stored : getD (runBy stepOf thePart (map Byte pageFrame) writingChip .memory .codeFlash) 0x0500 0 ≡ 0xAA
-unfolding runBy pageFrame dataDoes goodData programPage pageIn pageStored blank putOf putAt nextPage storedReply badData fitting footerOf lengthOf isLastPage goodAwaited goodPlaces stepOf settled verdictOf firstOf described _from_to_ _and_ _or_ if_then_else_ goodState goodCollected goodBegun goodCore goodOptions fixedBits goodPhase lastBlock freshOptions fresh heard holding hear complete full counted isFrame reactTo byteIn heardByte frameDoes commandDoes judgeOf summed sumOf lessAll less placeOf liesIn placeIn blockOf pageOf blockSize sendOf framesOf framed payloads
+unfolding runBy pageFrame dataDoes goodData programPage pageIn pageStored blank allAre putOf putAt nextPage storedReply badData fitting footerOf lengthOf isLastPage goodAwaited goodPlaces stepOf settled verdictOf firstOf described _from_to_ _and_ _or_ if_then_else_ goodState goodCollected goodBegun goodCore goodOptions fixedBits goodPhase lastBlock freshOptions fresh heard holding hear complete full counted isFrame reactTo byteIn heardByte frameDoes commandDoes judgeOf summed sumOf lessAll less placeOf liesIn placeIn blockOf pageOf blockSize sendOf framesOf framed payloads
 page-stored = refl
 
 pub page-changed-is-bad : IsBad stepOf thePart writingChip (set pageFrame 259 0x03)

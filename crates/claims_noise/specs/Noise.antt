@@ -8,7 +8,7 @@ use Rattle.chip.specs.declared.Event.the-variants.{Byte, Gap}
 use Rattle.effect.specs.Pages.{footerOf, lengthOf}
 use Rattle.effect.specs.declared.Phase.{Phase}
 use Rattle.effect.specs.declared.Phase.the-variants.{Awaiting, ModeByte, Ready, Setup}
-use Rattle.flash.specs.Flash.{same}
+use Rattle.lent.specs.Lent.{same}
 use Rattle.frame.specs.Framing.{Framing, Sound, byte, frames, framing, gap, idle}
 use Rattle.frame.specs.Judgement.{fitting, isGood, judgeOf}
 use Rattle.frame.specs.declared.Footer.{Footer}

@@ -8,8 +8,6 @@ use denote.Triple.Clauses.{AtExit}
 use borrow.Fn.Kinds.{Dens, endedOf, resT}
 use Rattle.flash.proofs.is_blank.Reads as is-blank
 use Rattle.flash.proofs.is_blank.Kinds as is-blank-kinds
-use Rattle.flash.proofs.is_same.Reads as is-same
-use Rattle.flash.proofs.is_same.Kinds as is-same-kinds
 use Rattle.flash.proofs.erase.Reads as erase
 use Rattle.flash.proofs.erase.Kinds as erase-kinds
 use Rattle.flash.proofs.store.Reads as store
@@ -19,9 +17,6 @@ use Rattle.flash.proofs.sum.Kinds as sum-kinds
 
 pub is-blank-once : (κs : Lfts 1) (a : Dens κs is-blank-kinds.ps) → OneOutcome {R = resT is-blank-kinds.r κs .Denot} {X = AtExit (endedOf 1 is-blank-kinds.ps is-blank-kinds.r) κs} (is-blank.Post κs a) (λ r x. r)
 is-blank-once κs a = one-outcome (is-blank.Post κs a) (λ r x. r) _ (λ r x p. p)
-
-pub is-same-once : (κs : Lfts 2) (a : Dens κs is-same-kinds.ps) → OneOutcome {R = resT is-same-kinds.r κs .Denot} {X = AtExit (endedOf 2 is-same-kinds.ps is-same-kinds.r) κs} (is-same.Post κs a) (λ r x. r)
-is-same-once κs a = one-outcome (is-same.Post κs a) (λ r x. r) _ (λ r x p. p)
 
 pub erase-once : (κs : Lfts 1) (a : Dens κs erase-kinds.ps) → OneOutcome {R = resT erase-kinds.r κs .Denot} {X = AtExit (endedOf 1 erase-kinds.ps erase-kinds.r) κs} (erase.Post κs a) (λ r x. left r (now (x .0)))
 erase-once κs a = one-outcome (erase.Post κs a) (λ r x. left r (now (x .0))) _ (λ r x p. p)

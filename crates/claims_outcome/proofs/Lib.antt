@@ -10,3 +10,7 @@ pub mod Chip
 pub mod Capture
 pub mod Hex
 pub mod Records
+pub mod Job
+pub mod Answer
+pub mod Flow
+pub mod Dock

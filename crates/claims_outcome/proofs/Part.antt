@@ -30,6 +30,8 @@ use Rattle.part.proofs.rate.mode.Reads as rate-mode
 use Rattle.part.proofs.rate.mode.Kinds as rate-mode-kinds
 use Rattle.part.proofs.refusal.Refusal.number.Reads as refusal-Refusal-number
 use Rattle.part.proofs.refusal.Refusal.number.Kinds as refusal-Refusal-number-kinds
+use Rattle.part.proofs.signature.bytes.Reads as signature-bytes
+use Rattle.part.proofs.signature.bytes.Kinds as signature-bytes-kinds
 
 pub Area-first-once : (κs : Lfts 0) (a : Dens κs Area-first-kinds.ps) → OneOutcome {R = resT Area-first-kinds.r κs .Denot} {X = AtExit (endedOf 0 Area-first-kinds.ps Area-first-kinds.r) κs} (Area-first.Post κs a) (λ r x. r)
 Area-first-once κs a = one-outcome (Area-first.Post κs a) (λ r x. r) _ (λ r x p. p)
@@ -69,3 +71,6 @@ rate-mode-once κs a = one-outcome (rate-mode.Post κs a) (λ r x. r) _ (λ r x 
 
 pub refusal-Refusal-number-once : (κs : Lfts 0) (a : Dens κs refusal-Refusal-number-kinds.ps) → OneOutcome {R = resT refusal-Refusal-number-kinds.r κs .Denot} {X = AtExit (endedOf 0 refusal-Refusal-number-kinds.ps refusal-Refusal-number-kinds.r) κs} (refusal-Refusal-number.Post κs a) (λ r x. r)
 refusal-Refusal-number-once κs a = one-outcome (refusal-Refusal-number.Post κs a) (λ r x. r) _ (λ r x p. p)
+
+pub signature-bytes-once : (κs : Lfts 0) (a : Dens κs signature-bytes-kinds.ps) → OneOutcome {R = resT signature-bytes-kinds.r κs .Denot} {X = AtExit (endedOf 0 signature-bytes-kinds.ps signature-bytes-kinds.r) κs} (signature-bytes.Post κs a) (λ r x. r)
+signature-bytes-once κs a = one-outcome (signature-bytes.Post κs a) (λ r x. r) _ (λ r x p. p)

@@ -2,9 +2,9 @@
 -- Assumes nothing.
 use mathlib.Core.List.{map}
 use mathlib.Core.Path.{_≡_, refl}
-use Rattle.chip.specs.Run.{answers}
+use Rattle.chip.specs.Run.{answers, heardBack}
 use Rattle.chip.specs.Step.{byteIn, frameDoes, goodBegun, goodCollected, goodCore, goodPhase, goodState, heardByte, reactTo, settled, stepOf, verdictOf}
-use Rattle.claims_stars.specs.Table.{Example, heardBack, replyTo, table}
+use Rattle.claims_stars.specs.Table.{Example, replyTo, table}
 use Rattle.effect.specs.Commands.{askedIn, blockErase, bytesOf, checksum, commandDoes, commandsIn, erasedIn, fitted, forbidden, readyCommands, work}
 use Rattle.effect.specs.Effect.{number3}
 use Rattle.flash.specs.Flash.{eraseOf, sumOfBytes}

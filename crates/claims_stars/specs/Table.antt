@@ -1,11 +1,9 @@
 -- The ★ examples of document 01, "Examples, on that part": what the definitions give, and what the document prints, in the document's order.
-use mathlib.Core.List.{List, [], _++_, _∷_, map}
+use mathlib.Core.List.{List, [], _∷_, map}
 use Prim.Native.Nat.{ℕ}
-use lib.ListN.{replicate, take}
-use Rattle.chip.specs.Run.{Spoken, answers, before}
+use lib.ListN.{replicate}
+use Rattle.chip.specs.Run.{answers, before, heardBack}
 use Rattle.chip.specs.Step.{Outcome}
-use Rattle.chip.specs.declared.Answer.{Answer}
-use Rattle.chip.specs.declared.Answer.the-variants.{Refused, Replied}
 use Rattle.chip.specs.declared.Event.the-variants.{Byte}
 use Rattle.effect.specs.Effect.{flash}
 use Rattle.effect.specs.declared.Phase.the-variants.{Ready}
@@ -26,15 +24,6 @@ abbrev pub readyChip : Outcome
 readyChip =
     before (record { core = record { options = freshOptions thePart; rate = 0x00; phase = Ready }; collector = fresh })
     (flash (replicate 16384 0xFF) (replicate 4096 0xFF)) (replicate 32 0x00)
-
--- The reply bytes to each byte of a frame, one after the other.
-abbrev pub bytesSaid : Answer → List ℕ → List ℕ
-bytesSaid (Replied n f) room = take n room
-bytesSaid (Refused r) room = []
-
-unfoldable pub heardBack : List Spoken → List ℕ
-heardBack [] = []
-heardBack (x ∷ xs) = bytesSaid (x .answer) (x .room) ++ heardBack xs
 
 unfoldable pub replyTo : List ℕ → List ℕ
 replyTo bs = heardBack (answers thePart (map Byte bs) readyChip)

@@ -9,11 +9,11 @@ use Rattle.effect.specs.declared.Awaited.{Awaited}
 use Rattle.effect.specs.declared.Core.{Core}
 use Rattle.effect.specs.declared.Done.{Done}
 use Rattle.effect.specs.declared.Phase.the-variants.{Ready}
-use Rattle.flash.specs.Flash.{blank, same}
+use Rattle.flash.specs.Flash.{blank}
 use Rattle.frame.specs.Judgement.{fitting, isGood, judgeOf, statusOf}
 use Rattle.frame.specs.declared.Footer.{Footer}
 use Rattle.frame.specs.declared.Footer.the-variants.{Last, More}
-use Rattle.lent.specs.Lent.{putOf}
+use Rattle.lent.specs.Lent.{putOf, same}
 use Rattle.options.specs.Options.{goodOptions, raises}
 use Rattle.options.specs.declared.Options.{Options}
 use Rattle.part.specs.Part.{placeOf}

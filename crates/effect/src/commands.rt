@@ -71,16 +71,6 @@ fn asked(phase: Phase, cmd: u8, n: usize) -> Asked
     }
 }
 
-// The byte at the place i; 0 where there is none.
-pub(crate) fn byte_at(bytes: &[u8], i: usize) -> u8
-    ensures { λ r. ⌜ r ≡ getD (now (bytes .entry)) i 0 ⌝ }
-{
-    if i < bytes.len() {
-        return bytes[i];
-    }
-    0
-}
-
 fn wide(b: u8) -> usize
     ensures { λ r. ⌜ (r ≡ b) × (r ≤ 255) ⌝ }
 {
@@ -92,9 +82,9 @@ fn address_at(bytes: &[u8], i: usize) -> usize
     requires { ⌜ i ≤ 6 ⌝ }
     ensures { λ r. ⌜ (r ≡ number3 i (now (bytes .entry))) × (r ≤ 0xFFFFFF) ⌝ }
 {
-    let low = wide(byte_at(bytes, i));
-    let middle = wide(byte_at(bytes, i + 1));
-    let high = wide(byte_at(bytes, i + 2));
+    let low = wide(lent::byte_at(bytes, i));
+    let middle = wide(lent::byte_at(bytes, i + 1));
+    let high = wide(lent::byte_at(bytes, i + 2));
     low + 256 * middle + 65536 * high
 }
 
@@ -421,7 +411,7 @@ fn work(
     match asked {
         Asked::Unknown => says(core, 0x04),
         Asked::Unfit => says(core, 0x15),
-        Asked::RateSet => rate_set(part, core, byte_at(bytes, 3), byte_at(bytes, 4)),
+        Asked::RateSet => rate_set(part, core, lent::byte_at(bytes, 3), lent::byte_at(bytes, 4)),
         Asked::Reset => says(core, 0x06),
         Asked::BlockErase => {
             let start = address_at(bytes, 3);
@@ -430,7 +420,7 @@ fn work(
         Asked::BlankCheck => {
             let start = address_at(bytes, 3);
             let end = address_at(bytes, 6);
-            let d01 = byte_at(bytes, 9);
+            let d01 = lent::byte_at(bytes, 9);
             blank_check(part, core, start, end, d01, code, data)
         }
         Asked::Programming => {
@@ -468,7 +458,7 @@ pub fn command(part: Part, core: Core, bytes: &[u8], code: &mut [u8], data: &mut
     let j = frame::judgement::judge(frame::Footer::Last, bytes);
     if is_good(j) {
         let phase = core.phase;
-        let cmd = byte_at(bytes, 2);
+        let cmd = lent::byte_at(bytes, 2);
         let n = payload_length(bytes);
         let asks = asked(phase, cmd, n);
         return work(part, core, asks, bytes, code, data);

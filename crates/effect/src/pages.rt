@@ -152,7 +152,7 @@ fn verify_page<'a>(
     ensures { λ r. ⌜ r ≡ verifyPage core w (placeOf part (w .next)) (now (bytes .entry)) (flash (now (code .entry)) (now («data» .entry))) ⌝ }
 {
     let place = part.place(w.next);
-    if flash::is_same(page_bytes(place, code, data), bytes) {
+    if lent::is_same(page_bytes(place, code, data), bytes) {
         let after = next_page(w, core);
         return Done {
             reply: Reply::Pair(0x06, 0x06),
@@ -182,11 +182,11 @@ fn number_of(low: u8, high: u8) -> u16
 fn options_in(bytes: &[u8]) -> Options
     ensures { λ r. ⌜ r ≡ optionsIn (now (bytes .entry)) ⌝ }
 {
-    let start = number_of(commands::byte_at(bytes, 4), commands::byte_at(bytes, 5));
-    let end = number_of(commands::byte_at(bytes, 6), commands::byte_at(bytes, 7));
+    let start = number_of(lent::byte_at(bytes, 4), lent::byte_at(bytes, 5));
+    let end = number_of(lent::byte_at(bytes, 6), lent::byte_at(bytes, 7));
     Options {
-        flags: commands::byte_at(bytes, 2),
-        boot: commands::byte_at(bytes, 3),
+        flags: lent::byte_at(bytes, 2),
+        boot: lent::byte_at(bytes, 3),
         start,
         end,
     }
@@ -197,8 +197,8 @@ fn is_good_data(part: Part, options: Options, bytes: &[u8]) -> bool
     ensures { λ r. ⌜ r ≡ (goodOptions part options and eqb (getD (now (bytes .entry)) 8 0) 0xFF and eqb (getD (now (bytes .entry)) 9 0) 0xFF) ⌝ }
 {
     if options.is_good(part) {
-        if commands::byte_at(bytes, 8) == 0xFF {
-            return commands::byte_at(bytes, 9) == 0xFF;
+        if lent::byte_at(bytes, 8) == 0xFF {
+            return lent::byte_at(bytes, 9) == 0xFF;
         }
     }
     false
@@ -210,7 +210,7 @@ fn security_data(part: Part, core: Core, bytes: &[u8]) -> Done
     let asked = options_in(bytes);
     if is_good_data(part, asked, bytes) {
         let options = core.options;
-        if options::is_raised(options.flags, commands::byte_at(bytes, 2)) {
+        if options::is_raised(options.flags, lent::byte_at(bytes, 2)) {
             let after = core.entered(Phase::Ready);
             return Done {
                 reply: Reply::Status(0x10),

@@ -1,6 +1,6 @@
 -- Laws about blank, equal and erased bytes: how far each loop has come, and what a caller may conclude from an answer.
 -- Assumes nothing.
-use mathlib.Core.Bool.{Bool, false, false≢true, true}
+use mathlib.Core.Bool.{true}
 use mathlib.Core.List.{List, [], _++_, _∷_, append-assoc, append-nil}
 use mathlib.Core.Path.{_∙_, _≡_, ap, refl, sym}
 use Prim.Native.Nat.{_+_, _-_, _<_, _≤_, suc, zero, ℕ}
@@ -8,53 +8,15 @@ use native.Mathlib.Decide.{decLe}
 use native.Mathlib.Numerals.{add-one}
 use native.Mathlib.Omega.{arith}
 use lib.Dec.{eqb}
-use lib.ListN.{drop, drop-of-length-le, getD, length, length-append, length-drop, length-replicate, length-set, replicate, replicate-append-replicate, set, take}
+use lib.ListN.{drop, length, length-append, length-drop, length-replicate, length-set, replicate, replicate-append-replicate, set, take}
 use lib.Seq.{append-snoc, drop-cons, drop-drop, drop-length, length-take-le, set-at}
-use borrow.Author.Tests.{eq-eqb, eqb-true}
-use Rattle.flash.specs.Flash.{blank, eraseOf, erased, same}
+use borrow.Author.Tests.{eqb-true}
+use Rattle.flash.specs.Flash.{blank, eraseOf, erased}
 use Rattle.lent.proofs.Laws.{put-lands, put-short}
 use Rattle.lent.specs.Lent.{Left, allAre, left, putAt, putOf}
 use Rattle.lent.specs.declared.Room.{Room}
 use Rattle.lent.specs.declared.Room.the-variants.{Enough, Short}
-use Rattle.words.proofs.Laws.{and-assoc, and-both, and-false, and-left, and-right, and-true}
-use Rattle.words.specs.Words.{_and_}
-
--- How far the comparison of two lists of one length has come: t is what the flag makes of the rest.
-pub record SameFrom (ok : Bool) (bs cs : List ℕ) (i : ℕ) (t : Bool) : Type 0 where
-  pub rest : ok and same (drop i bs) (drop i cs) ≡ t
-
-pub same-start : (bs cs : List ℕ) → SameFrom true bs cs 0 (same bs cs)
-unfolding _and_
-same-start bs cs = record { rest = refl }
-
-pub same-turn : {ok r t : Bool} {bs cs : List ℕ} {i : ℕ} → SameFrom ok bs cs i t → r ≡ (ok and eqb (getD bs i 0) (getD cs i 0)) → i < length bs
-    → i < length cs → SameFrom r bs cs (i + 1) t
-unfolding same
-same-turn {ok} {r} {t} {bs} {cs} {i} f e h k =
-    record { rest = rw (e, add-one, and-assoc) (rw (drop-cons bs i 0 h, drop-cons cs i 0 k) at (f .rest)) }
-
-pub same-end : {ok t : Bool} {bs cs : List ℕ} {i : ℕ} → SameFrom ok bs cs i t → length bs ≤ i → length cs ≤ i → ok ≡ t
-unfolding same
-same-end {ok} {t} {bs} {cs} {i} f h k = rw (drop-of-length-le bs h, drop-of-length-le cs k, and-true) at (f .rest)
-
-pub same-is : (bs cs : List ℕ) → same bs cs ≡ true → bs ≡ cs
-unfolding same
-same-is [] [] t = refl
-same-is [] (c ∷ cs) t = absurd (false≢true t)
-same-is (b ∷ bs) [] t = absurd (false≢true t)
-same-is (b ∷ bs) (c ∷ cs) t = rw (eqb-true b c (and-left _ _ t), same-is bs cs (and-right (eqb b c) _ t))
-
-pub same-self : (bs : List ℕ) → same bs bs ≡ true
-unfolding same
-same-self [] = refl
-same-self (b ∷ bs) = and-both (eq-eqb b b refl) (same-self bs)
-
-pub same-apart : (bs cs : List ℕ) → (length bs ≡ length cs → ⊥) → false ≡ same bs cs
-unfolding same
-same-apart [] [] d = absurd (d refl)
-same-apart [] (c ∷ cs) d = refl
-same-apart (b ∷ bs) [] d = refl
-same-apart (b ∷ bs) (c ∷ cs) d = and-false (eqb b c) (same-apart bs cs (λ e. d (ap suc e)))
+use Rattle.words.proofs.Laws.{and-both, and-left, and-right}
 
 pub blank-erased : (n : ℕ) → blank (replicate n erased) ≡ true
 unfolding blank allAre

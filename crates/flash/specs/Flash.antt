@@ -1,12 +1,10 @@
 -- Work on lent flash bytes, as definitions on lists: document 01, "The part" ("Erased means FFh.") and the work of 22h, 32h, 40h, 13h and B0h.
-use mathlib.Core.Bool.{Bool, false, true}
-use mathlib.Core.List.{List, [], _∷_}
+use mathlib.Core.Bool.{Bool}
+use mathlib.Core.List.{List}
 use Prim.Native.Nat.{ℕ}
-use lib.Dec.{eqb}
 use lib.ListN.{replicate}
 use Rattle.frame.specs.Sum.{lessAll}
 use Rattle.lent.specs.Lent.{Left, allAre, putOf}
-use Rattle.words.specs.Words.{_and_}
 
 abbrev pub erased : ℕ
 erased = 0xFF
@@ -14,13 +12,6 @@ erased = 0xFF
 -- These bytes are all FFh.
 unfoldable pub blank : List ℕ → Bool
 blank bs = allAre erased bs
-
--- The bytes are equal, one for one.
-unfoldable pub same : List ℕ → List ℕ → Bool
-same [] [] = true
-same [] (c ∷ cs) = false
-same (b ∷ bs) [] = false
-same (b ∷ bs) (c ∷ cs) = eqb b c and same bs cs
 
 -- n bytes from the place at on set to FFh; every other byte stays. Short where they do not all lie in the flash, and then nothing changes.
 unfoldable pub eraseOf : List ℕ → ℕ → ℕ → Left

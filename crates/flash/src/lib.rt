@@ -1,28 +1,15 @@
-// Work on lent flash bytes: are they blank, set some to FFh, store some, are they equal, their 16-bit sum. Each is total, and every byte outside the
+// Work on lent flash bytes: are they blank, set some to FFh, store some, their 16-bit sum. Each is total, and every byte outside the
 // named stretch stays. What the bytes mean stands in the chip.
 ghost use mathlib.Core.Path.{_≡_};
 ghost use lib.ListN.{length, replicate};
 ghost use Rattle.lent.specs.Lent.{left, putOf};
-ghost use Rattle.flash.specs.Flash.{blank, same, erased, eraseOf, sumOfBytes};
+ghost use Rattle.flash.specs.Flash.{blank, erased, eraseOf, sumOfBytes};
 use lent::Room;
 
 pub fn is_blank(bytes: &[u8]) -> bool
     ensures { λ r. ⌜ r ≡ blank (now (bytes .entry)) ⌝ }
 {
     lent::are_all(bytes, 0xFF)
-}
-
-pub fn is_same(bytes: &[u8], others: &[u8]) -> bool
-    ensures { λ r. ⌜ r ≡ same (now (bytes .entry)) (now (others .entry)) ⌝ }
-{
-    if bytes.len() != others.len() {
-        return false;
-    }
-    let mut ok = true;
-    for i in 0..bytes.len() {
-        ok = lent::keep(ok, bytes[i], others[i]);
-    }
-    ok
 }
 
 // On the part alone, and not on a place in the whole flash: the loop's index is then the only one.

@@ -1,19 +1,19 @@
--- Laws about bytes put into lent room, and about a frame or a reply that is written from the room's start, piece by piece.
+-- Laws about bytes put into lent room and bytes compared, and about a frame or a reply that is written from the room's start, piece by piece.
 -- Assumes nothing.
-use mathlib.Core.Bool.{Bool, true}
+use mathlib.Core.Bool.{Bool, false, false≢true, true}
 use mathlib.Core.List.{List, [], _++_, _∷_, append-assoc, append-nil}
 use mathlib.Core.Path.{_∙_, _≡_, ap, refl}
 use Prim.Native.Nat.{_+_, _-_, _<_, _≤_, suc, ℕ}
 use native.Mathlib.Numerals.{add-one}
 use native.Mathlib.Omega.{arith}
 use lib.Dec.{eqb}
-use lib.ListN.{drop, drop-of-length-le, getD, length, length-append, length-drop, set, take}
+use lib.ListN.{drop, drop-of-length-le, getD, length, length-append, length-drop, length-take, set, take}
 use lib.Seq.{append-snoc, drop-append-add, drop-cons, drop-drop, set-append-seam, take-all, take-append-seam, take-length}
-use borrow.Author.Tests.{le-leb, lt-leb}
-use Rattle.lent.specs.Lent.{Left, allAre, left, putAt, putOf}
+use borrow.Author.Tests.{eq-eqb, eqb-true, le-leb, lt-leb}
+use Rattle.lent.specs.Lent.{Left, allAre, left, putAt, putOf, same}
 use Rattle.lent.specs.declared.Room.{Room}
 use Rattle.lent.specs.declared.Room.the-variants.{Enough, Short}
-use Rattle.words.proofs.Laws.{and-assoc, and-true}
+use Rattle.words.proofs.Laws.{and-assoc, and-both, and-false, and-left, and-right, and-true}
 use Rattle.words.specs.Words.{_and_, if_then_else_}
 
 pub put-short : (l : List ℕ) (at : ℕ) (s : List ℕ) → length l < at + length s → left Short l ≡ putOf l at s
@@ -83,3 +83,55 @@ all-turn {v} {ok} {r} {t} {bs} {i} f e h = record { rest = rw (e, add-one, and-a
 pub all-end : {v : ℕ} {ok t : Bool} {bs : List ℕ} {i : ℕ} → AllFrom v ok bs i t → length bs ≤ i → ok ≡ t
 unfolding allAre
 all-end {v} {ok} {t} {bs} {i} f h = rw (drop-of-length-le bs h, and-true) at (f .rest)
+
+-- How far a test of two lists of one length has come: t is what the flag makes of the rest.
+pub record SameFrom (ok : Bool) (bs cs : List ℕ) (i : ℕ) (t : Bool) : Type 0 where
+  pub rest : ok and same (drop i bs) (drop i cs) ≡ t
+
+pub same-start : (bs cs : List ℕ) → SameFrom true bs cs 0 (same bs cs)
+unfolding _and_
+same-start bs cs = record { rest = refl }
+
+pub same-turn : {ok r t : Bool} {bs cs : List ℕ} {i : ℕ} → SameFrom ok bs cs i t → r ≡ (ok and eqb (getD bs i 0) (getD cs i 0)) → i < length bs
+    → i < length cs → SameFrom r bs cs (i + 1) t
+unfolding same
+same-turn {ok} {r} {t} {bs} {cs} {i} f e h k =
+    record { rest = rw (e, add-one, and-assoc) (rw (drop-cons bs i 0 h, drop-cons cs i 0 k) at (f .rest)) }
+
+pub same-end : {ok t : Bool} {bs cs : List ℕ} {i : ℕ} → SameFrom ok bs cs i t → length bs ≤ i → length cs ≤ i → ok ≡ t
+unfolding same
+same-end {ok} {t} {bs} {cs} {i} f h k = rw (drop-of-length-le bs h, drop-of-length-le cs k, and-true) at (f .rest)
+
+pub same-is : (bs cs : List ℕ) → same bs cs ≡ true → bs ≡ cs
+unfolding same
+same-is [] [] t = refl
+same-is [] (c ∷ cs) t = absurd (false≢true t)
+same-is (b ∷ bs) [] t = absurd (false≢true t)
+same-is (b ∷ bs) (c ∷ cs) t = rw (eqb-true b c (and-left _ _ t), same-is bs cs (and-right (eqb b c) _ t))
+
+pub same-self : (bs : List ℕ) → same bs bs ≡ true
+unfolding same
+same-self [] = refl
+same-self (b ∷ bs) = and-both (eq-eqb b b refl) (same-self bs)
+
+pub same-apart : (bs cs : List ℕ) → (length bs ≡ length cs → ⊥) → false ≡ same bs cs
+unfolding same
+same-apart [] [] d = absurd (d refl)
+same-apart [] (c ∷ cs) d = refl
+same-apart (b ∷ bs) [] d = refl
+same-apart (b ∷ bs) (c ∷ cs) d = and-false (eqb b c) (same-apart bs cs (λ e. d (ap suc e)))
+
+-- What fills the room is all of it.
+pub written-full : {w r l : List ℕ} → Written w r l → length r ≤ length w → l ≡ w
+written-full {w} {r} {l} p h = p .is ∙ rw (drop-of-length-le r h, append-nil)
+
+-- Fewer bytes from a place on than the others are.
+pub same-fewer : (bs cs : List ℕ) (at : ℕ) → length bs < at + length cs → 1 ≤ length cs → false ≡ same (take (length cs) (drop at bs)) cs
+same-fewer bs cs at h k =
+    let l : length (take (length cs) (drop at bs)) ≤ length bs - at = simp (length-take, length-drop) (omega arith) in
+    same-apart (take (length cs) (drop at bs)) cs (λ e. omega arith)
+
+pub same-none : (bs cs : List ℕ) (at : ℕ) → length cs ≡ 0 → true ≡ same (take (length cs) (drop at bs)) cs
+unfolding same
+same-none bs [] at e = refl
+same-none bs (c ∷ cs) at e = absurd (omega arith)

@@ -1,5 +1,5 @@
--- Bytes put at a place in lent room: what is there afterwards, and the answer. Bytes that all have one value.
-use mathlib.Core.Bool.{Bool, true}
+-- Bytes put at a place in lent room: what is there afterwards, and the answer. Bytes that all have one value; whether two stretches are equal.
+use mathlib.Core.Bool.{Bool, false, true}
 use mathlib.Core.List.{List, [], _++_, _∷_}
 use Prim.Native.Nat.{_+_, ℕ}
 use lib.Dec.{eqb, leb}
@@ -27,3 +27,10 @@ putOf l at s = if leb (at + length s) (length l) then left Enough (putAt l at s)
 unfoldable pub allAre : ℕ → List ℕ → Bool
 allAre v [] = true
 allAre v (b ∷ bs) = eqb b v and allAre v bs
+
+-- The bytes are equal, one for one.
+unfoldable pub same : List ℕ → List ℕ → Bool
+same [] [] = true
+same [] (c ∷ cs) = false
+same (b ∷ bs) [] = false
+same (b ∷ bs) (c ∷ cs) = eqb b c and same bs cs

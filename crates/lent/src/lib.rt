@@ -1,8 +1,9 @@
-// Work on lent bytes that every floor above shares: bytes put at a place in lent room, and bytes that all have one value.
+// Work on lent bytes that every floor above shares: bytes put at a place in lent room, read at a place that may lie past the end, compared.
 ghost use mathlib.Core.Path.{_≡_};
 ghost use lib.Dec.{eqb};
+ghost use lib.ListN.{drop, getD, length, take};
 ghost use Rattle.words.specs.Words.{_and_};
-ghost use Rattle.lent.specs.Lent.{allAre, left, putOf};
+ghost use Rattle.lent.specs.Lent.{allAre, left, putOf, same};
 
 // Whether the room was enough. Where it was short, nothing was changed.
 pub enum Room {
@@ -38,4 +39,45 @@ pub fn are_all(bytes: &[u8], value: u8) -> bool
         ok = keep(ok, bytes[i], value);
     }
     ok
+}
+
+pub fn is_same(bytes: &[u8], others: &[u8]) -> bool
+    ensures { λ r. ⌜ r ≡ same (now (bytes .entry)) (now (others .entry)) ⌝ }
+{
+    if bytes.len() != others.len() {
+        return false;
+    }
+    let mut ok = true;
+    for i in 0..bytes.len() {
+        ok = keep(ok, bytes[i], others[i]);
+    }
+    ok
+}
+
+// The byte at the place i; 0 where there is none.
+pub fn byte_at(bytes: &[u8], i: usize) -> u8
+    ensures { λ r. ⌜ r ≡ getD (now (bytes .entry)) i 0 ⌝ }
+{
+    if i < bytes.len() {
+        return bytes[i];
+    }
+    0
+}
+
+// Whether the bytes from a place on are these; not where there are fewer.
+pub fn is_same_at(bytes: &[u8], at: usize, others: &[u8]) -> bool
+    ensures { λ r. ⌜ r ≡ same (take (length (now (others .entry))) (drop at (now (bytes .entry)))) (now (others .entry)) ⌝ }
+{
+    let n = others.len();
+    if n == 0 {
+        return true;
+    }
+    if bytes.len() < n {
+        return false;
+    }
+    if bytes.len() - n < at {
+        return false;
+    }
+    let end = at + n;
+    is_same(&bytes[at..end], others)
 }

@@ -1,6 +1,7 @@
 -- Laws about a part's areas, addresses and ranges: what chip and dock use instead of the definitions' text.
 -- Assumes nothing.
 use mathlib.Core.Bool.{Bool, false, true}
+use mathlib.Core.List.{List, [], _∷_}
 use mathlib.Core.Path.{_∙_, _≡_, ap, refl, sym}
 use Prim.Native.Nat.{_%_, _*_, _+_, _-_, _/_, _<_, _^_, _≤_, ℕ}
 use native.Mathlib.Nat.{div-add-mod', mul-le-mul-left, mul-le-mul-right, suc-mul}
@@ -10,11 +11,15 @@ use lib.Dec.{leb·zero, ltb}
 use borrow.Author.Tests.{eq-eqb, eqb-true, le-leb, le-ltb, leb-true, lt-ltb, ltb-false, ltb-true}
 use Rattle.part.proofs.Blocks.{Whole, below, below-page, whole, whole-inside, whole-read}
 use Rattle.part.specs.Part.{blockOf, blockSize, blocks, described, endsBlock, first, liesIn, pageOf, pageSize, pages, placeIn, placeOf, rangeOf, size, startsBlock, stretch, wholeBlocks}
+use Rattle.part.specs.Rate.{acceptsRate}
+use Rattle.part.specs.Refusal.{Condition, firstOf}
 use Rattle.part.specs.declared.Area.{Area}
 use Rattle.part.specs.declared.Area.the-variants.{CodeFlash, DataFlash}
 use Rattle.part.specs.declared.Part.{Part}
 use Rattle.part.specs.declared.Place.the-variants.{In, Outside}
 use Rattle.part.specs.declared.Range.the-variants.{Bad, Blocks}
+use Rattle.part.specs.declared.refusal.Refusal.{Refusal}
+use Rattle.part.specs.declared.refusal.Verdict.the-variants.{Accepted, Barred}
 use Rattle.words.proofs.Laws.{and-both, and-left, and-right}
 use Rattle.words.specs.Words.{_and_, _from_to_, if_then_else_}
 
@@ -31,6 +36,9 @@ pub pages-whole : (p : Part) (a : Area) → blockSize p a ≡ pages p a * pageSi
 unfolding blockSize
 pages-whole p a = refl
 
+pub pages-small : (p : Part) (a : Area) → pages p a ≤ 256
+pages-small p a = omega (arith, blockSize-small p a)
+
 pub positive : (p : Part) (a : Area) {s : ℕ} → s ≡ blockSize p a → 0 < s
 positive p a e = rw e (blockSize-pos p a)
 
@@ -38,10 +46,10 @@ pub first-small : (a : Area) → first a ≤ 0xF1000
 first-small CodeFlash = omega arith
 first-small DataFlash = omega arith
 
-product-small : (n s : ℕ) → n < 2 ^ 32 → s ≤ 65536 → n * s ≤ 2 ^ 48
+pub product-small : (n s : ℕ) → n < 2 ^ 32 → s ≤ 65536 → n * s ≤ 2 ^ 48
 product-small n s h k = let l : n * s ≤ n * 65536 = mul-le-mul-left n k in omega arith
 
-blocks-small : (p : Part) (a : Area) → p .«code_blocks» < 2 ^ 32 → p .«data_blocks» < 2 ^ 32 → blocks p a < 2 ^ 32
+pub blocks-small : (p : Part) (a : Area) → p .«code_blocks» < 2 ^ 32 → p .«data_blocks» < 2 ^ 32 → blocks p a < 2 ^ 32
 blocks-small p CodeFlash h k = h
 blocks-small p DataFlash h k = k
 
@@ -268,3 +276,40 @@ described-is p d =
       clock-least = leb-true _ _ (and-left _ _ k);
       clock-most = leb-true _ _ (and-right _ _ k);
     }
+
+pub blocks-most : (p : Part) (a : Area) → described p ≡ true → blocks p a ≤ 64
+blocks-most p CodeFlash d = described-is p d .code-most
+blocks-most p DataFlash d = omega (arith, described-is p d)
+
+-- What accepts holds in no condition of the row, and a row of which no condition holds accepts.
+pub record Passed (x : Condition) (xs : List Condition) : Type 0 where
+  pub not-held : x .holds ≡ false
+  pub rest : firstOf xs ≡ Accepted
+
+barred : (r : Refusal) → Barred r ≡ Accepted → ⊥
+barred r e = let z : _≡_ {A = ℕ} 0 1 = cc in omega arith
+
+pub passed : (x : Condition) (xs : List Condition) → firstOf (x ∷ xs) ≡ Accepted → Passed x xs
+unfolding firstOf if_then_else_
+passed x xs e = go (x .holds) refl e
+  where
+    go : (t : Bool) → x .holds ≡ t → (if t then Barred (x .refusal) else firstOf xs) ≡ Accepted → Passed x xs
+    go true h e = absurd (barred (x .refusal) e)
+    go false h e = record { not-held = h; rest = e }
+
+pub passes : (x : Condition) (xs : List Condition) → x .holds ≡ false → firstOf xs ≡ Accepted → firstOf (x ∷ xs) ≡ Accepted
+unfolding firstOf if_then_else_
+passes x xs h e = rw h e
+
+pub none-held : firstOf [] ≡ Accepted
+unfolding firstOf
+none-held = refl
+
+-- An accepted rate and supply are bytes.
+pub record RateIs (rate supply : ℕ) : Type 0 where
+  pub rate-most : rate ≤ 0x03
+  pub supply-most : supply ≤ 55
+
+pub rate-is : (p : Part) (rate supply : ℕ) → acceptsRate p rate supply ≡ true → RateIs rate supply
+unfolding acceptsRate _from_to_
+rate-is p rate supply e = record { rate-most = leb-true _ _ (and-left _ _ e); supply-most = leb-true _ _ (and-right _ _ (and-right _ _ e)) }

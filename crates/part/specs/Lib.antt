@@ -1,3 +1,4 @@
 pub mod Part
 pub mod Rate
 pub mod Refusal
+pub mod Signature

@@ -8,6 +8,7 @@ ghost use Rattle.part.specs.Part.{described, blocks, first, blockSize, p
 
 pub mod rate;
 pub mod refusal;
+pub mod signature;
 
 // The three numbers are wide enough that none handed in wraps into range, and narrow enough that no address computed from them wraps.
 pub struct Part {

@@ -250,7 +250,7 @@ fn main() {
         os::fail(b"replay: its argument");
         return;
     }
-    if flash::is_same(&path[..n], b"--help") {
+    if lent::is_same(&path[..n], b"--help") {
         help();
         return;
     }

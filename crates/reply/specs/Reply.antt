@@ -4,27 +4,16 @@ use Prim.Native.Nat.{_%_, _/_, ℕ}
 use lib.Dec.{ltb}
 use lib.ListN.{drop, length}
 use Rattle.frame.specs.Frame.{dataFrame}
+use Rattle.frame.specs.Framing.{frames}
 use Rattle.frame.specs.declared.Footer.the-variants.{Last}
 use Rattle.options.specs.Options.{security}
 use Rattle.options.specs.declared.Options.{Options}
-use Rattle.part.specs.Part.{lastOf}
-use Rattle.part.specs.declared.Area.the-variants.{CodeFlash, DataFlash}
-use Rattle.part.specs.declared.LastAddress.{LastAddress}
-use Rattle.part.specs.declared.LastAddress.the-variants.{At, Nothing}
+use Rattle.part.specs.Signature.{signature}
 use Rattle.part.specs.declared.Part.{Part}
 use Rattle.reply.specs.declared.Reply.{Reply}
 use Rattle.reply.specs.declared.Reply.the-variants.{LastStored, Pair, Rate, Security, Signature, Silence, Status, Sum}
 use Rattle.reply.specs.declared.Sent.{Sent}
 use Rattle.words.specs.Words.{if_then_else_}
-
--- "last data address (000000h if none)", low byte first.
-abbrev pub lastBytes : LastAddress → List ℕ
-lastBytes (At n) = n % 256 ∷ n / 256 % 256 ∷ n / 65536 % 256 ∷ []
-lastBytes Nothing = 0x00 ∷ 0x00 ∷ 0x00 ∷ []
-
--- C0h: "22 bytes: device code, name, last code address, last data address (000000h if none), version"
-unfoldable pub signature : Part → List ℕ
-signature p = p .device ++ p .name ++ lastBytes (lastOf p CodeFlash) ++ lastBytes (lastOf p DataFlash) ++ p .version
 
 -- The payload of each reply frame, in order.
 unfoldable pub payloads : Part → Options → Reply → List (List ℕ)

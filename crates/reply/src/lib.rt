@@ -3,12 +3,10 @@ ghost use mathlib.Core.Path.{_≡_};
 ghost use mathlib.Core.List.{[], _∷_};
 ghost use Prim.Native.Nat.{_+_, _≤_};
 ghost use lib.ListN.{length};
-ghost use Rattle.reply.specs.Reply.{lastBytes, signature, payloads, said, sendOf};
+ghost use Rattle.reply.specs.Reply.{payloads, said, sendOf};
 use frame::Footer;
 use frame::wire;
 use options::Options;
-use part::Area;
-use part::LastAddress;
 use part::Part;
 
 pub enum Reply {
@@ -26,36 +24,6 @@ pub enum Reply {
 pub struct Sent {
     pub bytes: usize,
     pub frames: usize,
-}
-
-fn last_bytes(last: LastAddress) -> [u8; 3]
-    ensures { λ r. ⌜ r ≡ lastBytes last ⌝ }
-{
-    match last {
-        LastAddress::At(n) => [
-            (n % 256) as u8,
-            (n / 256 % 256) as u8,
-            (n / 65536 % 256) as u8,
-        ],
-        LastAddress::Nothing => [0x00, 0x00, 0x00],
-    }
-}
-
-fn signature_bytes(part: Part) -> [u8; 22]
-    ensures { λ r. ⌜ r ≡ signature part ⌝ }
-{
-    let device = part.device;
-    let name = part.name;
-    let version = part.version;
-    let code = last_bytes(part.last(Area::CodeFlash));
-    let extra = last_bytes(part.last(Area::DataFlash));
-    let mut d = [0u8; 22];
-    lent::put(&mut d, 0, &device);
-    lent::put(&mut d, 3, &name);
-    lent::put(&mut d, 13, &code);
-    lent::put(&mut d, 16, &extra);
-    lent::put(&mut d, 19, &version);
-    d
 }
 
 fn send_one(room: &mut [u8], payload: &[u8]) -> Sent
@@ -120,7 +88,7 @@ pub fn send(part: Part, options: Options, reply: Reply, room: &mut [u8]) -> Sent
             send_two(room, &status, &d)
         }
         Reply::Signature => {
-            let d = signature_bytes(part);
+            let d = part::signature::bytes(part);
             send_two(room, &status, &d)
         }
         Reply::Security => {

@@ -47,3 +47,7 @@ pub if-all : {A : Type 0} (P : A → Type 0) (t : Bool) {a b : A} → (t ≡ tru
 unfolding if_then_else_
 if-all P true f g = f refl
 if-all P false f g = g refl
+
+-- What holds of both branches holds of the choice.
+pub if-both : {A : Type 0} (P : A → Type 0) (t : Bool) {a b : A} → P a → P b → P (if t then a else b)
+if-both P t p q = if-all P t (λ e. p) (λ e. q)

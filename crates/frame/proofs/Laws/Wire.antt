@@ -2,7 +2,7 @@
 -- Assumes nothing.
 use mathlib.Core.Bool.{Bool, false, true}
 use mathlib.Core.List.{List, [], _++_, _∷_, append-assoc}
-use mathlib.Core.Path.{_∙_, _≡_, refl}
+use mathlib.Core.Path.{_∙_, _≡_, ap, refl}
 use Prim.Native.Nat.{_+_, _-_, _<_, _≤_, ℕ}
 use native.Mathlib.Omega.{arith}
 use lib.Dec.{eqb, leb}
@@ -14,7 +14,7 @@ use Rattle.frame.proofs.Laws.Sum.{sum-join}
 use Rattle.frame.specs.Frame.{counted, footerByte, framed, headerByte, isFrame, lenByte}
 use Rattle.frame.specs.Judgement.{isGood, judgeOf}
 use Rattle.frame.specs.Sum.{less, lessAll, sumOf}
-use Rattle.frame.specs.Wire.{laid, readOf, writeOf, wrote}
+use Rattle.frame.specs.Wire.{Writing, laid, readOf, writeOf, wrote}
 use Rattle.frame.specs.declared.Footer.{Footer}
 use Rattle.frame.specs.declared.Footer.the-variants.{Last}
 use Rattle.frame.specs.declared.Header.{Header}
@@ -22,6 +22,7 @@ use Rattle.frame.specs.declared.Header.the-variants.{Data}
 use Rattle.frame.specs.declared.judgement.Judgement.{Judgement}
 use Rattle.frame.specs.declared.judgement.Judgement.the-variants.{Good}
 use Rattle.frame.specs.declared.wire.Read.the-variants.{Frame, NotOne}
+use Rattle.frame.specs.declared.wire.Wrote.{Wrote}
 use Rattle.frame.specs.declared.wire.Wrote.the-variants.{Long, NoRoom, UnfitPayload}
 use Rattle.lent.proofs.Laws.{Written}
 use Rattle.words.specs.Words.{_and_, _from_to_, if_then_else_}
@@ -112,3 +113,14 @@ read-good bs n end j h e f i g =
     let z : end - 0 ≡ counted (getD bs 1 0) + 4 = omega arith in
     let k : judgeOf Last (take (counted (getD bs 1 0) + 4) bs) ≡ Good = rw (← z, ← i) g in
     simp (e, f, eq-eqb (getD bs 0 0) 2 h, k)
+
+-- A frame that fits is laid, and what is in the room then.
+pub write-lands : (room : List ℕ) (h : Header) (ds : List ℕ) (f : Footer) → 1 ≤ length ds → length ds ≤ 256 → length ds + 4 ≤ length room
+    → writeOf room h ds f ≡ wrote (Long (length ds + 4)) (laid room h ds f)
+unfolding writeOf _from_to_ _and_ if_then_else_
+write-lands room h ds f k m s = simp (le-leb _ _ k, le-leb _ _ m, le-ltb (length room) (length ds + 4) s)
+
+pub laid-lands : (room : List ℕ) (h : Header) (ds : List ℕ) (f : Footer) (l : List ℕ) (a : Wrote) → wrote a l ≡ writeOf room h ds f → 1 ≤ length ds
+    → length ds ≤ 256 → length ds + 4 ≤ length room → l ≡ framed h ds f ++ drop (length ds + 4) room
+unfolding laid
+laid-lands room h ds f l a e k m s = ap (λ (x : Writing). x .room) (e ∙ write-lands room h ds f k m s)

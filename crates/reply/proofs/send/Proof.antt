@@ -36,7 +36,7 @@ returns-7 c = simp (c .before .before .before .before .before .before .before .r
 
 returns-8 : tie.Need-returns-8
 unfolding payloads
-returns-8 c = simp (c .before .before .before .before .before .before .before .enum-told3 .given .1, ← c .before .before .before .before .before .before .signature-bytes .ensures) (c .before .before .send-two3 .ensures)
+returns-8 c = simp (c .before .before .before .before .before .before .before .enum-told3 .given .1, ← c .before .before .before .before .before .before .bytes .ensures) (c .before .before .send-two3 .ensures)
 
 returns-9 : tie.Need-returns-9
 unfolding payloads

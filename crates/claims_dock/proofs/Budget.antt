@@ -1,0 +1,249 @@
+-- How many frames a stage can still take where nothing is retried, and that every answer pays for the frame it answers: what is still needed, and a
+-- block's frames for each retry left, fall by at least one.
+-- Assumes nothing.
+use mathlib.Core.Bool.{Bool, false, false≢true, true, true≢false}
+use mathlib.Core.List.{List, [], _∷_}
+use mathlib.Core.Path.{_≡_, refl}
+use Prim.Native.Nat.{_*_, _+_, _-_, _<_, _≤_, ℕ}
+use native.Mathlib.Omega.{arith}
+use lib.Dec.{eqb, ltb}
+use lib.ListN.{length}
+use borrow.Author.Tests.{ltb-true}
+use Rattle.answer.specs.Answer.{readAnswer}
+use Rattle.answer.specs.declared.Decoded.{Decoded}
+use Rattle.answer.specs.declared.Decoded.the-variants.{Garbled, Said}
+use Rattle.claims_dock.specs.Examples.{at}
+use Rattle.flow.proofs.Laws.{not-last}
+use Rattle.flow.specs.Flow.{Heard, afterAnswer, afterHeard, afterSetup, afterStatus, afterWork, answered, blockAt, blockFrom, erasing, failing, fails, formAt, isBlankCheck, lastPage, leads, next, pageAt, pageOfWork, restart, retried, saysNotBlank, setupCommand, setupFrom, silence}
+use Rattle.flow.specs.declared.Turned.{Turned}
+use Rattle.job.proofs.Laws.{block-yes, page-is, page-yes, pages-some, place-is, verified-is}
+use Rattle.job.specs.Job.{blocksOf, bound, isOver, pagesOf, perBlock, setup}
+use Rattle.job.specs.Refusals.{goodBlock, goodEnding, goodFailure, goodNamedBlock, goodNamedPage, goodPage, goodStage, goodWork}
+use Rattle.job.specs.declared.Cause.{Cause}
+use Rattle.job.specs.declared.Cause.the-variants.{Mismatch, TimedOut, UnexpectedStatus, Unreadable}
+use Rattle.job.specs.declared.Ending.the-variants.{Failed, Finished}
+use Rattle.job.specs.declared.Job.{Job}
+use Rattle.job.specs.declared.Setup.{Setup}
+use Rattle.job.specs.declared.Setup.the-variants.{BaudRate, ResetChip, SiliconSignature}
+use Rattle.job.specs.declared.Stage.{Stage}
+use Rattle.job.specs.declared.Stage.the-variants.{InBlock, Over, SetUp}
+use Rattle.job.specs.declared.Work.{Work}
+use Rattle.job.specs.declared.Work.the-variants.{Blank, Erase, Program, ProgramPage, VerifyBlock, VerifyPage}
+use Rattle.words.proofs.Laws.{and-both, and-left, if-both}
+use Rattle.words.specs.Words.{_and_, _or_, if_then_else_}
+
+unfoldable pub workNeeds : ℕ → Work → ℕ
+workNeeds n Blank = 4 + 2 * n
+workNeeds n Erase = 3 + 2 * n
+workNeeds n Program = 2 + 2 * n
+workNeeds n (ProgramPage p) = 1 + (n - p) + n
+workNeeds n VerifyBlock = 1 + n
+workNeeds n (VerifyPage p) = n - p
+
+unfoldable pub leftIn : Setup → List Setup → ℕ
+leftIn s [] = 0
+leftIn s (x ∷ xs) = if eqb (setupCommand s) (setupCommand x) then length (x ∷ xs) else leftIn s xs
+
+unfoldable pub needs : Job → Stage → ℕ
+needs j (SetUp s) = leftIn s setup + perBlock j * blocksOf j
+needs j (InBlock k w) = workNeeds (pagesOf j) w + perBlock j * (blocksOf j - (k + 1))
+needs j (Over e) = 0
+
+one-more : (q a b : ℕ) → a ≡ b + 1 → q * a ≡ q * b + q
+one-more q a b e = rw e (omega arith)
+
+setup-some : (s : Setup) → 1 ≤ leftIn s setup
+unfolding leftIn setup if_then_else_
+setup-some BaudRate = omega arith
+setup-some ResetChip = omega arith
+setup-some SiliconSignature = omega arith
+
+work-some : (j : Job) (w : Work) → goodWork j w ≡ true → 1 ≤ workNeeds (pagesOf j) w
+unfolding workNeeds
+work-some j Blank g = omega arith
+work-some j Erase g = omega arith
+work-some j Program g = omega arith
+work-some j (ProgramPage p) g = omega arith
+work-some j VerifyBlock g = omega arith
+work-some j (VerifyPage p) g = omega (arith, page-is j p (verified-is j p g))
+
+pub needs-some : (j : Job) (st : Stage) → goodStage j st ≡ true → isOver st ≡ false → 1 ≤ needs j st
+unfolding needs isOver
+needs-some j (SetUp s) g o = omega (arith, setup-some s)
+needs-some j (InBlock k w) g o = omega (arith, work-some j w (place-is j k w g .in-block))
+needs-some j (Over e) g o = absurd (true≢false o)
+
+-- What an answer leaves: a good stage, retries within the allowance, and the frame paid.
+pub record Kept (j : Job) (used : ℕ) (st : Stage) (t : Turned) : Type 0 where
+  pub good : goodStage j (t .stage) ≡ true
+  pub allowed : used + t .spent ≤ j .retries
+  pub paid : 1 + needs j (t .stage) + perBlock j * (j .retries - (used + t .spent)) ≤ needs j st + perBlock j * (j .retries - used)
+
+-- An answer that spends nothing.
+free : (j : Job) (used : ℕ) (st after : Stage) → used ≤ j .retries → goodStage j after ≡ true → 1 + needs j after ≤ needs j st
+    → Kept j used st (leads after 0)
+free j used st after u g h =
+    let z : j .retries - (used + 0) ≡ j .retries - used = omega arith in
+    record { good = g; allowed = omega arith; paid = rw z (omega arith) }
+
+-- The first block that is left needs no more than all that are.
+record From (j : Job) (k : ℕ) (st : Stage) : Type 0 where
+  good : goodStage j st ≡ true
+  few : needs j st ≤ perBlock j * (blocksOf j - k)
+
+the-rest : (j : Job) (k : ℕ) → From j k (blockFrom j k)
+unfolding blockFrom if_then_else_ needs workNeeds goodStage goodWork goodEnding
+the-rest j k = go (ltb k (blocksOf j)) refl
+  where
+    go : (t : Bool) → ltb k (blocksOf j) ≡ t → From j k (if t then InBlock k Blank else Over Finished)
+    go true e =
+        let h : k < blocksOf j = ltb-true k (blocksOf j) e in
+        let m = one-more (perBlock j) (blocksOf j - k) (blocksOf j - (k + 1)) (omega arith) in
+        record { good = and-both (block-yes j k h) refl; few = omega arith }
+    go false e = record { good = refl; few = omega arith }
+
+setup-kept : (j : Job) (used : ℕ) (s : Setup) → used ≤ j .retries → Kept j used (SetUp s) (leads (afterSetup j s setup) 0)
+unfolding afterSetup setupFrom setup leftIn if_then_else_ needs goodStage
+setup-kept j used BaudRate u = free j used (SetUp BaudRate) (SetUp ResetChip) u refl (omega arith)
+setup-kept j used ResetChip u = free j used (SetUp ResetChip) (SetUp SiliconSignature) u refl (omega arith)
+setup-kept j used SiliconSignature u =
+    let z : blocksOf j - 0 ≡ blocksOf j = omega arith in
+    let q : needs j (blockFrom j 0) ≤ perBlock j * blocksOf j = rw z at (the-rest j 0 .few) in
+    free j used (SetUp SiliconSignature) (blockFrom j 0) u (the-rest j 0 .good) (omega arith)
+
+module _ (j : Job) (used k : ℕ) (u : used ≤ j .retries) (b : goodBlock j k ≡ true) where
+  -- To another frame of the block.
+  within : (w v : Work) → goodWork j v ≡ true → 1 + workNeeds (pagesOf j) v ≤ workNeeds (pagesOf j) w → Kept j used (InBlock k w) (leads (InBlock k v) 0)
+  unfolding needs goodStage
+  within w v g h = free j used (InBlock k w) (InBlock k v) u (and-both b g) (omega arith)
+
+  stored-kept : (p : ℕ) → goodPage j p ≡ true → Kept j used (InBlock k (ProgramPage p)) (leads (afterWork j k (ProgramPage p)) 0)
+  unfolding afterWork if_then_else_ workNeeds goodWork
+  stored-kept p g = go (lastPage j p) refl
+    where
+      go : (t : Bool) → lastPage j p ≡ t
+          → Kept j used (InBlock k (ProgramPage p)) (leads (if t then InBlock k VerifyBlock else InBlock k (ProgramPage (p + 1))) 0)
+      go true e = within (ProgramPage p) VerifyBlock refl (omega (arith, page-is j p g))
+      go false e =
+          let n = not-last j p e in
+          within (ProgramPage p) (ProgramPage (p + 1)) (page-yes j (p + 1) n) (omega arith)
+
+  verified-kept : (p : ℕ) → goodPage j p ≡ true → Kept j used (InBlock k (VerifyPage p)) (leads (afterWork j k (VerifyPage p)) 0)
+  unfolding afterWork if_then_else_ workNeeds goodWork needs
+  verified-kept p g = go (lastPage j p) refl
+    where
+      go : (t : Bool) → lastPage j p ≡ t
+          → Kept j used (InBlock k (VerifyPage p)) (leads (if t then blockFrom j (k + 1) else InBlock k (VerifyPage (p + 1))) 0)
+      go true e =
+          free j used (InBlock k (VerifyPage p)) (blockFrom j (k + 1)) u (the-rest j (k + 1) .good) (omega (arith, the-rest j (k + 1) .few, page-is j p g))
+      go false e =
+          let n = not-last j p e in
+          within (VerifyPage p) (VerifyPage (p + 1)) (page-yes j (p + 1) n) (omega arith)
+
+  work-kept : (w : Work) → goodWork j w ≡ true → Kept j used (InBlock k w) (leads (afterWork j k w) 0)
+  unfolding afterWork workNeeds goodWork
+  work-kept Blank g = within Blank Program refl (omega arith)
+  work-kept Erase g = within Erase Program refl (omega arith)
+  work-kept Program g = within Program (ProgramPage 0) (page-yes j 0 (pages-some j)) (omega arith)
+  work-kept (ProgramPage p) g = stored-kept p g
+  work-kept VerifyBlock g = within VerifyBlock (VerifyPage 0) (page-yes j 0 (pages-some j)) (omega arith)
+  work-kept (VerifyPage p) g = verified-kept p g
+
+next-kept : (j : Job) (used : ℕ) (st : Stage) → used ≤ j .retries → goodStage j st ≡ true → isOver st ≡ false → Kept j used st (leads (next j st) 0)
+unfolding next isOver
+next-kept j used (SetUp s) u g o = setup-kept j used s u
+next-kept j used (InBlock k w) u g o = work-kept j used k u (place-is j k w g .in-job) w (place-is j k w g .in-block)
+next-kept j used (Over e) u g o = absurd (true≢false o)
+
+named-page : (j : Job) (w : Work) → goodWork j w ≡ true → goodNamedPage j (pageOfWork w) ≡ true
+unfolding goodNamedPage pageOfWork goodWork
+named-page j Blank g = refl
+named-page j Erase g = refl
+named-page j Program g = refl
+named-page j (ProgramPage p) g = g
+named-page j VerifyBlock g = refl
+named-page j (VerifyPage p) g = g
+
+failing-good : (j : Job) (c : Cause) (s : ℕ) (st : Stage) → goodStage j st ≡ true → goodFailure j (failing c s st) ≡ true
+unfolding goodFailure goodNamedBlock goodNamedPage blockAt pageAt _and_
+failing-good j c s (SetUp x) g = refl
+failing-good j c s (InBlock k w) g = and-both (place-is j k w g .in-job) (named-page j w (place-is j k w g .in-block))
+failing-good j c s (Over e) g = refl
+
+fails-kept : (j : Job) (used : ℕ) (st : Stage) (c : Cause) (s : ℕ) → used ≤ j .retries → goodStage j st ≡ true → isOver st ≡ false
+    → Kept j used st (fails c s st)
+unfolding needs goodStage goodEnding
+fails-kept j used st c s u g o =
+    free j used st (Over (Failed (failing c s st))) u (failing-good j c s st g) (omega (arith, needs-some j st g o))
+
+restart-good : (j : Job) (st : Stage) → goodStage j st ≡ true → goodStage j (restart st) ≡ true
+unfolding restart goodStage goodWork
+restart-good j (SetUp s) g = refl
+restart-good j (InBlock k w) g = and-both (place-is j k w g .in-job) refl
+restart-good j (Over e) g = g
+
+-- A restart needs at most a block's frames more, less the one that was answered.
+restart-few : (j : Job) (st : Stage) → goodStage j st ≡ true → isOver st ≡ false → 1 + needs j (restart st) ≤ needs j st + perBlock j
+unfolding restart needs isOver workNeeds
+restart-few j (SetUp s) g o = omega arith
+restart-few j (InBlock k w) g o = omega (arith, work-some j w (place-is j k w g .in-block))
+restart-few j (Over e) g o = absurd (true≢false o)
+
+retried-kept : (j : Job) (used : ℕ) (st : Stage) (s : ℕ) → used ≤ j .retries → goodStage j st ≡ true → isOver st ≡ false → Kept j used st (retried j used st s)
+unfolding retried if_then_else_
+retried-kept j used st s u g o = go (ltb used (j .retries)) refl
+  where
+    go : (t : Bool) → ltb used (j .retries) ≡ t → Kept j used st (if t then leads (restart st) 1 else fails UnexpectedStatus s st)
+    go true e =
+        let h : used < j .retries = ltb-true used (j .retries) e in
+        let m = one-more (perBlock j) (j .retries - used) (j .retries - (used + 1)) (omega arith) in
+        record { good = restart-good j st g; allowed = omega arith; paid = omega (arith, restart-few j st g o) }
+    go false e = fails-kept j used st UnexpectedStatus s u g o
+
+-- 22h comes only after 32h.
+erasing-kept : (j : Job) (used : ℕ) (st : Stage) (s : ℕ) → used ≤ j .retries → goodStage j st ≡ true → saysNotBlank st s ≡ true
+    → Kept j used st (leads (erasing st) 0)
+unfolding saysNotBlank erasing isBlankCheck goodWork workNeeds
+erasing-kept j used (SetUp x) s u g n = absurd (false≢true n)
+erasing-kept j used (InBlock k w) s u g n = go w (and-left _ _ n)
+  where
+    go : (w : Work) → isBlankCheck w ≡ true → Kept j used (InBlock k w) (leads (InBlock k Erase) 0)
+    go Blank e = within j used k u (place-is j k w g .in-job) Blank Erase refl (omega arith)
+    go Erase e = absurd (false≢true e)
+    go Program e = absurd (false≢true e)
+    go (ProgramPage p) e = absurd (false≢true e)
+    go VerifyBlock e = absurd (false≢true e)
+    go (VerifyPage p) e = absurd (false≢true e)
+erasing-kept j used (Over e) s u g n = absurd (false≢true n)
+
+status-kept : (j : Job) (used : ℕ) (st : Stage) (s : ℕ) (m : Bool) → used ≤ j .retries → goodStage j st ≡ true → isOver st ≡ false
+    → Kept j used st (afterStatus j used st s m)
+unfolding afterStatus if_then_else_
+status-kept j used st s m u g o =
+    if-both (Kept j used st) (eqb s 0x06)
+    (if-both (Kept j used st) m (next-kept j used st u g o) (fails-kept j used st Mismatch 0x06 u g o))
+    (go (saysNotBlank st s) refl)
+  where
+    go : (t : Bool) → saysNotBlank st s ≡ t
+        → Kept j used st (if t then leads (erasing st) 0 else if eqb s 0x07 or eqb s 0x15 then retried j used st s else fails UnexpectedStatus s st)
+    go true e = erasing-kept j used st s u g e
+    go false e = if-both (Kept j used st) (eqb s 0x07 or eqb s 0x15) (retried-kept j used st s u g o) (fails-kept j used st UnexpectedStatus s u g o)
+
+pub heard-kept : (j : Job) (used : ℕ) (st : Stage) (h : Heard) → used ≤ j .retries → goodStage j st ≡ true → isOver st ≡ false
+    → Kept j used st (afterHeard j used st h)
+unfolding afterHeard afterAnswer
+heard-kept j used st (answered bs) u g o = go (readAnswer (j .part) (j .supply) (formAt j st) bs)
+  where
+    go : (d : Decoded) → Kept j used st (afterAnswer j used st d)
+    go (Said s m) = status-kept j used st s m u g o
+    go Garbled = fails-kept j used st Unreadable 0x00 u g o
+heard-kept j used st silence u g o = fails-kept j used st TimedOut 0x00 u g o
+
+-- At the start what is needed, and a block's frames for each retry allowed, are the bound.
+pub start-needs : (j : Job) → needs j (setupFrom j setup) + perBlock j * j .retries ≡ bound j
+unfolding needs setupFrom setup leftIn if_then_else_ bound
+start-needs j = omega arith
+
+pub start-good : (j : Job) → goodStage j (setupFrom j setup) ≡ true
+unfolding goodStage setupFrom setup
+start-good j = refl

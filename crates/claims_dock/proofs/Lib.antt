@@ -1,0 +1,4 @@
+pub mod Budget
+pub mod Bounds
+pub mod Stepped
+pub mod Examples

@@ -1,0 +1,217 @@
+-- Worked examples of the dock: frames that the documents print, and how a job of two blocks with one retry goes over short histories.
+use mathlib.Core.Bool.{Bool, false, true}
+use mathlib.Core.List.{List, [], _++_, _∷_}
+use Prim.Native.Nat.{ℕ}
+use lib.ListN.{replicate}
+use Rattle.flow.specs.Flow.{Heard, answered, flow, frameAt, silence}
+use Rattle.frame.specs.Frame.{dataFrame}
+use Rattle.frame.specs.declared.Footer.the-variants.{Last, More}
+use Rattle.job.specs.Refusals.{callVerdict}
+use Rattle.job.specs.declared.Cause.{Cause}
+use Rattle.job.specs.declared.Cause.the-variants.{Mismatch, TimedOut, UnexpectedStatus, Unreadable}
+use Rattle.job.specs.declared.Dock.{Dock}
+use Rattle.job.specs.declared.Ending.the-variants.{Failed, Finished}
+use Rattle.job.specs.declared.Job.{Job}
+use Rattle.job.specs.declared.Named.{Named}
+use Rattle.job.specs.declared.Named.the-variants.{It, Unnamed}
+use Rattle.job.specs.declared.Setup.the-variants.{BaudRate, ResetChip, SiliconSignature}
+use Rattle.job.specs.declared.Stage.{Stage}
+use Rattle.job.specs.declared.Stage.the-variants.{InBlock, Over, SetUp}
+use Rattle.job.specs.declared.Work.the-variants.{Blank, Erase, Program, ProgramPage, VerifyBlock, VerifyPage}
+use Rattle.job.specs.declared.refusals.Call.{Call}
+use Rattle.job.specs.declared.refusals.Call.the-variants.{Asks, Begins, Tells}
+use Rattle.part.specs.Refusal.{number}
+use Rattle.part.specs.Signature.{signature}
+use Rattle.part.specs.declared.Part.{Part}
+use Rattle.part.specs.declared.refusal.Verdict.{Verdict}
+use Rattle.part.specs.declared.refusal.Verdict.the-variants.{Accepted, Barred}
+
+-- The part of document 01, "Replay"; device code, name and version as in 000, table 3-2.
+abbrev pub thePart : Part
+thePart =
+    record {
+      «code_blocks» = 16;
+      «data_blocks» = 4;
+      clock = 32;
+      device = 0x10 ∷ 0x00 ∷ 0x06 ∷ [];
+      name = 0x52 ∷ 0x35 ∷ 0x46 ∷ 0x31 ∷ 0x30 ∷ 0x30 ∷ 0x4C ∷ 0x45 ∷ 0x20 ∷ 0x20 ∷ [];
+      version = 0x01 ∷ 0x02 ∷ 0x03 ∷ [];
+    }
+
+-- Blocks 0 and 1, rate 00h, 3.3 V, one retry.
+abbrev pub theJob : Job
+theJob = record { part = thePart; start = 0x0000; end = 0x07FF; rate = 0x00; supply = 33; retries = 1 }
+
+abbrev pub theImage : List ℕ
+theImage = replicate 1024 0x5A ++ replicate 1024 0xA5
+
+-- The frames that 01, 000 and 003 print, or that their SUM rule completes.
+pub record Frame : Type 0 where
+  pub gives : List ℕ
+  pub printed : List ℕ
+
+abbrev pub at : Stage → List ℕ → Frame
+at st f = record { gives = frameAt theJob theImage st; printed = f }
+
+unfoldable pub frames : List Frame
+frames =
+    at (SetUp BaudRate) (0x01 ∷ 0x03 ∷ 0x9A ∷ 0x00 ∷ 0x21 ∷ 0x42 ∷ 0x03 ∷ [])
+    ∷ at (SetUp ResetChip) (0x01 ∷ 0x01 ∷ 0x00 ∷ 0xFF ∷ 0x03 ∷ [])
+    ∷ at (SetUp SiliconSignature) (0x01 ∷ 0x01 ∷ 0xC0 ∷ 0x3F ∷ 0x03 ∷ [])
+    ∷ at (InBlock 0 Blank) (0x01 ∷ 0x08 ∷ 0x32 ∷ 0x00 ∷ 0x00 ∷ 0x00 ∷ 0xFF ∷ 0x03 ∷ 0x00 ∷ 0x00 ∷ 0xC4 ∷ 0x03 ∷ [])
+    ∷ at (InBlock 1 Erase) (0x01 ∷ 0x04 ∷ 0x22 ∷ 0x00 ∷ 0x04 ∷ 0x00 ∷ 0xD6 ∷ 0x03 ∷ [])
+    ∷ at (InBlock 0 Program) (0x01 ∷ 0x07 ∷ 0x40 ∷ 0x00 ∷ 0x00 ∷ 0x00 ∷ 0xFF ∷ 0x03 ∷ 0x00 ∷ 0xB7 ∷ 0x03 ∷ [])
+    ∷ at (InBlock 0 VerifyBlock) (0x01 ∷ 0x07 ∷ 0x13 ∷ 0x00 ∷ 0x00 ∷ 0x00 ∷ 0xFF ∷ 0x03 ∷ 0x00 ∷ 0xE4 ∷ 0x03 ∷ [])
+    ∷ []
+
+-- Answers: one status, two, the three of 40h's last page; those to 9Ah and C0h.
+abbrev pub says : ℕ → Heard
+says s = answered (dataFrame (s ∷ []) Last)
+
+abbrev pub both : ℕ → ℕ → Heard
+both s t = answered (dataFrame (s ∷ t ∷ []) Last)
+
+abbrev pub three : ℕ → Heard
+three s = answered (dataFrame (0x06 ∷ 0x06 ∷ []) Last ++ dataFrame (s ∷ []) Last)
+
+abbrev pub rateSaid : ℕ → ℕ → Heard
+rateSaid clock mode = answered (dataFrame (0x06 ∷ clock ∷ mode ∷ []) Last)
+
+abbrev pub signedAs : List ℕ → Heard
+signedAs bs = answered (dataFrame (0x06 ∷ []) Last ++ dataFrame bs Last)
+
+abbrev pub setupWell : List Heard
+setupWell = rateSaid 32 0x00 ∷ says 0x06 ∷ signedAs (signature thePart) ∷ []
+
+-- A block that was not blank, up to its last page of 13h.
+abbrev pub blockWell : List Heard
+blockWell =
+    says 0x1B
+    ∷ says 0x06
+    ∷ says 0x06
+    ∷ both 0x06 0x06
+    ∷ both 0x06 0x06
+    ∷ both 0x06 0x06
+    ∷ three 0x06
+    ∷ says 0x06
+    ∷ both 0x06 0x06
+    ∷ both 0x06 0x06
+    ∷ both 0x06 0x06
+    ∷ []
+
+-- The most that two blocks and one retry can take: the last page of block 1 comes damaged the first time.
+unfoldable pub worst : List Heard
+worst = setupWell ++ blockWell ++ both 0x06 0x06 ∷ blockWell ++ both 0x06 0x07 ∷ blockWell ++ both 0x06 0x06 ∷ []
+
+-- Where a job stands after a history, beside where it should.
+pub record Place : Type 0 where
+  pub stands : Stage
+  pub expected : Stage
+
+abbrev pub after : List Heard → Stage → Place
+after hs st = record { stands = flow theJob theImage hs .place; expected = st }
+
+abbrev pub failedAt : Cause → ℕ → Named → ℕ → Named → Stage
+failedAt c cmd p s k = Over (Failed (record { cause = c; command = cmd; page = p; status = s; block = k }))
+
+unfoldable pub places : List Place
+places =
+    -- setup: a timeout; 06h alone, nothing, or a byte too many to 9Ah; another clock, another mode; another status
+    after (silence ∷ []) (failedAt TimedOut 0x9A Unnamed 0x00 Unnamed)
+    ∷ after (says 0x06 ∷ []) (failedAt Unreadable 0x9A Unnamed 0x00 Unnamed)
+    ∷ after (answered [] ∷ []) (failedAt Unreadable 0x9A Unnamed 0x00 Unnamed)
+    ∷ after (answered (dataFrame (0x06 ∷ 0x20 ∷ 0x00 ∷ []) Last ++ 0x00 ∷ []) ∷ []) (failedAt Unreadable 0x9A Unnamed 0x00 Unnamed)
+    ∷ after (answered (dataFrame (0x06 ∷ 0x20 ∷ 0x00 ∷ []) More) ∷ []) (failedAt Unreadable 0x9A Unnamed 0x00 Unnamed)
+    ∷ after (rateSaid 31 0x00 ∷ []) (failedAt Mismatch 0x9A Unnamed 0x06 Unnamed)
+    ∷ after (rateSaid 32 0x01 ∷ []) (failedAt Mismatch 0x9A Unnamed 0x06 Unnamed)
+    ∷ after (says 0x05 ∷ []) (failedAt UnexpectedStatus 0x9A Unnamed 0x05 Unnamed)
+    -- a setup command is restarted alone, and only as often as is allowed
+    ∷ after (rateSaid 32 0x00 ∷ says 0x07 ∷ []) (SetUp ResetChip)
+    ∷ after (says 0x15 ∷ says 0x07 ∷ []) (failedAt UnexpectedStatus 0x9A Unnamed 0x07 Unnamed)
+    -- C0h: another signature; 06h alone
+    ∷ after (rateSaid 32 0x00 ∷ says 0x06 ∷ signedAs (replicate 22 0x00) ∷ []) (failedAt Mismatch 0xC0 Unnamed 0x06 Unnamed)
+    ∷ after (rateSaid 32 0x00 ∷ says 0x06 ∷ says 0x06 ∷ []) (failedAt Unreadable 0xC0 Unnamed 0x00 Unnamed)
+    -- 32h: blank goes to 40h, not blank to 22h
+    ∷ after (setupWell ++ says 0x06 ∷ []) (InBlock 0 Program)
+    ∷ after (setupWell ++ says 0x1B ∷ []) (InBlock 0 Erase)
+    ∷ after (setupWell ++ says 0x05 ∷ []) (failedAt UnexpectedStatus 0x32 Unnamed 0x05 (It 0))
+    -- 1Bh is expected of 32h alone
+    ∷ after (setupWell ++ says 0x06 ∷ says 0x1B ∷ []) (failedAt UnexpectedStatus 0x40 Unnamed 0x1B (It 0))
+    -- pages: the first unexpected status decides
+    ∷ after (setupWell ++ says 0x06 ∷ says 0x06 ∷ both 0x06 0x07 ∷ []) (InBlock 0 Blank)
+    ∷ after (setupWell ++ says 0x06 ∷ says 0x06 ∷ both 0x07 0x1C ∷ []) (InBlock 0 Blank)
+    ∷ after (setupWell ++ says 0x06 ∷ says 0x06 ∷ both 0x1C 0x07 ∷ []) (failedAt UnexpectedStatus 0x40 (It 0) 0x1C (It 0))
+    ∷ after (setupWell ++ says 0x06 ∷ says 0x06 ∷ both 0x06 0x06 ∷ both 0x06 0x1C ∷ []) (failedAt UnexpectedStatus 0x40 (It 1) 0x1C (It 0))
+    -- the last page of 40h: the third status, and none
+    ∷ after (setupWell ++ says 0x06 ∷ says 0x06 ∷ both 0x06 0x06 ∷ both 0x06 0x06 ∷ both 0x06 0x06 ∷ three 0x1B ∷ []) (failedAt UnexpectedStatus 0x40 (It 3) 0x1B (It 0))
+    ∷ after (setupWell ++ says 0x06 ∷ says 0x06 ∷ both 0x06 0x06 ∷ both 0x06 0x06 ∷ both 0x06 0x06 ∷ three 0x15 ∷ []) (InBlock 0 Blank)
+    ∷ after (setupWell ++ says 0x06 ∷ says 0x06 ∷ both 0x06 0x06 ∷ both 0x06 0x06 ∷ both 0x06 0x06 ∷ both 0x06 0x06 ∷ []) (failedAt Unreadable 0x40 (It 3) 0x00 (It 0))
+    -- a middle page with a third status is none of its frames
+    ∷ after (setupWell ++ says 0x06 ∷ says 0x06 ∷ three 0x06 ∷ []) (failedAt Unreadable 0x40 (It 0) 0x00 (It 0))
+    -- 13h, in block 1
+    ∷ after (setupWell ++ blockWell ++ both 0x06 0x06 ∷ blockWell ++ both 0x06 0x0F ∷ []) (failedAt UnexpectedStatus 0x13 (It 3) 0x0F (It 1))
+    ∷ after (setupWell ++ blockWell ++ both 0x06 0x06 ∷ blockWell ++ both 0x06 0x06 ∷ []) (Over Finished)
+    -- what comes after the end changes nothing
+    ∷ after (silence ∷ setupWell) (failedAt TimedOut 0x9A Unnamed 0x00 Unnamed)
+    ∷ []
+
+-- The number of a verdict, 0 where the call is accepted; beside the number that it should be.
+abbrev pub numberOf : Verdict → ℕ
+numberOf Accepted = 0
+numberOf (Barred r) = number r
+
+pub record Refused : Type 0 where
+  pub gives : ℕ
+  pub expected : ℕ
+
+abbrev pub call : Job → ℕ → Call → ℕ → Refused
+call j image c n = record { gives = numberOf (callVerdict j image c); expected = n }
+
+abbrev pub dockAt : Stage → Bool → ℕ → ℕ → Dock
+dockAt st awaited retries frames = record { stage = st; awaited = awaited; retries = retries; frames = frames }
+
+abbrev pub jobWith : ℕ → ℕ → ℕ → ℕ → ℕ → Job
+jobWith start end rate supply retries = record { part = thePart; start = start; end = end; rate = rate; supply = supply; retries = retries }
+
+unfoldable pub refusals : List Refused
+refusals =
+    -- 1: rate and supply; before 5
+    call theJob 2048 Begins 0
+    ∷ call (jobWith 0x0000 0x07FF 0x04 33 1) 2048 Begins 1
+    ∷ call (jobWith 0x0000 0x07FF 0x03 17 1) 2048 Begins 1
+    ∷ call (jobWith 0x0000 0x07FF 0x03 56 1) 2048 Begins 1
+    ∷ call (jobWith 0x0001 0x07FF 0x04 33 1) 2048 Begins 1
+    -- 5: not whole blocks, outside flash, from code to data, past 24 bits; before 6
+    ∷ call (jobWith 0x0001 0x07FF 0x00 33 1) 2048 Begins 5
+    ∷ call (jobWith 0x3C00 0x43FF 0x00 33 1) 2048 Begins 5
+    ∷ call (jobWith 0x3C00 0xF13FF 0x00 33 1) 2048 Begins 5
+    ∷ call (jobWith 0x1000000 0x10007FF 0x00 33 1) 2048 Begins 5
+    ∷ call (jobWith 0xF1000 0xF1FFF 0x00 33 1) 4096 Begins 0
+    -- 6, and 7 after it
+    ∷ call theJob 2047 Begins 6
+    ∷ call (jobWith 0x0000 0x07FF 0x00 33 16) 2047 Begins 6
+    ∷ call (jobWith 0x0000 0x07FF 0x00 33 16) 2048 Begins 7
+    ∷ call (jobWith 0x0000 0x07FF 0x00 33 15) 2048 Begins 0
+    -- 9: block, page, retries, frames; also of a job that is over; before 4 and 8
+    ∷ call theJob 2048 (Asks (dockAt (InBlock 2 Blank) false 0 0) 259) 9
+    ∷ call theJob 2048 (Asks (dockAt (InBlock 1 (ProgramPage 4)) false 0 0) 260) 9
+    ∷ call theJob 2048 (Asks (dockAt (InBlock 1 (VerifyPage 3)) false 0 0) 260) 0
+    ∷ call theJob 2048 (Tells (dockAt (SetUp BaudRate) true 2 1)) 9
+    ∷ call theJob 2048 (Tells (dockAt (Over Finished) false 0 40)) 9
+    ∷ call theJob 2048 (Tells (dockAt (failedAt TimedOut 0x40 (It 4) 0x00 (It 0)) false 0 5)) 9
+    -- a frame that is due at the bound; at the bound with an answer awaited
+    ∷ call theJob 2048 (Asks (dockAt (SetUp BaudRate) false 0 39) 260) 9
+    ∷ call theJob 2048 (Asks (dockAt (SetUp BaudRate) false 0 38) 260) 0
+    ∷ call theJob 2048 (Asks (dockAt (SetUp BaudRate) true 0 39) 260) 8
+    ∷ call theJob 2048 (Tells (dockAt (SetUp BaudRate) true 0 39)) 0
+    -- 4 before 8
+    ∷ call theJob 2048 (Asks (dockAt (SetUp BaudRate) true 0 1) 259) 4
+    ∷ call theJob 2048 (Asks (dockAt (Over Finished) false 0 1) 259) 4
+    -- 8: a frame asked while an answer is awaited, an answer told while none is, and a job that is over
+    ∷ call theJob 2048 (Asks (dockAt (SetUp BaudRate) true 0 1) 260) 8
+    ∷ call theJob 2048 (Tells (dockAt (SetUp BaudRate) false 0 1)) 8
+    ∷ call theJob 2048 (Asks (dockAt (Over Finished) false 0 1) 260) 8
+    ∷ call theJob 2048 (Tells (dockAt (Over Finished) true 0 1)) 8
+    -- states that are no refusal: no frame counted while an answer is awaited
+    ∷ call theJob 2048 (Tells (dockAt (InBlock 0 Program) true 0 0)) 0
+    ∷ []

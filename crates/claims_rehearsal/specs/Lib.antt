@@ -1,0 +1,2 @@
+pub mod Cable
+pub mod Rehearsal

@@ -1,0 +1,86 @@
+-- A job of two blocks over flash that is not blank, on a chip that has its mode byte.
+use mathlib.Core.Bool.{Bool, false}
+use mathlib.Core.List.{List, [], _∷_}
+use Prim.Native.Nat.{_%_, _*_, _/_, suc, zero, ℕ}
+use lib.ListN.{replicate}
+use Rattle.chip.specs.Run.{before}
+use Rattle.chip.specs.Step.{Outcome}
+use Rattle.claims_rehearsal.specs.Cable.{Ends, cable}
+use Rattle.dock.specs.Calls.{startOf}
+use Rattle.effect.specs.Effect.{Flash, flash}
+use Rattle.effect.specs.declared.Core.{Core}
+use Rattle.effect.specs.declared.Phase.the-variants.{Ready, Setup}
+use Rattle.frame.specs.Collector.{fresh}
+use Rattle.frame.specs.Framing.{frames}
+use Rattle.job.specs.Job.{bound}
+use Rattle.job.specs.declared.Dock.{Dock}
+use Rattle.job.specs.declared.Ending.the-variants.{Finished}
+use Rattle.job.specs.declared.Job.{Job}
+use Rattle.job.specs.declared.Stage.the-variants.{Over}
+use Rattle.lent.specs.Lent.{same}
+use Rattle.options.specs.Options.{freshOptions}
+use Rattle.part.specs.declared.Part.{Part}
+use Rattle.words.specs.Words.{_and_}
+
+abbrev pub thePart : Part
+thePart =
+    record {
+      «code_blocks» = 8;
+      «data_blocks» = 1;
+      clock = 32;
+      device = 0x10 ∷ 0x00 ∷ 0x06 ∷ [];
+      name = 0x52 ∷ 0x35 ∷ 0x46 ∷ 0x31 ∷ 0x30 ∷ 0x30 ∷ 0x4C ∷ 0x45 ∷ 0x20 ∷ 0x20 ∷ [];
+      version = 0x01 ∷ 0x02 ∷ 0x03 ∷ [];
+    }
+
+-- Blocks 2 and 3, rate 03h, 3.3 V, no retry.
+abbrev pub theJob : Job
+theJob = record { part = thePart; start = 0x0800; end = 0x0FFF; rate = 0x03; supply = 33; retries = 0 }
+
+-- So many bytes, no page of which is like another.
+unfoldable pub mixed : ℕ → List ℕ
+mixed zero = []
+mixed (suc n) = n * 7 / 3 % 256 ∷ mixed n
+
+unfoldable pub theImage : List ℕ
+theImage = mixed 2048
+
+-- What the flash held before: nothing of it is blank.
+abbrev pub oldCode : List ℕ
+oldCode = replicate 8192 0x42
+
+abbrev pub oldData : List ℕ
+oldData = replicate 1024 0x17
+
+unfoldable pub theChip : Outcome
+theChip =
+    before (record { core = record { options = freshOptions thePart; rate = 0x00; phase = Setup }; collector = fresh }) (flash oldCode oldData) (replicate 32 0x00)
+
+-- From a dock that was just started, in a room of 260 bytes.
+abbrev pub rehearse : Job → List ℕ → Ends
+rehearse j image = cable (bound j) j image (replicate 260 0x00) (record { dock = startOf j image .dock; chip = theChip })
+
+unfoldable pub rehearsed : Ends
+rehearsed = rehearse theJob theImage
+
+-- The same on data flash: its one block, and half of the image.
+abbrev pub theDataJob : Job
+theDataJob = record { part = thePart; start = 0xF1000; end = 0xF13FF; rate = 0x00; supply = 20; retries = 2 }
+
+unfoldable pub theDataImage : List ℕ
+theDataImage = mixed 1024
+
+unfoldable pub rehearsedData : Ends
+rehearsedData = rehearse theDataJob theDataImage
+
+-- A job that is finished after so many frames, with no retry.
+abbrev pub finishedAfter : ℕ → Dock
+finishedAfter n = record { stage = Over Finished; awaited = false; retries = 0; frames = n }
+
+-- A chip that is ready at a rate, with its options as they were.
+abbrev pub readyAt : ℕ → Core
+readyAt rate = record { options = freshOptions thePart; rate = rate; phase = Ready }
+
+-- Whether both areas of flash hold these bytes.
+unfoldable pub holds : Flash → List ℕ → List ℕ → Bool
+holds m code extra = same (m .codeFlash) code and same (m .dataFlash) extra

@@ -1,0 +1,83 @@
+-- The calls on the dock: to start, to ask for the next frame, to hand in an answer, to report a timeout. Document 01, "The dock's flow" and "Refusal
+-- numbers". A refused call changes nothing.
+use mathlib.Core.Bool.{false, true}
+use mathlib.Core.List.{List, _++_}
+use Prim.Native.Nat.{_+_, ℕ}
+use lib.ListN.{drop, length}
+use Rattle.dock.specs.declared.Report.{Report}
+use Rattle.dock.specs.declared.Report.the-variants.{Denied, Due, Ended, Put}
+use Rattle.dock.specs.declared.Stepped.{Stepped}
+use Rattle.flow.specs.Flow.{Heard, afterHeard, frameAt, setupFrom}
+use Rattle.flow.specs.declared.Turned.{Turned}
+use Rattle.frame.specs.Framing.{frames}
+use Rattle.job.specs.Job.{setup}
+use Rattle.job.specs.Refusals.{callVerdict}
+use Rattle.job.specs.declared.Dock.{Dock}
+use Rattle.job.specs.declared.Job.{Job}
+use Rattle.job.specs.declared.Stage.{Stage}
+use Rattle.job.specs.declared.Stage.the-variants.{InBlock, Over, SetUp}
+use Rattle.job.specs.declared.refusals.Call.the-variants.{Asks, Begins, Tells}
+use Rattle.part.specs.declared.refusal.Verdict.{Verdict}
+use Rattle.part.specs.declared.refusal.Verdict.the-variants.{Accepted, Barred}
+
+-- How a dock stands: a frame is due, or the job ended, with the frames and retries used. "Frames and retries used are numbers in the result"
+unfoldable pub standing : Stage → Dock → Report
+standing (SetUp s) d = Due
+standing (InBlock k w) d = Due
+standing (Over e) d = Ended (record { ending = e; frames = d .frames; retries = d .retries })
+
+abbrev pub stepped : Report → Dock → Stepped
+stepped r d = record { report = r; dock = d }
+
+-- A dock before its first frame.
+unfoldable pub freshDock : Job → Dock
+freshDock j = record { stage = setupFrom j setup; awaited = false; retries = 0; frames = 0 }
+
+unfoldable pub starting : Verdict → Dock → Stepped
+starting (Barred r) d = stepped (Denied r) d
+starting Accepted d = stepped Due d
+
+unfoldable pub startOf : Job → List ℕ → Stepped
+startOf j image = starting (callVerdict j (length image) Begins) (freshDock j)
+
+-- All that asking leaves: the report, the dock, and the whole room.
+pub record Asking : Type 0 where
+  pub report : Report
+  pub dock : Dock
+  pub room : List ℕ
+
+abbrev pub asking : Stepped → List ℕ → Asking
+asking s room = record { report = s .report; dock = s .dock; room = room }
+
+-- A frame handed out is counted, and its answer awaited.
+abbrev pub sending : Dock → Dock
+sending d = record { stage = d .stage; awaited = true; retries = d .retries; frames = d .frames + 1 }
+
+-- The frame lies at the start of the room, and the room past it stays.
+pub record Placed : Type 0 where
+  pub long : ℕ
+  pub room : List ℕ
+
+abbrev pub placed : ℕ → List ℕ → Placed
+placed n r = record { long = n; room = r }
+
+abbrev pub placing : List ℕ → List ℕ → Placed
+placing f room = placed (length f) (f ++ drop (length f) room)
+
+unfoldable pub asked : Verdict → Placed → Dock → List ℕ → Asking
+asked (Barred r) f d room = asking (stepped (Denied r) d) room
+asked Accepted f d room = asking (stepped (Put (f .long)) (sending d)) (f .room)
+
+unfoldable pub askOf : Job → List ℕ → Dock → List ℕ → Asking
+askOf j image d room = asked (callVerdict j (length image) (Asks d (length room))) (placing (frameAt j image (d .stage)) room) d room
+
+-- A dock after what was heard.
+abbrev pub moved : Dock → Turned → Dock
+moved d t = record { stage = t .stage; awaited = false; retries = d .retries + t .spent; frames = d .frames }
+
+unfoldable pub turning : Verdict → Dock → Turned → Stepped
+turning (Barred r) d t = stepped (Denied r) d
+turning Accepted d t = stepped (standing (t .stage) (moved d t)) (moved d t)
+
+unfoldable pub hearOf : Job → List ℕ → Dock → Heard → Stepped
+hearOf j image d h = turning (callVerdict j (length image) (Tells d)) d (afterHeard j (d .retries) (d .stage) h)

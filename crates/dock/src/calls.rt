@@ -1,0 +1,142 @@
+// The calls on the dock. Each is given the whole job and its image; a refused call changes nothing. Document 01, "The dock's flow".
+ghost use mathlib.Core.Path.{_≡_};
+ghost use Prim.Native.Nat.{_+_, _<_, _^_};
+ghost use Rattle.part.specs.declared.refusal.Verdict.the-variants.{Accepted};
+ghost use Rattle.flow.specs.Flow.{answered, silence};
+ghost use Rattle.dock.specs.Calls.{startOf, asking, askOf, hearOf, standing, turning};
+use super::Account;
+use super::Report;
+use super::Stepped;
+use super::frames;
+use flow::Turned;
+use job::Dock;
+use job::Job;
+use job::Setup;
+use job::Stage;
+use job::refusals;
+use job::refusals::Call;
+use part::refusal::Verdict;
+
+// A dock before its first frame.
+pub fn start(job: Job, image: &[u8]) -> Stepped
+    ensures { λ r. ⌜ r ≡ startOf job (now (image .entry)) ⌝ }
+{
+    let v = refusals::verdict(job, image.len(), Call::Begins);
+    let dock = Dock {
+        stage: Stage::SetUp(Setup::BaudRate),
+        awaited: false,
+        retries: 0,
+        frames: 0,
+    };
+    match v {
+        Verdict::Barred(refusal) => Stepped {
+            report: Report::Denied(refusal),
+            dock,
+        },
+        Verdict::Accepted => Stepped {
+            report: Report::Due,
+            dock,
+        },
+    }
+}
+
+// The next frame, put at the start of the room.
+pub fn ask(job: Job, image: &[u8], dock: Dock, room: &mut [u8]) -> Stepped
+    ensures { λ r. ⌜ asking r (now (room .exit)) ≡ askOf job (now (image .entry)) dock (now (room .entry)) ⌝ }
+{
+    let v = refusals::verdict(
+        job,
+        image.len(),
+        Call::Asks {
+            dock,
+            room: room.len(),
+        },
+    );
+    match v {
+        Verdict::Barred(refusal) => Stepped {
+            report: Report::Denied(refusal),
+            dock,
+        },
+        Verdict::Accepted => {
+            let stage = dock.stage;
+            let n = frames::send(job, image, stage, room);
+            Stepped {
+                report: Report::Put(n),
+                dock: Dock {
+                    stage,
+                    awaited: true,
+                    retries: dock.retries,
+                    frames: dock.frames + 1,
+                },
+            }
+        }
+    }
+}
+
+fn standing(stage: Stage, dock: Dock) -> Report
+    ensures { λ r. ⌜ r ≡ standing stage dock ⌝ }
+{
+    match stage {
+        Stage::SetUp(s) => Report::Due,
+        Stage::InBlock { block, work } => Report::Due,
+        Stage::Over(ending) => Report::Ended(Account {
+            ending,
+            frames: dock.frames,
+            retries: dock.retries,
+        }),
+    }
+}
+
+fn moved(dock: Dock, turned: Turned) -> Stepped
+    requires { ⌜ dock .retries + turned .spent < 2 ^ 32 ⌝ }
+    ensures { λ r. ⌜ r ≡ turning Accepted dock turned ⌝ }
+{
+    let stage = turned.stage;
+    let after = Dock {
+        stage,
+        awaited: false,
+        retries: dock.retries + turned.spent,
+        frames: dock.frames,
+    };
+    Stepped {
+        report: standing(stage, after),
+        dock: after,
+    }
+}
+
+// The whole answer to the frame that was handed out.
+pub fn answer(job: Job, image: &[u8], dock: Dock, bytes: &[u8]) -> Stepped
+    ensures { λ r. ⌜ r ≡ hearOf job (now (image .entry)) dock (answered (now (bytes .entry))) ⌝ }
+{
+    let v = refusals::verdict(job, image.len(), Call::Tells(dock));
+    match v {
+        Verdict::Barred(refusal) => Stepped {
+            report: Report::Denied(refusal),
+            dock,
+        },
+        Verdict::Accepted => {
+            let stage = dock.stage;
+            let form = flow::form_at(job, stage);
+            let part = job.part;
+            let decoded = answer::read(part, job.supply, form, bytes);
+            moved(dock, flow::after_answer(job, dock.retries, stage, decoded))
+        }
+    }
+}
+
+// No answer came to the frame that was handed out.
+pub fn timeout(job: Job, image: &[u8], dock: Dock) -> Stepped
+    ensures { λ r. ⌜ r ≡ hearOf job (now (image .entry)) dock silence ⌝ }
+{
+    let v = refusals::verdict(job, image.len(), Call::Tells(dock));
+    match v {
+        Verdict::Barred(refusal) => Stepped {
+            report: Report::Denied(refusal),
+            dock,
+        },
+        Verdict::Accepted => {
+            let stage = dock.stage;
+            moved(dock, flow::after_timeout(stage))
+        }
+    }
+}
