@@ -103,7 +103,12 @@ fn way_on(ended: Ended) -> Way {
         Ended::Whole => Way::On,
         Ended::AtBadRecord => Way::Bad,
         Ended::Halted(refusal) => {
-            io::write_all(STDERR_FILENO, b"replay: a record was refused\n");
+            io::write_all(
+                STDERR_FILENO,
+                b"replay: a call of the chip was refused, which should not occur; refusal ",
+            );
+            io::print_decimal(STDERR_FILENO, refusal.number() as u64);
+            io::write_all(STDERR_FILENO, b"\n");
             Way::Lost
         }
     }
@@ -134,6 +139,10 @@ fn turn(
     let n = played.bytes;
     let after = played.chip;
     if output.len() < n {
+        io::write_all(
+            STDERR_FILENO,
+            b"replay: more replies than room for them, which should not occur\n",
+        );
         return Went {
             way: Way::Lost,
             chip: after,
@@ -151,11 +160,21 @@ fn turn(
     }
 }
 
-// The last line, a word and a number.
+// The last line, a word and a number; a message where it cannot be written.
 fn last_line(word: &[u8], n: u64) {
-    io::write_all(STDOUT_FILENO, word);
+    let is_begun = io::write_all(STDOUT_FILENO, word);
     io::print_decimal(STDOUT_FILENO, n);
-    io::write_all(STDOUT_FILENO, b"\n");
+    let is_ended = io::write_all(STDOUT_FILENO, b"\n");
+    if is_begun && is_ended {
+        return;
+    }
+    os::fail(b"replay: standard output");
+}
+
+// A message that begins with the program's name.
+fn fail_at(name: &[u8]) {
+    io::write_all(STDERR_FILENO, b"replay: ");
+    os::fail(name);
 }
 
 // A buffer of 2,048 bytes is 256 records, for whose replies the output has room. A proved loop has to end, and nothing says that the input does: so it counts
@@ -178,7 +197,7 @@ fn replay(fd: i32, name: &[u8]) {
         let filled = fill(fd, &mut capture);
         let n = filled.n;
         if !filled.well {
-            os::fail(name);
+            fail_at(name);
             return;
         }
         let went = turn(
@@ -228,13 +247,13 @@ fn help() {
     );
     io::write_all(
         STDOUT_FILENO,
-        b"A record has 8 bytes: kind 00 (a gap, all other bytes 00) or 01, count 1 to 6, and so many bytes, the rest 00.\n",
+        b"A record has 8 bytes: 00 and seven bytes 00 for a gap; or 01, a count from 1 to 6, that many bytes, then 00 up to 8 bytes.\n",
     );
 }
 
 fn main() {
     if os::arg_count() < 2 {
-        replay(STDIN_FILENO, b"replay: standard input");
+        replay(STDIN_FILENO, b"standard input");
         return;
     }
     if 2 < os::arg_count() {
@@ -256,7 +275,7 @@ fn main() {
     }
     let fd = os::open_read(&path[..n]);
     if fd < 0 {
-        os::fail(&path[..n]);
+        fail_at(&path[..n]);
         return;
     }
     replay(fd, &path[..n]);
