@@ -170,7 +170,7 @@ fn refusal(part: &Part, chip: &Chip, code: &[u8], data: &[u8], room: &[u8]) -> O
     }
 }
 
-fn part_fits(part: &Part) -> bool {
+pub(crate) fn part_fits(part: &Part) -> bool {
     (8..=64).contains(&part.code_blocks) && part.data_blocks <= 8 && (1..=32).contains(&part.clock)
 }
 
@@ -328,6 +328,11 @@ fn whole_blocks(part: &Part, start: usize, end: usize) -> Option<Range> {
         first: first.offset,
         end: last.offset + 1,
     })
+}
+
+/// How many blocks a range holds, or nothing if it is bad.
+pub(crate) fn blocks_of(part: &Part, start: usize, end: usize) -> Option<usize> {
+    whole_blocks(part, start, end).map(|range| (range.end - range.first) / BLOCK)
 }
 
 // Collecting: 01 "Frames" and "Phases"
@@ -498,8 +503,21 @@ fn read_command(part: &Part, body: &[u8]) -> Option<Command> {
 }
 
 fn read_rate(rate: u8, supply: u8) -> Option<Command> {
-    let fits = rate <= HIGHEST_RATE && (18..=55).contains(&supply);
-    fits.then_some(Command::SetRate { rate, supply })
+    rate_fits(rate, supply).then_some(Command::SetRate { rate, supply })
+}
+
+/// What 9Ah takes; the supply counts 100 mV (01 "Commands").
+pub(crate) fn rate_fits(rate: u8, supply: u8) -> bool {
+    rate <= HIGHEST_RATE && (18..=55).contains(&supply)
+}
+
+/// The mode in 9Ah's reply (01 "Commands", *ours*).
+pub(crate) fn mode_of(supply: u8) -> u8 {
+    if supply >= 27 {
+        0x00
+    } else {
+        0x01
+    }
 }
 
 /// Addresses travel low, middle, high.
@@ -536,8 +554,7 @@ fn work(part: &Part, chip: &mut Chip, command: Command, flash: &mut Flash, reply
         Command::SetRate { rate, supply } => {
             chip.rate = rate;
             chip.phase = Phase::Ready;
-            let mode = if supply >= 27 { 0x00 } else { 0x01 };
-            reply.frame(&[ACK, part.clock as u8, mode]);
+            reply.frame(&[ACK, part.clock as u8, mode_of(supply)]);
         }
         Command::Reset => reply.frame(&[ACK]),
         Command::Erase(block) => {
@@ -590,7 +607,7 @@ fn block_sum(bytes: &[u8]) -> u16 {
 }
 
 /// Device code, name, last code address, last data address, version (000 3.7.3).
-fn signature(part: &Part) -> [u8; 22] {
+pub(crate) fn signature(part: &Part) -> [u8; 22] {
     let last_code = code_bytes(part) - 1;
     let last_data = match data_bytes(part) {
         0 => 0,

@@ -1,4 +1,4 @@
-//! Frames as they travel: length, SUM, and the writing of reply frames (01 "Frames", 000 chapter 2).
+//! Frames as they travel: length, SUM, the writing of frames and the reading of reply frames (01 "Frames", 000 chapter 2).
 
 pub const COMMAND_HEADER: u8 = 0x01;
 pub const DATA_HEADER: u8 = 0x02;
@@ -28,6 +28,31 @@ pub fn sum(len: u8, bytes: &[u8]) -> u8 {
     bytes
         .iter()
         .fold(0u8.wrapping_sub(len), |left, byte| left.wrapping_sub(*byte))
+}
+
+/// One frame at the start of the room, which must hold it; what lies past it stays. Hands back its length.
+pub fn write(room: &mut [u8], header: u8, body: &[u8], footer: u8) -> usize {
+    let len = len_byte(body.len());
+    let end = 2 + body.len();
+    room[0] = header;
+    room[1] = len;
+    room[2..end].copy_from_slice(body);
+    room[end] = sum(len, body);
+    room[end + 1] = footer;
+    end + 2
+}
+
+/// The data of the reply frame that begins these bytes, and what follows it; nothing unless it is whole, with 02h,
+/// right SUM and 03h (01 "The dock's flow").
+pub fn read_reply(bytes: &[u8]) -> Option<(&[u8], &[u8])> {
+    let [DATA_HEADER, len, rest @ ..] = bytes else {
+        return None;
+    };
+    let (data, rest) = rest.split_at_checked(counted(*len))?;
+    let [found, LAST_FOOTER, rest @ ..] = rest else {
+        return None;
+    };
+    (*found == sum(*len, data)).then_some((data, rest))
 }
 
 /// A whole frame, taken out of the collector: what was held, and the byte that completed it.
@@ -75,19 +100,8 @@ impl<'a> Reply<'a> {
 
     /// Each reply frame ends in 03h: it is a last frame in itself (000 chapter 3, all figures).
     pub fn frame(&mut self, data: &[u8]) {
-        let len = len_byte(data.len());
-        self.put(DATA_HEADER);
-        self.put(len);
-        for byte in data {
-            self.put(*byte);
-        }
-        self.put(sum(len, data));
-        self.put(LAST_FOOTER);
+        let room = &mut self.room[self.bytes..];
+        self.bytes += write(room, DATA_HEADER, data, LAST_FOOTER);
         self.frames += 1;
-    }
-
-    fn put(&mut self, byte: u8) {
-        self.room[self.bytes] = byte;
-        self.bytes += 1;
     }
 }

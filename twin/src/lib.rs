@@ -1,7 +1,8 @@
-//! The twin: a second chip and replay, written from the documents alone (01 "How tightly things are promised").
+//! The twin: a second chip, replay and dock, written from the documents alone (01 "How tightly things are promised").
 #![forbid(unsafe_code)]
 
 pub mod chip;
+pub mod dock;
 pub mod frame;
 pub mod random;
 pub mod replay;

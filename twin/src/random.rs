@@ -6,7 +6,7 @@ use crate::chip::{
     BLANK_CHECK, BLOCK, BLOCK_ERASE, CHECKSUM, DATA_FLASH, ERASED, PAGE, PROGRAM, RATE_SET, RESET,
     SECURITY_GET, SECURITY_RELEASE, SECURITY_SET, SIGNATURE, VERIFY,
 };
-use crate::frame::{len_byte, sum, COMMAND_HEADER, DATA_HEADER, LAST_FOOTER, MORE_FOOTER};
+use crate::frame::{write, COMMAND_HEADER, DATA_HEADER, LAST_FOOTER, MORE_FOOTER};
 use crate::replay::{replay_part, split_frames, CARRIED, RECORD};
 
 /// Splitmix64: small, without state beyond one word, and good enough to mix choices.
@@ -60,11 +60,8 @@ pub fn data_frame(data: &[u8], footer: u8) -> Vec<u8> {
 }
 
 fn whole_frame(header: u8, body: &[u8], footer: u8) -> Vec<u8> {
-    let len = len_byte(body.len());
-    let mut frame = vec![header, len];
-    frame.extend_from_slice(body);
-    frame.push(sum(len, body));
-    frame.push(footer);
+    let mut frame = vec![0; body.len() + 4];
+    write(&mut frame, header, body, footer);
     frame
 }
 

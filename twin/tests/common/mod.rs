@@ -2,6 +2,8 @@
 // Each test file is its own crate and uses only some of this.
 #![allow(dead_code)]
 
+pub mod flow;
+
 use twin::chip::{step, Answer, Chip, Event, Part, Phase};
 use twin::replay::replay_part;
 

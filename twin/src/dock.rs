@@ -1,0 +1,422 @@
+//! The dock: one job against a chip, a frame handed out and its whole answer handed in by turns (01 "The dock's flow").
+
+use crate::chip::{
+    blocks_of, mode_of, part_fits, rate_fits, signature, Part, ACK, BAD_SUM, BLANK_CHECK, BLOCK,
+    BLOCK_ERASE, NACK, NOT_BLANK, PAGE, PROGRAM, RATE_SET, RESET, SIGNATURE, VERIFY,
+};
+use crate::frame::{
+    read_reply, write, COMMAND_HEADER, DATA_HEADER, LAST_FOOTER, LONGEST, MORE_FOOTER,
+};
+
+pub const SMALLEST_ROOM: usize = LONGEST;
+pub const MOST_RETRIES: u64 = 15;
+pub const LAST_PAGE: u64 = (BLOCK / PAGE) as u64 - 1;
+
+/// The status named where none was read (01 "The dock's flow").
+const NO_STATUS: u8 = 0x00;
+
+/// A job but for its image, which is lent to each call. The numbers are wide, so that none is judged after wrapping.
+#[derive(Clone, Debug, PartialEq, Eq)]
+pub struct Job {
+    pub part: Part,
+    pub start: u64,
+    pub end: u64,
+    pub rate: u64,
+    pub supply: u64,
+    pub retries: u64,
+}
+
+/// Which frame is due or has been handed out; blocks count from the job's first, pages from their block's.
+#[derive(Clone, Copy, Debug, PartialEq, Eq)]
+pub enum Stage {
+    Rate,
+    Reset,
+    Signature,
+    Blank { block: u64 },
+    Erase { block: u64 },
+    Program { block: u64 },
+    ProgramPage { block: u64, page: u64 },
+    Verify { block: u64 },
+    VerifyPage { block: u64, page: u64 },
+    Finished,
+    Failed(Failure),
+}
+
+/// What a failed job names: cause, frame, status and block (01 "The dock's flow").
+#[derive(Clone, Copy, Debug, PartialEq, Eq)]
+pub struct Failure {
+    pub cause: Cause,
+    pub command: u8,
+    pub page: Option<u64>,
+    pub status: u8,
+    /// None in setup.
+    pub block: Option<u64>,
+}
+
+#[derive(Clone, Copy, Debug, PartialEq, Eq)]
+pub enum Cause {
+    Status,
+    Mismatch,
+    Unreadable,
+    Timeout,
+}
+
+#[derive(Clone, Copy, Debug, PartialEq, Eq)]
+pub struct State {
+    pub stage: Stage,
+    /// The stage's frame has been handed out and its answer has not come.
+    pub awaited: bool,
+    pub retries: u64,
+    pub frames: u64,
+}
+
+/// How the job stands after an answer or a timeout.
+#[derive(Clone, Copy, Debug, PartialEq, Eq)]
+pub enum Report {
+    /// Another frame is due.
+    GoesOn,
+    Finished {
+        frames: u64,
+        retries: u64,
+    },
+    Failed {
+        failure: Failure,
+        frames: u64,
+        retries: u64,
+    },
+}
+
+/// A job's first state, or the number of the refusal.
+pub fn start(job: &Job, image: &[u8]) -> Result<State, u8> {
+    judge_job(job, image)?;
+    Ok(State {
+        stage: Stage::Rate,
+        awaited: false,
+        retries: 0,
+        frames: 0,
+    })
+}
+
+/// Writes the frame that is due to the start of the room and hands back its length; the frame counts from then on.
+pub fn ask(job: &Job, image: &[u8], state: &mut State, room: &mut [u8]) -> Result<usize, u8> {
+    let blocks = judge_job(job, image)?;
+    judge_state(job, blocks, state)?;
+    // One frame more would be over the bound, which no state may be.
+    if frame_is_due(state) && state.frames == bound(blocks, job.retries) {
+        return Err(9);
+    }
+    if room.len() < SMALLEST_ROOM {
+        return Err(4);
+    }
+    let Some(sent) = sent(state.stage).filter(|_| !state.awaited) else {
+        return Err(8);
+    };
+    state.awaited = true;
+    state.frames += 1;
+    Ok(write_sent(job, image, &sent, room))
+}
+
+/// Takes the whole answer to the frame handed out last.
+pub fn answer(job: &Job, image: &[u8], state: &mut State, answer: &[u8]) -> Result<Report, u8> {
+    let (blocks, sent) = judge_heard(job, image, state)?;
+    state.awaited = false;
+    match verdict(job, &sent, answer) {
+        Verdict::Expected { not_blank } => state.stage = after(state.stage, blocks, not_blank),
+        Verdict::Again(_) if state.retries < job.retries => {
+            state.retries += 1;
+            state.stage = again(state.stage);
+        }
+        Verdict::Again(status) => state.stage = failed(&sent, Cause::Status, status),
+        Verdict::Ended(cause, status) => state.stage = failed(&sent, cause, status),
+    }
+    Ok(report(state))
+}
+
+/// The line's word that no answer came to the frame handed out last.
+pub fn timeout(job: &Job, image: &[u8], state: &mut State) -> Result<Report, u8> {
+    let (_, sent) = judge_heard(job, image, state)?;
+    state.awaited = false;
+    state.stage = failed(&sent, Cause::Timeout, NO_STATUS);
+    Ok(report(state))
+}
+
+/// "for B blocks and R retries allowed, at most 3 + 12(B + R) frames"
+pub fn bound(blocks: u64, retries: u64) -> u64 {
+    3 + 12 * (blocks + retries)
+}
+
+fn report(state: &State) -> Report {
+    let State {
+        frames, retries, ..
+    } = *state;
+    match state.stage {
+        Stage::Finished => Report::Finished { frames, retries },
+        Stage::Failed(failure) => Report::Failed {
+            failure,
+            frames,
+            retries,
+        },
+        _ => Report::GoesOn,
+    }
+}
+
+// Refusals: 01 "Refusal numbers", order 1, 5, 6, 7, 9, 4, 8
+
+/// Refusals 1, 5, 6, 7; hands back how many blocks the job has.
+fn judge_job(job: &Job, image: &[u8]) -> Result<u64, u8> {
+    if !part_fits(&job.part) || rate_and_supply(job).is_none() {
+        return Err(1);
+    }
+    let blocks = range_blocks(job).ok_or(5)?;
+    if image.len() != blocks * BLOCK {
+        return Err(6);
+    }
+    if job.retries > MOST_RETRIES {
+        return Err(7);
+    }
+    Ok(blocks as u64)
+}
+
+fn rate_and_supply(job: &Job) -> Option<(u8, u8)> {
+    let rate = u8::try_from(job.rate).ok()?;
+    let supply = u8::try_from(job.supply).ok()?;
+    rate_fits(rate, supply).then_some((rate, supply))
+}
+
+fn range_blocks(job: &Job) -> Option<usize> {
+    let start = usize::try_from(job.start).ok()?;
+    let end = usize::try_from(job.end).ok()?;
+    blocks_of(&job.part, start, end)
+}
+
+/// Refusal 9, for a job that is over too: the block and page its failure names are the state's.
+fn judge_state(job: &Job, blocks: u64, state: &State) -> Result<(), u8> {
+    let (block, page) = named(state.stage);
+    let fits = block.is_none_or(|block| block < blocks)
+        && page.is_none_or(|page| page <= LAST_PAGE)
+        && state.retries <= job.retries
+        && state.frames <= bound(blocks, job.retries);
+    if fits {
+        Ok(())
+    } else {
+        Err(9)
+    }
+}
+
+fn named(stage: Stage) -> (Option<u64>, Option<u64>) {
+    match (stage, sent(stage)) {
+        (_, Some(sent)) => (sent.block, sent.page),
+        (Stage::Failed(failure), None) => (failure.block, failure.page),
+        (_, None) => (None, None),
+    }
+}
+
+fn frame_is_due(state: &State) -> bool {
+    sent(state.stage).is_some() && !state.awaited
+}
+
+/// The refusals of an answer and of a timeout; hands back the job's blocks and the frame heard about.
+fn judge_heard(job: &Job, image: &[u8], state: &State) -> Result<(u64, Sent), u8> {
+    let blocks = judge_job(job, image)?;
+    judge_state(job, blocks, state)?;
+    match sent(state.stage) {
+        Some(sent) if state.awaited => Ok((blocks, sent)),
+        _ => Err(8),
+    }
+}
+
+// The frames: 01 "The dock's flow" and "Commands"
+
+/// A frame of the flow, as a failure names it: command, page if it is one, block or none in setup.
+struct Sent {
+    command: u8,
+    page: Option<u64>,
+    block: Option<u64>,
+}
+
+/// The frame of a stage; none once the job is over.
+fn sent(stage: Stage) -> Option<Sent> {
+    let (command, block, page) = match stage {
+        Stage::Rate => (RATE_SET, None, None),
+        Stage::Reset => (RESET, None, None),
+        Stage::Signature => (SIGNATURE, None, None),
+        Stage::Blank { block } => (BLANK_CHECK, Some(block), None),
+        Stage::Erase { block } => (BLOCK_ERASE, Some(block), None),
+        Stage::Program { block } => (PROGRAM, Some(block), None),
+        Stage::ProgramPage { block, page } => (PROGRAM, Some(block), Some(page)),
+        Stage::Verify { block } => (VERIFY, Some(block), None),
+        Stage::VerifyPage { block, page } => (VERIFY, Some(block), Some(page)),
+        Stage::Finished | Stage::Failed(_) => return None,
+    };
+    Some(Sent {
+        command,
+        page,
+        block,
+    })
+}
+
+fn write_sent(job: &Job, image: &[u8], sent: &Sent, room: &mut [u8]) -> usize {
+    if let (Some(block), Some(page)) = (sent.block, sent.page) {
+        let footer = if page == LAST_PAGE {
+            LAST_FOOTER
+        } else {
+            MORE_FOOTER
+        };
+        let first = block as usize * BLOCK + page as usize * PAGE;
+        return write(room, DATA_HEADER, &image[first..first + PAGE], footer);
+    }
+    let mut body = vec![sent.command];
+    if let Some(block) = sent.block {
+        let start = job.start + block * BLOCK as u64;
+        body.extend(address(start));
+        if sent.command != BLOCK_ERASE {
+            body.extend(address(start + BLOCK as u64 - 1));
+        }
+    }
+    if sent.command == BLANK_CHECK {
+        // D01 00h asks for flash alone; 01h would ask for the options too.
+        body.push(0x00);
+    }
+    if sent.command == RATE_SET {
+        // Refusal 1 has let through no wider number.
+        body.extend([job.rate as u8, job.supply as u8]);
+    }
+    write(room, COMMAND_HEADER, &body, LAST_FOOTER)
+}
+
+/// Addresses travel low, middle, high.
+fn address(address: u64) -> [u8; 3] {
+    let [low, middle, high, ..] = address.to_le_bytes();
+    [low, middle, high]
+}
+
+// The answers: 01 "The dock's flow"
+
+/// What an answer means to the job.
+enum Verdict {
+    Expected {
+        not_blank: bool,
+    },
+    /// A status 07h or 15h.
+    Again(u8),
+    Ended(Cause, u8),
+}
+
+/// A readable answer taken apart: its statuses in order, and what else it holds.
+struct Reading<'a> {
+    statuses: Vec<u8>,
+    content: &'a [u8],
+}
+
+/// Readable comes first, then the first unexpected status, then what the reply must hold.
+fn verdict(job: &Job, sent: &Sent, answer: &[u8]) -> Verdict {
+    let Some(reading) = read(sent, answer) else {
+        return Verdict::Ended(Cause::Unreadable, NO_STATUS);
+    };
+    let not_blank_is_expected = sent.command == BLANK_CHECK;
+    let expected = |status: u8| status == ACK || status == NOT_BLANK && not_blank_is_expected;
+    let unexpected = reading.statuses.iter().find(|status| !expected(**status));
+    match unexpected {
+        Some(status @ &(BAD_SUM | NACK)) => Verdict::Again(*status),
+        Some(status) => Verdict::Ended(Cause::Status, *status),
+        None if !content_matches(job, sent, reading.content) => {
+            Verdict::Ended(Cause::Mismatch, ACK)
+        }
+        None => Verdict::Expected {
+            not_blank: reading.statuses.contains(&NOT_BLANK),
+        },
+    }
+}
+
+/// "it is readable if it is exactly these frames": nothing is missing and nothing follows.
+fn read<'a>(sent: &Sent, answer: &'a [u8]) -> Option<Reading<'a>> {
+    let (first, rest) = read_reply(answer)?;
+    let (statuses, content, rest) = match (sent.command, sent.page) {
+        (PROGRAM, Some(LAST_PAGE)) if first == [ACK, ACK] => {
+            let (third, rest) = read_reply(rest)?;
+            let &[third] = third else {
+                return None;
+            };
+            (vec![ACK, ACK, third], &[][..], rest)
+        }
+        (_, Some(_)) => {
+            let &[first, second] = first else {
+                return None;
+            };
+            (vec![first, second], &[][..], rest)
+        }
+        (RATE_SET, None) => match first {
+            [ACK, content @ ..] if content.len() == 2 => (vec![ACK], content, rest),
+            &[status] if status != ACK => (vec![status], &[][..], rest),
+            _ => return None,
+        },
+        (SIGNATURE, None) if first == [ACK] => {
+            let (content, rest) = read_reply(rest)?;
+            if content.len() != 22 {
+                return None;
+            }
+            (vec![ACK], content, rest)
+        }
+        (_, None) => {
+            let &[status] = first else {
+                return None;
+            };
+            (vec![status], &[][..], rest)
+        }
+    };
+    rest.is_empty().then_some(Reading { statuses, content })
+}
+
+/// "the reply must hold the part's clock and the supply's mode"; C0h's "must match the part".
+fn content_matches(job: &Job, sent: &Sent, content: &[u8]) -> bool {
+    match sent.command {
+        RATE_SET => content == [job.part.clock as u8, mode_of(job.supply as u8)],
+        SIGNATURE => content == signature(&job.part),
+        _ => true,
+    }
+}
+
+// The order: 01 "The dock's flow"
+
+/// The stage after an answer as expected: blocks ascending, 22h only where 32h said 1Bh.
+fn after(stage: Stage, blocks: u64, not_blank: bool) -> Stage {
+    match stage {
+        Stage::Rate => Stage::Reset,
+        Stage::Reset => Stage::Signature,
+        Stage::Signature => Stage::Blank { block: 0 },
+        Stage::Blank { block } if not_blank => Stage::Erase { block },
+        Stage::Blank { block } | Stage::Erase { block } => Stage::Program { block },
+        Stage::Program { block } => Stage::ProgramPage { block, page: 0 },
+        Stage::ProgramPage { block, page } if page < LAST_PAGE => Stage::ProgramPage {
+            block,
+            page: page + 1,
+        },
+        Stage::ProgramPage { block, .. } => Stage::Verify { block },
+        Stage::Verify { block } => Stage::VerifyPage { block, page: 0 },
+        Stage::VerifyPage { block, page } if page < LAST_PAGE => Stage::VerifyPage {
+            block,
+            page: page + 1,
+        },
+        Stage::VerifyPage { block, .. } if block + 1 < blocks => Stage::Blank { block: block + 1 },
+        Stage::VerifyPage { .. } => Stage::Finished,
+        Stage::Finished | Stage::Failed(_) => stage,
+    }
+}
+
+/// A retry "restarts the block (or the setup command)".
+fn again(stage: Stage) -> Stage {
+    match sent(stage).and_then(|sent| sent.block) {
+        Some(block) => Stage::Blank { block },
+        None => stage,
+    }
+}
+
+fn failed(sent: &Sent, cause: Cause, status: u8) -> Stage {
+    Stage::Failed(Failure {
+        cause,
+        command: sent.command,
+        page: sent.page,
+        status,
+        block: sent.block,
+    })
+}

@@ -1,0 +1,242 @@
+//! The flow over a whole history of answers, written as 01's paragraph runs and not in steps (01 "The dock's flow").
+
+use super::frame;
+use twin::dock::{Cause, Failure, Job};
+
+/// What comes back to a frame: the whole answer's bytes, or nothing in time.
+pub type Heard = Option<Vec<u8>>;
+
+#[derive(Clone, Debug, PartialEq)]
+pub struct Told {
+    /// The frames handed out, in order.
+    pub frames: Vec<Vec<u8>>,
+    pub retries: u64,
+    pub end: End,
+}
+
+#[derive(Clone, Copy, Debug, PartialEq)]
+pub enum End {
+    /// The history is over before the job: the last frame awaits its answer.
+    Open,
+    Finished,
+    Failed(Failure),
+}
+
+enum Stop {
+    NoMore,
+    Retry(Failure),
+    Fails(Failure),
+}
+
+struct Flow<'a> {
+    job: &'a Job,
+    image: &'a [u8],
+    history: std::slice::Iter<'a, Heard>,
+    frames: Vec<Vec<u8>>,
+    retries: u64,
+}
+
+pub fn flow(job: &Job, image: &[u8], history: &[Heard]) -> Told {
+    let mut flow = Flow {
+        job,
+        image,
+        history: history.iter(),
+        frames: Vec::new(),
+        retries: 0,
+    };
+    let end = match flow.run() {
+        Ok(()) => End::Finished,
+        Err(Stop::NoMore) => End::Open,
+        Err(Stop::Retry(failure) | Stop::Fails(failure)) => End::Failed(failure),
+    };
+    Told {
+        frames: flow.frames,
+        retries: flow.retries,
+        end,
+    }
+}
+
+impl Flow<'_> {
+    fn run(&mut self) -> Result<(), Stop> {
+        self.again_on_retry(Flow::set_rate)?;
+        self.again_on_retry(|flow| flow.command(&[0x00], None, &[0x06]).map(drop))?;
+        self.again_on_retry(Flow::match_signature)?;
+        for block in 0..self.image.len() as u64 / 1024 {
+            self.again_on_retry(|flow| flow.block(block))?;
+        }
+        Ok(())
+    }
+
+    fn again_on_retry(&mut self, work: impl Fn(&mut Self) -> Result<(), Stop>) -> Result<(), Stop> {
+        loop {
+            match work(self) {
+                Err(Stop::Retry(_)) if self.retries < self.job.retries => self.retries += 1,
+                other => return other,
+            }
+        }
+    }
+
+    fn set_rate(&mut self) -> Result<(), Stop> {
+        let supply = self.job.supply as u8;
+        let body = [0x9A, self.job.rate as u8, supply];
+        let heard = self.exchange(frame(0x01, &body, 0x03), 0x9A, None, None)?;
+        let name = failure(0x9A, None, None);
+        if let [0x02, 0x03, 0x06, clock, mode, ..] = heard[..] {
+            if heard != frame(0x02, &[0x06, clock, mode], 0x03) {
+                return Err(Stop::Fails(name(Cause::Unreadable, 0x00)));
+            }
+            let right = (self.job.part.clock as u8, u8::from(supply < 27));
+            return if (clock, mode) == right {
+                Ok(())
+            } else {
+                Err(Stop::Fails(name(Cause::Mismatch, 0x06)))
+            };
+        }
+        match lone_status(&heard) {
+            Some(status) if status != 0x06 => Err(unexpected(name(Cause::Status, status))),
+            _ => Err(Stop::Fails(name(Cause::Unreadable, 0x00))),
+        }
+    }
+
+    fn match_signature(&mut self) -> Result<(), Stop> {
+        let heard = self.exchange(frame(0x01, &[0xC0], 0x03), 0xC0, None, None)?;
+        let name = failure(0xC0, None, None);
+        if let Some(status) = lone_status(&heard).filter(|status| *status != 0x06) {
+            return Err(unexpected(name(Cause::Status, status)));
+        }
+        if heard.len() != 5 + 26 {
+            return Err(Stop::Fails(name(Cause::Unreadable, 0x00)));
+        }
+        let mut whole = frame(0x02, &[0x06], 0x03);
+        whole.extend(frame(0x02, &heard[7..29], 0x03));
+        if heard != whole {
+            return Err(Stop::Fails(name(Cause::Unreadable, 0x00)));
+        }
+        if heard[7..29] != signature_of(self.job) {
+            return Err(Stop::Fails(name(Cause::Mismatch, 0x06)));
+        }
+        Ok(())
+    }
+
+    fn block(&mut self, block: u64) -> Result<(), Stop> {
+        let first = self.job.start + 1024 * block;
+        let start = low_middle_high(first);
+        let end = low_middle_high(first + 1023);
+        let both = [start, end].concat();
+        let check = [&[0x32][..], &both, &[0x00]].concat();
+        if self.command(&check, Some(block), &[0x06, 0x1B])? == 0x1B {
+            self.command(&[&[0x22][..], &start].concat(), Some(block), &[0x06])?;
+        }
+        for command in [0x40, 0x13] {
+            self.command(&[&[command][..], &both].concat(), Some(block), &[0x06])?;
+            for page in 0..4 {
+                self.page(command, block, page)?;
+            }
+        }
+        Ok(())
+    }
+
+    /// A command that is answered with one status.
+    fn command(&mut self, body: &[u8], block: Option<u64>, expected: &[u8]) -> Result<u8, Stop> {
+        let heard = self.exchange(frame(0x01, body, 0x03), body[0], None, block)?;
+        let name = failure(body[0], None, block);
+        match lone_status(&heard) {
+            None => Err(Stop::Fails(name(Cause::Unreadable, 0x00))),
+            Some(status) if expected.contains(&status) => Ok(status),
+            Some(status) => Err(unexpected(name(Cause::Status, status))),
+        }
+    }
+
+    fn page(&mut self, command: u8, block: u64, page: u64) -> Result<(), Stop> {
+        let at = (1024 * block + 256 * page) as usize;
+        let footer = if page == 3 { 0x03 } else { 0x17 };
+        let sent = frame(0x02, &self.image[at..at + 256], footer);
+        let heard = self.exchange(sent, command, Some(page), Some(block))?;
+        let name = failure(command, Some(page), Some(block));
+        let unreadable = Err(Stop::Fails(name(Cause::Unreadable, 0x00)));
+        if heard.len() < 6 {
+            return unreadable;
+        }
+        let mut statuses = heard[2..4].to_vec();
+        let mut whole = frame(0x02, &statuses, 0x03);
+        if command == 0x40 && page == 3 && statuses == [0x06, 0x06] {
+            let Some(third) = heard.get(8) else {
+                return unreadable;
+            };
+            statuses.push(*third);
+            whole.extend(frame(0x02, &[*third], 0x03));
+        }
+        if heard != whole {
+            return unreadable;
+        }
+        match statuses.into_iter().find(|status| *status != 0x06) {
+            Some(status) => Err(unexpected(name(Cause::Status, status))),
+            None => Ok(()),
+        }
+    }
+
+    fn exchange(
+        &mut self,
+        sent: Vec<u8>,
+        command: u8,
+        page: Option<u64>,
+        block: Option<u64>,
+    ) -> Result<Vec<u8>, Stop> {
+        self.frames.push(sent);
+        match self.history.next() {
+            None => Err(Stop::NoMore),
+            Some(None) => Err(Stop::Fails(failure(command, page, block)(
+                Cause::Timeout,
+                0x00,
+            ))),
+            Some(Some(heard)) => Ok(heard.clone()),
+        }
+    }
+}
+
+fn failure(command: u8, page: Option<u64>, block: Option<u64>) -> impl Fn(Cause, u8) -> Failure {
+    move |cause, status| Failure {
+        cause,
+        command,
+        page,
+        status,
+        block,
+    }
+}
+
+fn unexpected(failure: Failure) -> Stop {
+    match failure.status {
+        0x07 | 0x15 => Stop::Retry(failure),
+        _ => Stop::Fails(failure),
+    }
+}
+
+fn lone_status(heard: &[u8]) -> Option<u8> {
+    let status = *heard.get(2)?;
+    (heard == frame(0x02, &[status], 0x03)).then_some(status)
+}
+
+fn low_middle_high(address: u64) -> [u8; 3] {
+    [
+        (address % 256) as u8,
+        (address / 256 % 256) as u8,
+        (address / 65_536) as u8,
+    ]
+}
+
+/// C0h's 22 bytes for the job's part.
+pub fn signature_of(job: &Job) -> Vec<u8> {
+    let part = &job.part;
+    let last_data = match part.data_blocks {
+        0 => 0,
+        blocks => 0xF1000 + 1024 * u64::from(blocks) - 1,
+    };
+    [
+        &part.device[..],
+        &part.name,
+        &low_middle_high(1024 * u64::from(part.code_blocks) - 1),
+        &low_middle_high(last_data),
+        &part.version,
+    ]
+    .concat()
+}
