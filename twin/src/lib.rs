@@ -4,5 +4,7 @@
 pub mod chip;
 pub mod dock;
 pub mod frame;
+pub mod histories;
 pub mod random;
 pub mod replay;
+pub mod transcript;

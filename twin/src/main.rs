@@ -1,16 +1,20 @@
-//! The twin's program: replays a capture (01 "Replay"), and makes random captures to replay.
+//! The twin's program: replays a capture (01 "Replay"), and makes random captures and random histories of the dock.
 
 use std::env;
 use std::fs::File;
 use std::io::{self, BufReader, BufWriter, Read, Write};
 use std::process::ExitCode;
 
+use twin::histories::play;
 use twin::random::{random_capture, Tally};
 use twin::replay::replay;
+use twin::transcript::{self, twin_dock};
 
 const USAGE: &str = "usage: twin replay [FILE]
        twin capture SEED          (writes the random capture of that seed)
-       twin count SEED CAPTURES   (replays that many, prints how often each status came)";
+       twin count SEED CAPTURES   (replays that many, prints how often each status came)
+       twin dock SEED             (plays the dock's random history of that seed, a line for each call)
+       twin dock SEED HISTORIES   (plays that many, prints how often each cause, refusal and ending came)";
 
 fn main() -> ExitCode {
     let words: Vec<String> = env::args().skip(1).collect();
@@ -22,6 +26,10 @@ fn main() -> ExitCode {
         ["count", seed, captures] => number(seed)
             .and_then(|seed| Ok((seed, number(captures)?)))
             .and_then(|(seed, captures)| print_counts(seed, captures)),
+        ["dock", seed] => number(seed).and_then(print_history),
+        ["dock", seed, histories] => number(seed)
+            .and_then(|seed| Ok((seed, number(histories)?)))
+            .and_then(|(seed, histories)| print_dock_counts(seed, histories)),
         _ => Err(io::Error::other(USAGE)),
     };
     match result {
@@ -54,6 +62,28 @@ fn print_counts(seed: u64, captures: u64) -> io::Result<()> {
     for offset in 0..captures {
         let capture = random_capture(seed.wrapping_add(offset));
         replay(&capture[..], io::sink(), |answer| tally.hear(answer))?;
+    }
+    print!("{tally}");
+    Ok(())
+}
+
+fn print_history(seed: u64) -> io::Result<()> {
+    let mut output = BufWriter::new(io::stdout().lock());
+    for line in play(seed, twin_dock).lines {
+        writeln!(output, "{line}")?;
+    }
+    output.flush()
+}
+
+fn print_dock_counts(seed: u64, histories: u64) -> io::Result<()> {
+    let mut tally = transcript::Tally::new();
+    for offset in 0..histories {
+        let history = play(seed.wrapping_add(offset), |call| {
+            let outcome = twin_dock(call);
+            tally.hear(call, &outcome);
+            outcome
+        });
+        tally.count(format!("ending {}", history.ending));
     }
     print!("{tally}");
     Ok(())

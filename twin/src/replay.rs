@@ -167,7 +167,7 @@ pub fn split_frames(mut answer: &[u8]) -> Vec<&[u8]> {
     frames
 }
 
-fn hex_line(bytes: &[u8]) -> String {
+pub fn hex_line(bytes: &[u8]) -> String {
     let pairs: Vec<String> = bytes.iter().map(|byte| format!("{byte:02X}")).collect();
     pairs.join(" ")
 }
