@@ -438,7 +438,10 @@ fn of_other_shape(choice: &mut Generator, mut right: Vec<Vec<u8>>) -> Vec<u8> {
     match choice.below(7) {
         0 => right.push(vec![ACK]),
         1 if right.len() > 1 => drop(right.pop()),
-        2 => right[0].push(any),
+        2 => {
+            let at = choice.below(right.len());
+            right[at].push(any);
+        }
         3 => right[0] = vec![ACK; choice.pick(&[1, 2, 3, 22, 256])],
         4 => right[0][0] = choice.pick(&[0x05, BAD_SUM, NACK]),
         5 => {

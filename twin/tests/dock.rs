@@ -493,6 +493,12 @@ fn answers_of_another_shape_are_unreadable() {
         bad.push(replies(&[&[0x06, 0x07], &[0x06]]));
         bad.push(replies(&[&[0x06, 0x06], &[0x06, 0x06]]));
         bad.push(replies(&[&[0x06, 0x06], &[0x06], &[0x06]]));
+        // The second frame, where there is one, has its own count of bytes.
+        for length in [1, 2, 21, 23, 256] {
+            if length + 4 != rest.len() {
+                bad.push([&reply(body), &reply(&vec![0x06; length])[..]].concat());
+            }
+        }
         for heard in bad {
             let mut desk = Desk::awaiting(stage);
             desk.hear(&Some(heard.clone()));
