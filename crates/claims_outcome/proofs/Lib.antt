@@ -14,3 +14,4 @@ pub mod Job
 pub mod Answer
 pub mod Flow
 pub mod Dock
+pub mod Door

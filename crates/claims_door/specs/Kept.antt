@@ -1,0 +1,12 @@
+-- What a refused call of the door leaves.
+use mathlib.Core.List.{List}
+use mathlib.Core.Path.{_≡_}
+use Prim.Native.Nat.{ℕ}
+use Rattle.door.specs.Calls.{StepTold}
+use Rattle.effect.specs.Effect.{Flash}
+
+-- "State and lent bytes stay."
+pub record Kept (t : StepTold) (state : List ℕ) (m : Flash) (room : List ℕ) : Type 0 where
+  pub stateStays : t .state ≡ state
+  pub flashStays : t .memory ≡ m
+  pub roomStays : t .room ≡ room

@@ -1,0 +1,16 @@
+-- `door::little8` meets its contract: eight bytes, the lowest first.
+-- Assumes nothing.
+use mathlib.Core.Path.{refl}
+use borrow.Author.Needs.{needs}
+use Rattle.door.specs.Layout.{little}
+use Rattle.door.proofs.little8.Statement.{statement}
+use Rattle.door.proofs.little8.Tie as tie
+
+returns : tie.Need-returns
+unfolding little
+returns c = refl
+
+pub little8-spec : {M : Type 1} → statement M
+little8-spec =
+    tie.close
+    (tie.spec (λ c. search needs) (λ c. search needs) (λ c. search needs) (λ c. search needs) (λ c. search needs) (λ c. search needs) (λ c. search needs) (λ c. search needs) returns)

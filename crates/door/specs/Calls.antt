@@ -1,0 +1,132 @@
+-- What each call of the door does and tells: refusals by document 01's numbers, then the chip's own definitions on the state that crossed as bytes.
+use mathlib.Core.Bool.{not}
+use mathlib.Core.List.{List, [], _∷_}
+use Prim.Native.Nat.{ℕ}
+use lib.Dec.{eqb}
+use lib.ListN.{length}
+use Rattle.chip.specs.Run.{before, feedOf}
+use Rattle.chip.specs.Step.{freshOf, stepOf}
+use Rattle.chip.specs.declared.Answer.{Answer}
+use Rattle.chip.specs.declared.Answer.the-variants.{Refused, Replied}
+use Rattle.chip.specs.declared.Chip.{Chip}
+use Rattle.chip.specs.declared.Event.{Event}
+use Rattle.door.specs.Layout.{chipIn, isState, layoutOf, namesSize, partOf, stateSize}
+use Rattle.effect.specs.Effect.{Flash}
+use Rattle.part.specs.Part.{described, size}
+use Rattle.part.specs.Refusal.{_when_, firstOf, number}
+use Rattle.part.specs.declared.Area.the-variants.{CodeFlash, DataFlash}
+use Rattle.part.specs.declared.Part.{Part}
+use Rattle.part.specs.declared.refusal.Refusal.the-variants.{BadPart, BadState, CodeLength, DataLength}
+use Rattle.part.specs.declared.refusal.Verdict.{Verdict}
+use Rattle.part.specs.declared.refusal.Verdict.the-variants.{Accepted, Barred}
+use Rattle.records.specs.Records.{replayOf}
+use Rattle.records.specs.declared.Ended.{Ended}
+use Rattle.records.specs.declared.Ended.the-variants.{AtBadRecord, Halted, Whole}
+use Rattle.words.specs.Words.{if_then_else_}
+
+-- "Order for the chip: 1, 2, 3, 9, 4": what bars a call before the chip is asked. Sixteen bytes belong to a description; bytes that are no state are 9.
+unfoldable pub admission : ℕ → ℕ → ℕ → List ℕ → List ℕ → ℕ → ℕ → Verdict
+admission codes extras clock names state code extra =
+    let p = partOf codes extras clock names in
+    firstOf
+    (BadPart when not (eqb (length names) namesSize)
+    ∷ BadPart when not (described p)
+    ∷ CodeLength when not (eqb code (size p CodeFlash))
+    ∷ DataLength when not (eqb extra (size p DataFlash))
+    ∷ BadState when not (isState state)
+    ∷ [])
+
+-- What an answer is in numbers: the refusal's, 0 where there is none; and the bytes and the frames of the reply.
+unfoldable pub refusalNumber : Answer → ℕ
+refusalNumber (Replied bytes frames) = 0
+refusalNumber (Refused r) = number r
+
+unfoldable pub bytesTold : Answer → ℕ
+bytesTold (Replied bytes frames) = bytes
+bytesTold (Refused r) = 0
+
+unfoldable pub framesTold : Answer → ℕ
+framesTold (Replied bytes frames) = frames
+framesTold (Refused r) = 0
+
+-- A fresh chip: 1 for a part that is not described, 9 for lent bytes that no state fits in.
+pub record Made : Type 0 where
+  pub refusal : ℕ
+  pub state : List ℕ
+
+abbrev pub made : ℕ → List ℕ → Made
+made n state = record { refusal = n; state = state }
+
+unfoldable pub madeBy : Answer → Chip → List ℕ → Made
+madeBy (Refused r) c state = made (number r) state
+madeBy (Replied bytes frames) c state = if eqb (length state) stateSize then made 0 (layoutOf c) else made (number BadState) state
+
+unfoldable pub freshThrough : ℕ → ℕ → ℕ → List ℕ → List ℕ → Made
+freshThrough codes extras clock names state =
+    if eqb (length names) namesSize then madeBy (freshOf (partOf codes extras clock names) .answer) (freshOf (partOf codes extras clock names) .chip) state
+    else made (number BadPart) state
+
+-- One event.
+pub record StepTold : Type 0 where
+  pub refusal : ℕ
+  pub bytes : ℕ
+  pub frames : ℕ
+  pub state : List ℕ
+  pub memory : Flash
+  pub room : List ℕ
+
+abbrev pub stepTold : ℕ → ℕ → ℕ → List ℕ → Flash → List ℕ → StepTold
+stepTold n bytes frames state m room = record { refusal = n; bytes = bytes; frames = frames; state = state; memory = m; room = room }
+
+unfoldable pub steppedBy : Verdict → Part → Event → List ℕ → Flash → List ℕ → StepTold
+steppedBy (Barred r) p v state m room = stepTold (number r) 0 0 state m room
+steppedBy Accepted p v state m room =
+    let o = stepOf p (chipIn state) v m room in
+    stepTold (refusalNumber (o .answer)) (bytesTold (o .answer)) (framesTold (o .answer)) (layoutOf (o .chip)) (o .memory) (o .room)
+
+unfoldable pub steppedThrough : ℕ → ℕ → ℕ → List ℕ → Event → List ℕ → Flash → List ℕ → StepTold
+steppedThrough codes extras clock names v state m room =
+    steppedBy (admission codes extras clock names state (length (m .codeFlash)) (length (m .dataFlash))) (partOf codes extras clock names) v state m room
+
+-- A stretch of bytes, up to the first that is answered, and how many were taken.
+pub record FeedTold : Type 0 where
+  pub taken : ℕ
+  pub told : StepTold
+
+abbrev pub feedTold : ℕ → ℕ → ℕ → ℕ → List ℕ → Flash → List ℕ → FeedTold
+feedTold n taken bytes frames state m room = record { taken = taken; told = stepTold n bytes frames state m room }
+
+unfoldable pub fedBy : Verdict → Part → List ℕ → List ℕ → Flash → List ℕ → FeedTold
+fedBy (Barred r) p bs state m room = feedTold (number r) 0 0 0 state m room
+fedBy Accepted p bs state m room =
+    let f = feedOf p bs (before (chipIn state) m room) in
+    let o = f .left in
+    feedTold (refusalNumber (o .answer)) (f .taken) (bytesTold (o .answer)) (framesTold (o .answer)) (layoutOf (o .chip)) (o .memory) (o .room)
+
+unfoldable pub fedThrough : ℕ → ℕ → ℕ → List ℕ → List ℕ → List ℕ → Flash → List ℕ → FeedTold
+fedThrough codes extras clock names bs state m room =
+    fedBy (admission codes extras clock names state (length (m .codeFlash)) (length (m .dataFlash))) (partOf codes extras clock names) bs state m room
+
+-- A capture's records: 0 where all were played, 16 where one is not good, else the refusal's number.
+unfoldable pub endNumber : Ended → ℕ
+endNumber Whole = 0
+endNumber AtBadRecord = 16
+endNumber (Halted r) = number r
+
+pub record ReplayTold : Type 0 where
+  pub records : ℕ
+  pub told : StepTold
+  pub output : List ℕ
+
+abbrev pub replayTold : ℕ → ℕ → ℕ → ℕ → List ℕ → Flash → List ℕ → List ℕ → ReplayTold
+replayTold n records bytes frames state m room output = record { records = records; told = stepTold n bytes frames state m room; output = output }
+
+unfoldable pub replayedBy : Verdict → Part → List ℕ → List ℕ → Flash → List ℕ → List ℕ → ReplayTold
+replayedBy (Barred r) p capture state m room output = replayTold (number r) 0 0 0 state m room output
+replayedBy Accepted p capture state m room output =
+    let x = replayOf p capture (chipIn state) m room output in
+    replayTold (endNumber (x .ended)) (x .records) (x .bytes) (x .frames) (layoutOf (x .chip)) (x .memory) (x .room) (x .output)
+
+unfoldable pub replayedThrough : ℕ → ℕ → ℕ → List ℕ → List ℕ → List ℕ → Flash → List ℕ → List ℕ → ReplayTold
+replayedThrough codes extras clock names capture state m room output =
+    replayedBy (admission codes extras clock names state (length (m .codeFlash)) (length (m .dataFlash))) (partOf codes extras clock names) capture state m room output
