@@ -1,0 +1,339 @@
+//! The proved chip against the twin, in one process and on the same bytes: ratios of the least of several runs each. After every pair of runs both have said
+//! the same bytes and hold the same flash and state.
+
+mod door;
+
+use std::hint::black_box;
+use std::time::Instant;
+
+use door::{layout, Door};
+use twin::chip::{step, Answer, Chip, Event, Part, PAGE, PROGRAM, VERIFY};
+use twin::frame::{LAST_FOOTER, MORE_FOOTER};
+use twin::random::{command_frame, data_frame, range_body};
+use twin::replay::{judge_record, replay_part, Player, Record, CARRIED, RECORD};
+
+const BLOCKS: usize = 16;
+const RUNS: usize = 15;
+
+fn page(round: usize, block: usize, number: usize) -> Vec<u8> {
+    (0..PAGE)
+        .map(|at| (at * 7 + number * 31 + block * 13 + round) as u8)
+        .collect()
+}
+
+/// One round over every code block: erase it, write four pages, verify four pages.
+fn round_of_frames(round: usize) -> Vec<Vec<u8>> {
+    let mut frames = Vec::new();
+    for block in 0..BLOCKS {
+        let (start, end) = (block * 1024, block * 1024 + 1023);
+        frames.push(command_frame(&[
+            0x22,
+            start as u8,
+            (start >> 8) as u8,
+            (start >> 16) as u8,
+        ]));
+        for command in [PROGRAM, VERIFY] {
+            frames.push(command_frame(&range_body(command, start, end)));
+            for number in 0..4 {
+                let footer = if number == 3 {
+                    LAST_FOOTER
+                } else {
+                    MORE_FOOTER
+                };
+                frames.push(data_frame(&page(round, block, number), footer));
+            }
+        }
+    }
+    frames
+}
+
+fn opening() -> Vec<u8> {
+    let mut bytes = vec![0x3A];
+    bytes.extend(command_frame(&[0x9A, 0x00, 0x21]));
+    bytes
+}
+
+/// Page traffic of so many rounds.
+fn traffic(rounds: usize) -> Vec<u8> {
+    let mut bytes = opening();
+    for round in 0..rounds {
+        bytes.extend(round_of_frames(round).concat());
+    }
+    bytes
+}
+
+/// The same as capture records: a gap before each frame, up to six bytes to a record; so many records.
+fn capture(records: usize) -> Vec<u8> {
+    let mut bytes = Vec::new();
+    let mut carry = |frame: &[u8]| {
+        bytes.extend([0; RECORD]);
+        for part in frame.chunks(CARRIED) {
+            let mut record = [0; RECORD];
+            record[0] = 0x01;
+            record[1] = part.len() as u8;
+            record[2..2 + part.len()].copy_from_slice(part);
+            bytes.extend(record);
+        }
+    };
+    carry(&[0x3A]);
+    carry(&opening()[1..]);
+    let mut round = 0;
+    while round * BLOCKS * 360 < records {
+        round_of_frames(round).iter().for_each(|frame| carry(frame));
+        round += 1;
+    }
+    bytes.truncate(records * RECORD);
+    bytes
+}
+
+struct Said {
+    bytes: Vec<u8>,
+    state: [u8; 293],
+    code: Vec<u8>,
+    data: Vec<u8>,
+}
+
+fn from_door(door: Door, bytes: Vec<u8>) -> Said {
+    Said {
+        bytes,
+        state: door.state,
+        code: door.code,
+        data: door.data,
+    }
+}
+
+fn from_twin(player: Player, bytes: Vec<u8>) -> Said {
+    Said {
+        bytes,
+        state: layout(&player.chip),
+        code: player.code,
+        data: player.data,
+    }
+}
+
+fn hear(player: &mut Player, event: Event, room: &mut [u8; 32]) -> usize {
+    match step(
+        &player.part,
+        &mut player.chip,
+        event,
+        &mut player.code,
+        &mut player.data,
+        room,
+    ) {
+        Answer::Replied { bytes, .. } => bytes,
+        Answer::Refused(number) => unreachable!("refused with {number}"),
+    }
+}
+
+/// The twin in the proved chip's form: a chip goes in by value and comes back by value.
+#[inline(never)]
+fn step_by_value(
+    part: &Part,
+    mut chip: Chip,
+    event: Event,
+    code: &mut [u8],
+    data: &mut [u8],
+    room: &mut [u8],
+) -> (Answer, Chip) {
+    let answer = step(part, &mut chip, event, code, data, room);
+    (answer, chip)
+}
+
+fn twin_bytes(fed: &[u8]) -> Said {
+    let (mut player, mut room, mut said) = (Player::fresh(), [0; 32], Vec::new());
+    for &byte in fed {
+        let bytes = hear(&mut player, Event::Byte(byte), &mut room);
+        said.extend_from_slice(&room[..bytes]);
+    }
+    from_twin(player, said)
+}
+
+fn twin_by_value(fed: &[u8]) -> Said {
+    let (mut player, mut room, mut said) = (Player::fresh(), [0; 32], Vec::new());
+    for &byte in fed {
+        let chip = player.chip.clone();
+        let (answer, chip) = step_by_value(
+            &player.part,
+            chip,
+            Event::Byte(byte),
+            &mut player.code,
+            &mut player.data,
+            &mut room,
+        );
+        player.chip = chip;
+        if let Answer::Replied { bytes, .. } = answer {
+            said.extend_from_slice(&room[..bytes]);
+        }
+    }
+    from_twin(player, said)
+}
+
+fn door_bytes(fed: &[u8]) -> Said {
+    let (mut door, mut said) = (Door::fresh(&replay_part()), Vec::new());
+    for &byte in fed {
+        let bytes = door.byte(byte);
+        said.extend_from_slice(&door.room[..bytes]);
+    }
+    from_door(door, said)
+}
+
+/// One gap for each byte: what the door itself and the refusals cost, with nothing heard.
+fn door_gaps(fed: &[u8]) -> Said {
+    let mut door = Door::fresh(&replay_part());
+    for _ in fed {
+        door.gap();
+    }
+    from_door(door, Vec::new())
+}
+
+fn twin_gaps(fed: &[u8]) -> Said {
+    let (mut player, mut room) = (Player::fresh(), [0; 32]);
+    for _ in fed {
+        hear(&mut player, Event::Gap, &mut room);
+    }
+    from_twin(player, Vec::new())
+}
+
+fn door_feed(fed: &[u8]) -> Said {
+    let (mut door, mut said) = (Door::fresh(&replay_part()), Vec::new());
+    let mut at = 0;
+    while at < fed.len() {
+        let (taken, bytes) = door.feed(&fed[at..]);
+        at += taken;
+        said.extend_from_slice(&door.room[..bytes]);
+    }
+    from_door(door, said)
+}
+
+fn door_replay(capture: &[u8]) -> Said {
+    let (mut door, mut said, mut output) =
+        (Door::fresh(&replay_part()), Vec::new(), vec![0; 1 << 16]);
+    let mut at = 0;
+    while at < capture.len() {
+        let (played, bytes) = door.replay(&capture[at..], &mut output);
+        at += played * RECORD;
+        said.extend_from_slice(&output[..bytes]);
+    }
+    from_door(door, said)
+}
+
+fn twin_replay(capture: &[u8]) -> Said {
+    let (mut player, mut room, mut said) = (Player::fresh(), [0; 32], Vec::new());
+    for record in capture.chunks_exact(RECORD) {
+        let record = record.try_into().expect("eight bytes");
+        match judge_record(record).expect("a good record") {
+            Record::Gap => {
+                hear(&mut player, Event::Gap, &mut room);
+            }
+            Record::Bytes { bytes, count } => {
+                for &byte in &bytes[..count] {
+                    let n = hear(&mut player, Event::Byte(byte), &mut room);
+                    said.extend_from_slice(&room[..n]);
+                }
+            }
+        }
+    }
+    from_twin(player, said)
+}
+
+/// Nanoseconds of the quickest of so many runs, the two taking turns; they must have done the same.
+fn least(
+    name: &str,
+    units: usize,
+    unit: &str,
+    proved: fn(&[u8]) -> Said,
+    other: fn(&[u8]) -> Said,
+    input: &[u8],
+    runs: usize,
+) -> f64 {
+    let (mut quick, mut quick_other) = (f64::MAX, f64::MAX);
+    for _ in 0..runs {
+        let start = Instant::now();
+        let a = black_box(proved(black_box(input)));
+        quick = quick.min(start.elapsed().as_nanos() as f64);
+        let start = Instant::now();
+        let b = black_box(other(black_box(input)));
+        quick_other = quick_other.min(start.elapsed().as_nanos() as f64);
+        assert!(
+            a.bytes == b.bytes && a.code == b.code && a.data == b.data,
+            "{name}: not the same"
+        );
+        assert!(a.state == b.state, "{name}: not the same state");
+    }
+    println!(
+        "{name:58} {:8.2}   ({:.2} and {:.2} ns a {unit})",
+        quick / quick_other,
+        quick / units as f64,
+        quick_other / units as f64
+    );
+    quick
+}
+
+fn main() {
+    let bytes = traffic(10);
+    let n = bytes.len();
+    println!(
+        "proved over twin, {n} bytes of page traffic, least of {RUNS} runs{:12} ratio",
+        ""
+    );
+    least(
+        "a byte at a time, twin by value",
+        n,
+        "byte",
+        door_bytes,
+        twin_by_value,
+        &bytes,
+        RUNS,
+    );
+    least(
+        "a byte at a time, twin by reference",
+        n,
+        "byte",
+        door_bytes,
+        twin_bytes,
+        &bytes,
+        RUNS,
+    );
+    least(
+        "a gap at a time: the door and the refusals alone",
+        n,
+        "call",
+        door_gaps,
+        twin_gaps,
+        &bytes,
+        RUNS,
+    );
+    least(
+        "stretches (zc_feed), twin a byte at a time by reference",
+        n,
+        "byte",
+        door_feed,
+        twin_bytes,
+        &bytes,
+        RUNS,
+    );
+    let small = capture(10_000);
+    let large = capture(1_000_000);
+    let few = least(
+        "replay of 10,000 records",
+        10_000,
+        "record",
+        door_replay,
+        twin_replay,
+        &small,
+        RUNS,
+    );
+    let many = least(
+        "replay of 1,000,000 records",
+        1_000_000,
+        "record",
+        door_replay,
+        twin_replay,
+        &large,
+        3,
+    );
+    println!(
+        "1,000,000 records over 100 times 10,000 records, proved {:9.2}",
+        many / (100.0 * few)
+    );
+}
