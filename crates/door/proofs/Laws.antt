@@ -13,7 +13,7 @@ use Rattle.chip.specs.declared.Chip.{Chip}
 use Rattle.door.specs.Calls.{admission}
 use Rattle.door.specs.Layout.{awaitedOf, headOf, isState, layoutOf, little, namesSize, numberAt, partOf, phaseNumber, stateSize}
 use Rattle.effect.specs.declared.Awaited.{Awaited}
-use Rattle.lent.proofs.Laws.{Written, written-put, written-start}
+use Rattle.lent.proofs.Laws.{Written, written-full, written-put, written-start}
 use Rattle.lent.specs.Lent.{left, putOf}
 use Rattle.lent.specs.declared.Room.{Room}
 use Rattle.options.specs.declared.Options.{Options}
@@ -24,7 +24,6 @@ use Rattle.part.specs.declared.refusal.Refusal.{Refusal}
 use Rattle.part.specs.declared.refusal.Refusal.the-variants.{BadPart, BadState, CodeLength, DataLength}
 use Rattle.part.specs.declared.refusal.Verdict.{Verdict}
 use Rattle.part.specs.declared.refusal.Verdict.the-variants.{Accepted, Barred}
-use Rattle.reply.proofs.Laws.{written-full}
 use Rattle.words.proofs.Laws.{and-left}
 use Rattle.words.specs.Words.{if_then_else_}
 
