@@ -49,7 +49,7 @@ pub fn play(seed: u64, dock: impl FnMut(&Call) -> Outcome) -> History {
     let work = random_work(&mut choice);
     let mut play = Play {
         fault: choice.pick(&[0, 1, 3, 8, 25]),
-        aside: choice.pick(&[0, 5, 30]),
+        aside: choice.pick(&[0, 10, 50]),
         only_retries: choice.chance(25),
         not_blank: choice.pick(&[0, 50, 100]),
         blocks: (work.image.len() / BLOCK) as u64,
@@ -187,7 +187,7 @@ impl<D: FnMut(&Call) -> Outcome> Play<D> {
     /// The answer or timeout to the frame handed out last.
     fn hear(&mut self, state: State, line: &mut Line) -> Outcome {
         let (heard, manner) = match line {
-            Line::MadeUp => self.made_up(state.stage),
+            Line::MadeUp => self.made_up(state.stage, self.fault, self.only_retries),
             Line::Chip(far) => self.said_by(far),
         };
         let work = self.work.clone();
@@ -339,14 +339,19 @@ fn random_flash(choice: &mut Generator, blocks: u32) -> Vec<u8> {
 // Answers made up from the flow's expectation
 
 impl<D: FnMut(&Call) -> Outcome> Play<D> {
-    fn made_up(&mut self, stage: Stage) -> (Option<Vec<u8>>, &'static str) {
+    fn made_up(
+        &mut self,
+        stage: Stage,
+        fault: usize,
+        only_retries: bool,
+    ) -> (Option<Vec<u8>>, &'static str) {
         let right = self.right_answer(stage);
-        if !self.choice.chance(self.fault) {
+        if !self.choice.chance(fault) {
             return (Some(in_frames(&right)), "right");
         }
         let choice = &mut self.choice;
         let mut bytes = in_frames(&right);
-        let kinds = if self.only_retries { 5 } else { 16 };
+        let kinds = if only_retries { 5 } else { 18 };
         match choice.below(kinds) {
             0..=4 => {
                 let status = choice.pick(&[BAD_SUM, NACK]);
@@ -376,8 +381,8 @@ impl<D: FnMut(&Call) -> Outcome> Play<D> {
                 damage(choice, &mut bytes);
                 (Some(bytes), "damaged")
             }
-            13 => (Some(of_other_shape(choice, right)), "other shape"),
-            14 => (Some(noise(choice)), "noise"),
+            13..=15 => (Some(of_other_shape(choice, right)), "other shape"),
+            16 => (Some(noise(choice)), "noise"),
             _ => (None, "timeout"),
         }
     }
@@ -435,16 +440,17 @@ fn with_other_content(choice: &mut Generator, mut right: Vec<Vec<u8>>) -> Vec<u8
 /// Frames that are good in themselves, but not those of this answer.
 fn of_other_shape(choice: &mut Generator, mut right: Vec<Vec<u8>>) -> Vec<u8> {
     let any = choice.byte();
-    match choice.below(7) {
+    let last = right.len() - 1;
+    match choice.below(8) {
         0 => right.push(vec![ACK]),
-        1 if right.len() > 1 => drop(right.pop()),
-        2 => {
-            let at = choice.below(right.len());
-            right[at].push(any);
-        }
-        3 => right[0] = vec![ACK; choice.pick(&[1, 2, 3, 22, 256])],
-        4 => right[0][0] = choice.pick(&[0x05, BAD_SUM, NACK]),
-        5 => {
+        1 if last > 0 => drop(right.pop()),
+        1 if right[0].len() > 1 => right[0].truncate(1),
+        2 => right[last].push(any),
+        3 => right[0].push(any),
+        4 if right[last].len() > 1 => drop(right[last].pop()),
+        4 => right[0] = vec![ACK; choice.pick(&[2, 3, 22, 256])],
+        5 => right[0][0] = choice.pick(&[0x05, BAD_SUM, NACK]),
+        6 => {
             let mut bytes = in_frames(&right[1..]);
             bytes.splice(0..0, data_frame(&right[0], MORE_FOOTER));
             return bytes;
@@ -513,14 +519,14 @@ impl<D: FnMut(&Call) -> Outcome> Play<D> {
     }
 
     fn call_aside_with(&mut self, work: &Rc<Work>, job_faults: &[u8], present: Option<State>) {
-        let kind = self.choice.below(8);
+        let kind = self.choice.below(10);
         if kind == 0 {
             self.call(work, Action::Start, job_faults, false, "aside");
             return;
         }
         let asks = kind <= 4;
         let possible: &[u8] = if asks { &[9, 4, 8] } else { &[9, 8] };
-        let own = self.some_of(possible, &[40, 35, 25]);
+        let own = self.some_of(possible, &[50, 30, 20]);
         let turn = match (asks, own.contains(&8)) {
             (true, false) => Turn::Due,
             (false, false) => Turn::Awaited,
@@ -542,9 +548,10 @@ impl<D: FnMut(&Call) -> Outcome> Play<D> {
             let action = Action::Ask { state, room };
             self.call(work, action, &faults, false, "aside");
         } else {
-            let (heard, _) = self.made_up(state.stage);
+            // No history ends by what is said aside, so that it may be wrong more often.
+            let (heard, _) = self.made_up(state.stage, 70, false);
             let action = match &heard {
-                Some(bytes) if kind < 7 => Action::Answer { state, bytes },
+                Some(bytes) if kind < 9 => Action::Answer { state, bytes },
                 _ => Action::Timeout { state },
             };
             self.call(work, action, &faults, false, "aside");
@@ -571,13 +578,16 @@ impl<D: FnMut(&Call) -> Outcome> Play<D> {
             Turn::Over => self.random_end(block, page),
             Turn::Due | Turn::Awaited => self.choice.pick(&[
                 Stage::Rate,
+                Stage::Rate,
                 Stage::Reset,
+                Stage::Signature,
                 Stage::Signature,
                 Stage::Blank { block },
                 Stage::Erase { block },
                 Stage::Program { block },
                 Stage::ProgramPage { block, page },
                 Stage::ProgramPage { block, page },
+                Stage::ProgramPage { block, page: 3 },
                 Stage::Verify { block },
                 Stage::VerifyPage { block, page },
                 Stage::VerifyPage { block, page },
