@@ -3,10 +3,12 @@
 ghost use mathlib.Core.Path.{_≡_};
 ghost use Prim.Native.Nat.{_≤_, _<_, _^_, _+_, _%_};
 ghost use lib.Dec.{eqb};
+ghost use lib.ListN.{getD, length};
 ghost use Rattle.words.specs.Words.{_or_};
 ghost use Rattle.effect.specs.Effect.{flash, effect};
+ghost use Rattle.frame.specs.Frame.{counted};
 ghost use Rattle.chip.specs.Run.{before, fed, feedOf};
-ghost use Rattle.chip.specs.inner.Ways.{completesAt, wayOn, wayOf};
+ghost use Rattle.chip.specs.inner.Ways.{completesAt, lackingOf, plainOf, stretchedBy, wayOn, wayOf};
 ghost use Rattle.chip.specs.Step.{sameArea, goodPlaces, goodAwaited, goodPhase, goodBegun, goodCollected, goodCore, goodState, verdictOf, modeByte, poweredOn, frameDoes, outcome, stepOf, freshOf};
 use super::Answer;
 use super::Chip;
@@ -411,6 +413,55 @@ pub fn fresh(part: Part) -> Step
     }
 }
 
+// Past header and LEN: how many of the bytes still to come are added without completing the frame.
+fn lacking(count: usize, len: u8, rest: usize) -> usize
+    ensures { λ r. ⌜ (r ≡ lackingOf count len rest) × (counted len ≤ 256) ⌝ }
+{
+    if count < 2 {
+        return 0;
+    }
+    let last = frame::counted(len) + 3;
+    if last <= count {
+        return 0;
+    }
+    let n = last - count;
+    if rest < n {
+        return rest;
+    }
+    n
+}
+
+// How many of the bytes still to come are only added to what is collected. The refusals are asked once for all of them.
+fn plain(part: Part, chip: Chip, code: usize, data: usize, room: usize, rest: usize) -> usize
+    ensures { λ r. ⌜ (r ≡ plainOf part chip code «data» room rest) × (counted (getD (chip .collector .bytes) 1 0) ≤ 256) × (length (chip .collector .bytes) ≡ 260) ⌝ }
+{
+    let collector = chip.collector;
+    let count = collector.len;
+    let len = collector.bytes[1];
+    let n = lacking(count, len, rest);
+    if n == 0 {
+        return 0;
+    }
+    let core = chip.core;
+    let v = verdict(part, core, count, collector.bytes[0], len, code, data, room);
+    match v {
+        Verdict::Accepted => n,
+        Verdict::Barred(refusal) => 0,
+    }
+}
+
+// A stretch of bytes added at once.
+fn stretched(collector: Collector, s: &[u8]) -> Collector
+    requires { ⌜ collector .len + length (now s) ≤ 260 ⌝ }
+    ensures { λ r. ⌜ r ≡ stretchedBy collector (now (s .entry)) ⌝ }
+{
+    let at = collector.len;
+    let mut bytes = collector.bytes;
+    lent::put(&mut bytes, at, s);
+    let len = at + s.len();
+    Collector { bytes, len }
+}
+
 // Bytes one after the other, each a step, up to the first that is answered: its reply is in the room, and the rest of the bytes is the caller's to hand in
 // again. A byte that is refused is not taken.
 pub fn feed(
@@ -432,31 +483,54 @@ pub fn feed(
     };
     let mut i = 0;
     while i < bytes.len() {
-        let b = bytes[i];
-        i = i + 1;
         let next = last.chip;
-        last = step(part, next, Event::Byte(b), code, data, room);
-        let answer = last.answer;
-        let chip = last.chip;
-        match answer {
-            Answer::Replied {
-                bytes: n,
-                frames: f,
-            } => {
-                if 0 < f {
+        let k = plain(
+            part,
+            next,
+            code.len(),
+            data.len(),
+            room.len(),
+            bytes.len() - i,
+        );
+        if 0 < k {
+            let end = i + k;
+            let core = next.core;
+            let old = next.collector;
+            let collector = stretched(old, &bytes[i..end]);
+            i = end;
+            last = Step {
+                answer: Answer::Replied {
+                    bytes: 0,
+                    frames: 0,
+                },
+                chip: Chip { core, collector },
+            };
+        } else {
+            let b = bytes[i];
+            i = i + 1;
+            last = step(part, next, Event::Byte(b), code, data, room);
+            let answer = last.answer;
+            let chip = last.chip;
+            match answer {
+                Answer::Replied {
+                    bytes: n,
+                    frames: f,
+                } => {
+                    if 0 < f {
+                        return Fed {
+                            taken: i,
+                            answer,
+                            chip,
+                        };
+                    }
+                }
+                Answer::Refused(refusal) => {
                     return Fed {
-                        taken: i,
+                        taken: i - 1,
                         answer,
                         chip,
                     };
                 }
-            }
-            Answer::Refused(refusal) => {
-                return Fed {
-                    taken: i - 1,
-                    answer,
-                    chip,
-                };
             }
         }
     }

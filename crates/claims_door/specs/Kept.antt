@@ -2,7 +2,7 @@
 use mathlib.Core.List.{List}
 use mathlib.Core.Path.{_≡_}
 use Prim.Native.Nat.{ℕ}
-use Rattle.door.specs.Calls.{StepTold}
+use Rattle.door.specs.Calls.{FeedTold, StepTold}
 use Rattle.effect.specs.Effect.{Flash}
 
 -- "State and lent bytes stay."
@@ -10,3 +10,7 @@ pub record Kept (t : StepTold) (state : List ℕ) (m : Flash) (room : List ℕ) 
   pub stateStays : t .state ≡ state
   pub flashStays : t .memory ≡ m
   pub roomStays : t .room ≡ room
+
+pub record FeedKept (t : FeedTold) (state : List ℕ) (m : Flash) (room : List ℕ) : Type 0 where
+  pub noneTaken : t .taken ≡ 0
+  pub kept : Kept (t .told) state m room

@@ -1,7 +1,11 @@
--- The ways of a byte, by the count and the LEN byte of what is collected, as the code decides them.
+-- The ways of a byte, by the count and the LEN byte of what is collected, as the code decides them; and how many bytes to come are only added.
 use mathlib.Core.Bool.{Bool}
-use Prim.Native.Nat.{_+_, ℕ}
-use lib.Dec.{leb}
+use mathlib.Core.List.{List, [], _∷_}
+use Prim.Native.Nat.{_+_, _-_, ℕ}
+use lib.Dec.{eqb, leb, ltb}
+use lib.ListN.{getD}
+use Rattle.chip.specs.Step.{verdictOf}
+use Rattle.chip.specs.declared.Chip.{Chip}
 use Rattle.chip.specs.declared.events.Way.{Way}
 use Rattle.chip.specs.declared.events.Way.the-variants.{Completes, Hears, Mode}
 use Rattle.effect.specs.declared.Phase.{Phase}
@@ -9,6 +13,11 @@ use Rattle.effect.specs.declared.Phase.the-variants.{Awaiting, ModeByte, Ready,
 use Rattle.frame.specs.Frame.{counted}
 use Rattle.frame.specs.declared.Header.{Header}
 use Rattle.frame.specs.declared.Header.the-variants.{Command, Data}
+use Rattle.frame.specs.declared.collector.Collector.{Collector}
+use Rattle.frame.specs.inner.Collector.{stored}
+use Rattle.part.specs.declared.Part.{Part}
+use Rattle.part.specs.declared.refusal.Verdict.{Verdict}
+use Rattle.part.specs.declared.refusal.Verdict.the-variants.{Accepted, Barred}
 use Rattle.words.specs.Words.{_and_, if_then_else_}
 
 -- The byte after these is the last of its frame.
@@ -23,3 +32,24 @@ wayOf ModeByte count len = Mode
 wayOf Setup count len = wayOn Command count len
 wayOf Ready count len = wayOn Command count len
 wayOf (Awaiting w) count len = wayOn Data count len
+
+-- Past header and LEN, so many of the bytes still to come are added without completing the frame.
+unfoldable pub lackingOf : ℕ → ℕ → ℕ → ℕ
+lackingOf count len rest =
+    if leb 2 count then (if ltb rest (counted len + 3 - count) then rest else counted len + 3 - count)
+    else 0
+
+-- Where the state is accepted, they are a stretch.
+unfoldable pub stretchOf : Verdict → ℕ → ℕ
+stretchOf Accepted n = n
+stretchOf (Barred r) n = 0
+
+unfoldable pub plainOf : Part → Chip → ℕ → ℕ → ℕ → ℕ → ℕ
+plainOf p c code extra room rest =
+    if eqb (lackingOf (c .collector .len) (getD (c .collector .bytes) 1 0) rest) 0 then 0
+    else stretchOf (verdictOf p (c .core) (c .collector .len) (getD (c .collector .bytes) 0 0) (getD (c .collector .bytes) 1 0) code extra room) (lackingOf (c .collector .len) (getD (c .collector .bytes) 1 0) rest)
+
+-- The collector after a stretch, byte by byte.
+unfoldable pub stretchedBy : Collector → List ℕ → Collector
+stretchedBy c [] = c
+stretchedBy c (b ∷ bs) = stretchedBy (stored c b) bs

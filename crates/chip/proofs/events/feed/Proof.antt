@@ -1,5 +1,5 @@
 -- `chip::events::feed` meets its contract: what the bytes still to come make of the last step's outcome stays the same from turn to turn, until one is
--- answered or refused.
+-- answered or refused. A turn takes a stretch of bytes that are only added, or one byte by a step.
 -- Assumes nothing.
 use mathlib.Core.Path.{_∙_, _≡_, refl}
 use Prim.Native.Nat.{_+_, _-_, _≤_}
@@ -7,6 +7,7 @@ use native.Mathlib.Omega.{arith}
 use lib.ListN.{length}
 use borrow.Author.Needs.{needs}
 use Rattle.chip.proofs.Feeding.{FedFrom, fed-end, fed-refused, fed-said, fed-start, fed-turn}
+use Rattle.chip.proofs.Stretching.{fed-stretch, part-short, plain-is}
 use Rattle.chip.specs.Run.{feedOf}
 use Rattle.chip.specs.Step.{outcome}
 use Rattle.effect.specs.Effect.{flash}
@@ -27,21 +28,55 @@ abbrev μ-loop : tie.MeasureT-loop
 loop-holds : tie.Need-loop-holds Inv-loop μ-loop
 loop-holds c = (omega arith, refl, refl, refl, fed-start _ _ _)
 
+-- What a stretch may rely on: it lies in the bytes, and in the collector's array.
+known : (c : tie.Then1 Inv-loop μ-loop)
+    → (c .before .plain .result ≤ length (c .before .before .before .before .before .before .before .before .before .args .bytes .now) - c .before .before .before .before .loop .i)
+    × (c .before .before .before .before .loop .last .chip .collector .len + c .before .plain .result ≤ 259)
+known c =
+    let x = plain-is _ _ _ _ _ _ _ (c .before .plain .ensures .0) (c .if1 .taken) in
+    (x .lacks .there, omega (arith, x .lacks .short, c .before .plain .ensures .1))
+
+add-end : tie.Need-add-end Inv-loop μ-loop
+add-end c = omega (arith, known c .0, c .before .before .before .loop-test .taken)
+
+sub-stretched : tie.Need-sub-stretched Inv-loop μ-loop
+sub-stretched c = omega arith
+
+part-stretched-start : tie.Need-part-stretched-start Inv-loop μ-loop
+part-stretched-start c = omega arith
+
+part-stretched-end : tie.Need-part-stretched-end Inv-loop μ-loop
+part-stretched-end c = omega (arith, known (c .before .before) .0, c .before .before .before .before .before .loop-test .taken)
+
+stretched-requires : tie.Need-stretched-requires Inv-loop μ-loop
+stretched-requires c κs = part-short (c .before .before .before .before .before .before .before .loop .i) _ _ _ (known (c .before .before .before) .1)
+
+loop-less : tie.Need-loop-less Inv-loop μ-loop
+loop-less c = omega (arith, known (c .before .before .before .before) .0, c .before .before .before .before .if1 .taken, c .before .before .before .before .before .before .before .loop-test .taken)
+
 loop-again : tie.Need-loop-again Inv-loop μ-loop
 loop-again c = (
-  omega (arith, c .before .before .before .before .before .before .before .before .before .before .before .before .before .before .before .before .before .loop-test .taken),
-  c .before .before .before .before .before .before .before .before .before .before .before .step .kept .1 .1 .1 .0 ∙ c .before .before .before .before .before .before .before .before .before .before .before .before .before .before .before .before .before .before .loop .inv .1,
-  c .before .before .before .before .before .before .before .before .before .before .before .step .kept .1 .1 .1 .1 .0 ∙ c .before .before .before .before .before .before .before .before .before .before .before .before .before .before .before .before .before .before .loop .inv .2,
-  c .before .before .before .before .before .before .before .before .before .before .before .step .kept .1 .1 .1 .1 .1 .0 ∙ c .before .before .before .before .before .before .before .before .before .before .before .before .before .before .before .before .before .before .loop .inv .3,
-  fed-turn (c .before .before .before .before .before .before .before .before .before .before .before .before .before .before .before .before .before .before .loop .inv .4) (c .before .before .before .before .before .before .before .before .before .before .before .step .ensures) (c .before .before .before .before .before .before .before .before .before .before .before .before .before .before .before .before .before .loop-test .taken) (c .before .before .answer .given .1) (c .if1 .left),
+  omega (arith, known (c .before .before .before .before) .0, c .before .before .before .before .before .before .before .loop-test .taken),
+  c .before .before .before .before .before .before .before .before .loop .inv .1,
+  c .before .before .before .before .before .before .before .before .loop .inv .2,
+  c .before .before .before .before .before .before .before .before .loop .inv .3,
+  fed-stretch _ _ (c .before .before .before .before .before .before .before .before .loop .inv .4) (c .before .before .before .before .before .plain .ensures .2) (c .before .before .before .before .before .plain .ensures .1) (c .before .before .before .before .before .plain .ensures .0) (c .before .before .before .before .if1 .taken) (c .before .before .before .before .before .before .before .loop-test .taken) (c .stretched .ensures),
 )
 
 returns : tie.Need-returns Inv-loop μ-loop
-returns c = fed-said (c .before .before .before .before .before .before .before .before .before .before .before .before .before .before .before .before .before .before .loop .inv .4) (c .before .before .before .before .before .before .before .before .before .before .before .step .ensures) (c .before .before .before .before .before .before .before .before .before .before .before .before .before .before .before .before .before .loop-test .taken) (c .before .before .answer .given .1) (c .if1 .taken)
+returns c = fed-said (c .before .before .before .before .before .before .before .before .before .before .before .before .before .before .before .before .before .before .before .before .loop .inv .4) (c .before .before .before .before .before .before .before .before .before .before .before .step .ensures) (c .before .before .before .before .before .before .before .before .before .before .before .before .before .before .before .before .before .before .before .loop-test .taken) (c .before .before .answer .given .1) (c .if2 .taken)
+
+loop-again-2 : tie.Need-loop-again-2 Inv-loop μ-loop
+loop-again-2 c = (
+  omega (arith, c .before .before .before .before .before .before .before .before .before .before .before .before .before .before .before .before .before .before .before .loop-test .taken),
+  c .before .before .before .before .before .before .before .before .before .before .before .step .kept .1 .1 .1 .0 ∙ c .before .before .before .before .before .before .before .before .before .before .before .before .before .before .before .before .before .before .before .before .loop .inv .1,
+  c .before .before .before .before .before .before .before .before .before .before .before .step .kept .1 .1 .1 .1 .0 ∙ c .before .before .before .before .before .before .before .before .before .before .before .before .before .before .before .before .before .before .before .before .loop .inv .2,
+  c .before .before .before .before .before .before .before .before .before .before .before .step .kept .1 .1 .1 .1 .1 .0 ∙ c .before .before .before .before .before .before .before .before .before .before .before .before .before .before .before .before .before .before .before .before .loop .inv .3,
+  fed-turn (c .before .before .before .before .before .before .before .before .before .before .before .before .before .before .before .before .before .before .before .before .loop .inv .4) (c .before .before .before .before .before .before .before .before .before .before .before .step .ensures) (c .before .before .before .before .before .before .before .before .before .before .before .before .before .before .before .before .before .before .before .loop-test .taken) (c .before .before .answer .given .1) (c .if2 .left),
+)
 
 returns-2 : tie.Need-returns-2 Inv-loop μ-loop
-returns-2 c =
-    fed-refused (c .before .before .before .before .before .before .before .before .before .before .before .before .before .before .before .before .before .loop .i + 1 - 1) (c .before .before .before .before .before .before .before .before .before .before .before .before .before .before .before .before .before .loop .inv .4) (c .before .before .before .before .before .before .before .before .before .before .step .ensures) (c .before .before .before .before .before .before .before .before .before .before .before .before .before .before .before .before .loop-test .taken) (c .before .answer2 .given .1) (omega arith)
+returns-2 c = fed-refused (c .before .before .before .before .before .before .before .before .before .before .before .before .before .before .before .before .before .before .before .loop .i + 1 - 1) (c .before .before .before .before .before .before .before .before .before .before .before .before .before .before .before .before .before .before .before .loop .inv .4) (c .before .before .before .before .before .before .before .before .before .before .step .ensures) (c .before .before .before .before .before .before .before .before .before .before .before .before .before .before .before .before .before .before .loop-test .taken) (c .before .answer2 .given .1) (omega arith)
 
 returns-3 : tie.Need-returns-3 Inv-loop μ-loop
 returns-3 c = fed-end (c .before .before .loop .inv .4) (c .before .loop-test .left)
@@ -54,6 +89,15 @@ feed-spec =
     μ-loop
     loop-holds
     (λ c. omega arith)
+    (λ c κs. search needs)
+    add-end
+    sub-stretched
+    part-stretched-start
+    part-stretched-end
+    stretched-requires
+    loop-less
+    loop-again
+    (λ c. omega arith)
     (λ c. omega arith)
     (λ c κs. search needs)
     (λ c. search needs)
@@ -62,7 +106,7 @@ feed-spec =
     (λ c. search needs)
     returns
     (λ c. omega arith)
-    loop-again
+    loop-again-2
     (λ c. search needs)
     (λ c. omega arith)
     (λ c. search needs)

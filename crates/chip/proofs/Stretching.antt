@@ -1,0 +1,275 @@
+-- A stretch of bytes that are only added to what is collected: each is a step that answers nothing, and the verdict on the next call stays accepted.
+-- Assumes nothing.
+use mathlib.Core.Bool.{Bool, false, not, true}
+use mathlib.Core.List.{List, [], _++_, _∷_, append-nil}
+use mathlib.Core.Path.{_∙_, _≡_, ap, refl, subst, sym}
+use Prim.Native.Nat.{_+_, _-_, _<_, _≤_, suc, zero, ℕ}
+use native.Mathlib.Numerals.{add-one}
+use native.Mathlib.Omega.{arith}
+use lib.Dec.{eqb, leb, ltb}
+use lib.ListN.{drop, getD, length, length-set, set, take, take-append-drop}
+use lib.Seq.{append-snoc, drop-cons, drop-set-lt, getD-set-other, take-suc-set}
+use borrow.Author.Tests.{eqb-true, le-leb, le-ltb, leb-true, lt-leb, lt-ltb, ltb-false, ltb-true, ne-eqb}
+use Rattle.chip.proofs.Feeding.{FedFrom, fed-turn}
+use Rattle.chip.proofs.Settling.{accepts, at-byte, hears-settles, state-collected, step-accepted}
+use Rattle.chip.specs.Run.{Feeding, before, feedFrom}
+use Rattle.chip.specs.Step.{Outcome, byteIn, goodBegun, goodCollected, goodState, stepOf, verdictOf}
+use Rattle.chip.specs.declared.Chip.{Chip}
+use Rattle.chip.specs.declared.Event.the-variants.{Byte}
+use Rattle.chip.specs.declared.events.Way.the-variants.{Hears}
+use Rattle.chip.specs.inner.Ways.{completesAt, lackingOf, plainOf, stretchOf, stretchedBy, wayOf, wayOn}
+use Rattle.effect.specs.Effect.{Flash}
+use Rattle.effect.specs.declared.Core.{Core}
+use Rattle.effect.specs.declared.Phase.{Phase}
+use Rattle.effect.specs.declared.Phase.the-variants.{Awaiting, ModeByte, Ready, Setup}
+use Rattle.frame.proofs.Laws.Collector.{byte-added, complete-within, lacking}
+use Rattle.frame.proofs.Laws.Frame.{full-not}
+use Rattle.frame.specs.Collector.{byteOf, heard}
+use Rattle.frame.specs.Frame.{complete, counted, full, headerByte}
+use Rattle.frame.specs.declared.Header.{Header}
+use Rattle.frame.specs.declared.Header.the-variants.{Command, Data}
+use Rattle.frame.specs.declared.collector.Collector.{Collector}
+use Rattle.frame.specs.inner.Collector.{stored}
+use Rattle.lent.proofs.Laws.{put-lands}
+use Rattle.lent.specs.Lent.{Left, left, putAt, putOf}
+use Rattle.lent.specs.declared.Room.{Room}
+use Rattle.part.specs.Part.{described, size}
+use Rattle.part.specs.Refusal.{_when_, firstOf}
+use Rattle.part.specs.declared.Area.the-variants.{CodeFlash, DataFlash}
+use Rattle.part.specs.declared.Part.{Part}
+use Rattle.part.specs.declared.refusal.Refusal.the-variants.{BadPart, BadState, CodeLength, DataLength, ShortRoom}
+use Rattle.part.specs.declared.refusal.Verdict.{Verdict}
+use Rattle.part.specs.declared.refusal.Verdict.the-variants.{Accepted, Barred}
+use Rattle.words.proofs.Laws.{and-both, and-left, and-right, or-right}
+use Rattle.words.specs.Words.{_and_, _or_, if_then_else_}
+
+-- How many bytes: no more than there are, and the frame is not complete after them.
+pub record Lacks (count len rest n : ℕ) : Type 0 where
+  pub begun : 2 ≤ count
+  pub short : count + n ≤ counted len + 3
+  pub there : n ≤ rest
+
+pub lacks : (count len rest n : ℕ) → n ≡ lackingOf count len rest → 0 < n → Lacks count len rest n
+unfolding lackingOf if_then_else_
+lacks count len rest n e h = go (leb 2 count) refl (ltb rest (counted len + 3 - count)) refl e
+  where
+    go : (t : Bool) → leb 2 count ≡ t → (u : Bool) → ltb rest (counted len + 3 - count) ≡ u
+        → n ≡ (if t then (if u then rest else counted len + 3 - count) else 0) → Lacks count len rest n
+    go false t u v e = absurd (omega arith)
+    go true t true v e = record { begun = leb-true _ _ t; short = omega (arith, ltb-true rest (counted len + 3 - count) v); there = omega arith }
+    go true t false v e = record { begun = leb-true _ _ t; short = omega arith; there = omega (arith, ltb-false rest (counted len + 3 - count) v) }
+
+pub stretch-accepted : (v : Verdict) (n k : ℕ) → k ≡ stretchOf v n → 0 < k → (v ≡ Accepted) × (k ≡ n)
+unfolding stretchOf
+stretch-accepted Accepted n k e h = (refl, e)
+stretch-accepted (Barred r) n k e h = absurd (omega arith)
+
+-- What a stretch that is not empty may rely on.
+pub record Plain (p : Part) (c : Chip) (code extra room rest n : ℕ) : Type 0 where
+  pub accepted : verdictOf p (c .core) (c .collector .len) (getD (c .collector .bytes) 0 0) (getD (c .collector .bytes) 1 0) code extra room ≡ Accepted
+  pub lacks : Lacks (c .collector .len) (getD (c .collector .bytes) 1 0) rest n
+
+pub plain-is : (p : Part) (c : Chip) (code extra room rest n : ℕ) → n ≡ plainOf p c code extra room rest → 0 < n → Plain p c code extra room rest n
+unfolding plainOf if_then_else_
+plain-is p c code extra room rest n e h = go (eqb n′ 0) e
+  where
+    n′ : ℕ
+    n′ = lackingOf (c .collector .len) (getD (c .collector .bytes) 1 0) rest
+
+    v : Verdict
+    v = verdictOf p (c .core) (c .collector .len) (getD (c .collector .bytes) 0 0) (getD (c .collector .bytes) 1 0) code extra room
+
+    go : (t : Bool) → n ≡ (if t then 0 else stretchOf v n′) → Plain p c code extra room rest n
+    go true e = absurd (omega arith)
+    go false e =
+        let x = stretch-accepted v n′ n e h in
+        record { accepted = x .0; lacks = lacks (c .collector .len) (getD (c .collector .bytes) 1 0) rest n (x .1) h }
+
+-- The verdict depends on what is collected only by whether the state is good.
+abbrev verdictAt : Part → Chip → Flash → List ℕ → Verdict
+verdictAt p c m room =
+    verdictOf p (c .core) (c .collector .len) (getD (c .collector .bytes) 0 0) (getD (c .collector .bytes) 1 0) (length (m .codeFlash)) (length (m .dataFlash)) (length room)
+
+same-verdict : (p : Part) (k : Core) (n i l j g h code extra room : ℕ) → goodState p k n i l ≡ goodState p k j g h
+    → verdictOf p k n i l code extra room ≡ verdictOf p k j g h code extra room
+unfolding verdictOf
+same-verdict p k n i l j g h code extra room e =
+    ap (λ (t : Bool). firstOf (BadPart when not (described p) ∷ CodeLength when not (eqb code (size p CodeFlash)) ∷ DataLength when not (eqb extra (size p DataFlash)) ∷ BadState when not t ∷ ShortRoom when ltb room 32 ∷ [])) e
+
+-- One byte more than header and LEN, the frame not complete yet.
+more-begun : (h : Header) (n head len : ℕ) → 2 ≤ n → n + 1 < counted len + 4 → counted len ≤ 256 → goodBegun h n head len ≡ true → goodBegun h (n + 1) head len ≡ true
+unfolding goodBegun _or_
+more-begun h n head len k s c e =
+    let z : eqb n 0 ≡ false = ne-eqb n 0 (λ q. omega arith) in
+    let f : ltb n 260 and eqb head (headerByte h) and not (full n len) ≡ true = drop-or z e in
+    let g : eqb head (headerByte h) ≡ true = and-left _ _ (and-right (ltb n 260) _ f) in
+    or-right (eqb (n + 1) 0) (and-both (lt-ltb (n + 1) 260 (omega arith)) (and-both g (ap not (full-not (n + 1) len s))))
+  where
+    drop-or : {t u : Bool} → t ≡ false → t or u ≡ true → u ≡ true
+    drop-or {t} {u} f e = sym (ap (λ (x : Bool). x or u) f) ∙ e
+
+more-collected : (f : Phase) (n head len : ℕ) → 2 ≤ n → n + 1 < counted len + 4 → counted len ≤ 256 → goodCollected f n head len ≡ true
+    → goodCollected f (n + 1) head len ≡ true
+unfolding goodCollected
+more-collected ModeByte n head len k s c e = absurd (let z : n ≡ 0 = eqb-true n 0 e in omega arith)
+more-collected Setup n head len k s c e = more-begun Command n head len k s c e
+more-collected Ready n head len k s c e = more-begun Command n head len k s c e
+more-collected (Awaiting w) n head len k s c e = more-begun Data n head len k s c e
+
+more-good : (p : Part) (k : Core) (n head len : ℕ) → 2 ≤ n → n + 1 < counted len + 4 → counted len ≤ 256 → goodState p k n head len ≡ true
+    → goodState p k (n + 1) head len ≡ true
+unfolding goodState
+more-good p k n head len h s c e = and-both (more-collected (k .phase) n head len h s c (and-left _ _ e)) (and-right (goodCollected (k .phase) n head len) _ e)
+
+-- A byte that is only added: the way of such a byte, in the phase that a good state is in.
+record HeardAs (f : Phase) (n len : ℕ) : Type 0 where
+  header : Header
+  way : wayOf f n len ≡ Hears header
+
+heard-as : (f : Phase) (n head len : ℕ) → 2 ≤ n → n < counted len + 3 → goodCollected f n head len ≡ true → HeardAs f n len
+unfolding wayOf wayOn completesAt goodCollected if_then_else_ _and_
+heard-as ModeByte n head len h s e = absurd (let z : n ≡ 0 = eqb-true n 0 e in omega arith)
+heard-as Setup n head len h s e = record { header = Command; way = simp (le-leb 2 n h, lt-leb (counted len + 3) n s) }
+heard-as Ready n head len h s e = record { header = Command; way = simp (le-leb 2 n h, lt-leb (counted len + 3) n s) }
+heard-as (Awaiting w) n head len h s e = record { header = Data; way = simp (le-leb 2 n h, lt-leb (counted len + 3) n s) }
+
+abbrev after : Chip → ℕ → Chip
+after c b = record { core = c .core; collector = stored (c .collector) b }
+
+module _ (p : Part) (c : Chip) (m : Flash) (room : List ℕ) (places : length (c .collector .bytes) ≡ 260) (small : counted (getD (c .collector .bytes) 1 0) ≤ 256)
+    (accepted : verdictAt p c m room ≡ Accepted) (begun : 2 ≤ c .collector .len) (short : c .collector .len < counted (getD (c .collector .bytes) 1 0) + 3) where
+  good : goodState p (c .core) (c .collector .len) (getD (c .collector .bytes) 0 0) (getD (c .collector .bytes) 1 0) ≡ true
+  good = accepts _ _ _ _ _ _ _ _ accepted .state
+
+  pub byte-heard : (b : ℕ) → before (after c b) m room ≡ stepOf p c (Byte b) m room
+  byte-heard b =
+      let a = accepts _ _ _ _ _ _ _ _ accepted in
+      let w = heard-as (c .core .phase) (c .collector .len) (getD (c .collector .bytes) 0 0) (getD (c .collector .bytes) 1 0) begun short (state-collected p (c .core) (c .collector .len) (getD (c .collector .bytes) 0 0) (getD (c .collector .bytes) 1 0) (c .core .phase) good refl) in
+      let lacking : complete (heard (c .collector)) ≡ false = complete-within (c .collector) places (omega arith) ∙ full-not _ _ (omega arith) in
+      let added : stored (c .collector) b ≡ byteOf (c .collector) (w .header) b = byte-added (c .collector) (w .header) b (λ z. omega arith) places (omega arith) lacking in
+      step-accepted (before (after c b) m room) (byteIn (c .core .phase) p (c .core) (heard (c .collector)) b m) p c (Byte b) (Byte b) m room accepted refl (at-byte p (c .core) (heard (c .collector)) b m)
+      (hears-settles p (c .collector) (stored (c .collector) b) (c .core) (w .header) b m room places a (w .way) added)
+
+  stored-at : (i b : ℕ) → i < 2 → getD (stored (c .collector) b .bytes) i 0 ≡ getD (c .collector .bytes) i 0
+  unfolding stored
+  stored-at i b h = getD-set-other (c .collector .bytes) (c .collector .len) i b 0 (λ e. omega arith)
+
+  pub still-accepted : (b : ℕ) → verdictAt p (after c b) m room ≡ Accepted
+  unfolding stored
+  still-accepted b =
+      let g = more-good p (c .core) (c .collector .len) (getD (c .collector .bytes) 0 0) (getD (c .collector .bytes) 1 0) begun (omega arith) small good in
+      ap (λ (x : ℕ). verdictOf p (c .core) (c .collector .len + 1) x (getD (stored (c .collector) b .bytes) 1 0) (length (m .codeFlash)) (length (m .dataFlash)) (length room)) (stored-at 0 b (omega arith))
+      ∙ ap (λ (x : ℕ). verdictOf p (c .core) (c .collector .len + 1) (getD (c .collector .bytes) 0 0) x (length (m .codeFlash)) (length (m .dataFlash)) (length room)) (stored-at 1 b (omega arith))
+      ∙ same-verdict p (c .core) (c .collector .len + 1) _ _ (c .collector .len) _ _ _ _ _ (g ∙ sym good)
+      ∙ accepted
+
+-- The loop over a stretch: what the bytes still to come make of it stays the same.
+any-answer : {p : Part} {bs : List ℕ} {i : ℕ} {o : Outcome} {t : Feeding} → FedFrom p bs i o t → i < length bs → FedFrom p bs i (before (o .chip) (o .memory) (o .room)) t
+unfolding feedFrom
+any-answer {p} {bs} {i} {o} {t} f h =
+    record { rest = ap (λ (x : List ℕ). feedFrom p i x (before (o .chip) (o .memory) (o .room))) (drop-cons bs i 0 h) ∙ (rw (drop-cons bs i 0 h) at (f .rest)) }
+
+abbrev stretched : Chip → List ℕ → Chip
+stretched c bs = record { core = c .core; collector = stretchedBy (c .collector) bs }
+
+stored-places : (c : Collector) (b : ℕ) → length (stored c b .bytes) ≡ length (c .bytes)
+unfolding stored
+stored-places c b = length-set (c .bytes) (c .len) b
+
+stored-count : (c : Collector) (b : ℕ) → stored c b .len ≡ c .len + 1
+unfolding stored
+stored-count c b = refl
+
+stretch-fed : (p : Part) (bs : List ℕ) (k i : ℕ) (c : Chip) (m : Flash) (room : List ℕ) (t : Feeding) → FedFrom p bs i (before c m room) t
+    → length (c .collector .bytes) ≡ 260 → counted (getD (c .collector .bytes) 1 0) ≤ 256 → verdictAt p c m room ≡ Accepted → 2 ≤ c .collector .len
+    → c .collector .len + k ≤ counted (getD (c .collector .bytes) 1 0) + 3 → i + k ≤ length bs
+    → FedFrom p bs (i + k) (before (stretched c (take k (drop i bs))) m room) t
+unfolding stretchedBy
+stretch-fed p bs zero i c m room t f l s a h n r = subst (λ (j : ℕ). FedFrom p bs j (before c m room) t) (omega arith) f
+stretch-fed p bs (suc k) i c m room t f l s a h n r =
+    let b = getD bs i 0 in
+    let e : before (after c b) m room ≡ stepOf p c (Byte b) m room = byte-heard p c m room l s a h (omega arith) b in
+    let g : FedFrom p bs (i + 1) (before (after c b) m room) t = fed-turn f e (omega arith) refl (omega arith) in
+    let v : verdictAt p (after c b) m room ≡ Accepted = still-accepted p c m room l s a h (omega arith) b in
+    let q : getD (stored (c .collector) b .bytes) 1 0 ≡ getD (c .collector .bytes) 1 0 = stored-at p c m room l s a h (omega arith) 1 b (omega arith) in
+    let w : counted (getD (stored (c .collector) b .bytes) 1 0) ≡ counted (getD (c .collector .bytes) 1 0) = ap counted q in
+    let x : FedFrom p bs (i + 1 + k) (before (stretched (after c b) (take k (drop (i + 1) bs))) m room) t =
+    stretch-fed p bs k (i + 1) (after c b) m room t g (stored-places (c .collector) b ∙ l) (omega arith) v (omega (arith, stored-count (c .collector) b)) (omega (arith, stored-count (c .collector) b, w)) (omega arith) in
+    let y : take (suc k) (drop i bs) ≡ b ∷ take k (drop (i + 1) bs) = rw (drop-cons bs i 0 (omega arith), add-one) in
+    subst (λ (j : ℕ). FedFrom p bs j (before (stretched c (take (suc k) (drop i bs))) m room) t) (omega arith)
+    (subst (λ (z : List ℕ). FedFrom p bs (i + 1 + k) (before (stretched c z) m room) t) (sym y) x)
+
+-- The bytes of a stretch, put at the count, are the bytes stored one by one.
+put-stored : (l s : List ℕ) (at b : ℕ) → at + 1 + length s ≤ length l → putAt (set l at b) (at + 1) s ≡ putAt l at (b ∷ s)
+unfolding putAt
+put-stored l s at b h =
+    let x : take (at + 1) (set l at b) ≡ take at l ++ b ∷ [] = rw add-one (take-suc-set l at b (omega arith)) in
+    let y : drop (at + 1 + length s) (set l at b) ≡ drop (at + 1 + length s) l = drop-set-lt (at + 1 + length s) l at b (omega arith) in
+    let z : at + 1 + length s ≡ at + suc (length s) = omega arith in
+    rw (x, y, z, append-snoc (take at l) b s)
+
+put-none : (l : List ℕ) (at : ℕ) → putAt l at [] ≡ l
+unfolding putAt
+put-none l at =
+    let z : at + 0 ≡ at = omega arith in
+    rw (append-nil, z, take-append-drop)
+
+holds-same : {l k : List ℕ} {n j : ℕ} → l ≡ k → n ≡ j → _≡_ {A = Collector} (record { bytes = l; len = n }) (record { bytes = k; len = j })
+holds-same {l} {k} {n} {j} e f = ap {B = Collector} (λ (x : List ℕ). record { bytes = x; len = n }) e ∙ ap {B = Collector} (λ (x : ℕ). record { bytes = k; len = x }) f
+
+stretch-is : (bytes s : List ℕ) (len : ℕ) → len + length s ≤ length bytes
+    → stretchedBy (record { bytes = bytes; len = len }) s ≡ record { bytes = putAt bytes len s; len = len + length s }
+unfolding stretchedBy stored
+stretch-is bytes [] len h = holds-same (sym (put-none bytes len)) (omega arith)
+stretch-is bytes (b ∷ s) len h =
+    let n : len + 1 + length s ≤ length bytes = omega arith in
+    let m : len + 1 + length s ≤ length (set bytes len b) = rw length-set n in
+    stretch-is (set bytes len b) s (len + 1) m ∙ holds-same (put-stored bytes s len b n) (omega arith)
+
+-- As the code does it.
+pub stretch-put : (c : Collector) (s l : List ℕ) (a : Room) (n : ℕ) → left a l ≡ putOf (c .bytes) (c .len) s → c .len + length s ≤ length (c .bytes) → n ≡ c .len + length s
+    → record { bytes = l; len = n } ≡ stretchedBy c s
+stretch-put c s l a n e h f =
+    let g : l ≡ putAt (c .bytes) (c .len) s = ap (λ (x : Left). x .bytes) (e ∙ put-lands (c .bytes) (c .len) s h) in
+    holds-same g f ∙ sym (stretch-is (c .bytes) s (c .len) h)
+
+the-part : (i k : ℕ) → i + k - i ≡ k
+the-part i k = omega arith
+
+pub part-short : (i k n : ℕ) (bs : List ℕ) → n + k ≤ 259 → n + length (take (i + k - i) (drop i bs)) ≤ 260
+part-short i k n bs h = omega (arith, take-most (i + k - i) (drop i bs), the-part i k)
+  where
+    take-most : (m : ℕ) (l : List ℕ) → length (take m l) ≤ m
+    take-most zero l = omega arith
+    take-most (suc m) [] = omega arith
+    take-most (suc m) (x ∷ xs) = omega (arith, take-most m xs)
+
+-- A turn of the loop that takes a stretch.
+pub fed-stretch : {p : Part} {bs : List ℕ} {i : ℕ} {o : Outcome} {t : Feeding} (k : ℕ) (d : Collector) → FedFrom p bs i o t → length (o .chip .collector .bytes) ≡ 260
+    → counted (getD (o .chip .collector .bytes) 1 0) ≤ 256 → k ≡ plainOf p (o .chip) (length (o .memory .codeFlash)) (length (o .memory .dataFlash)) (length (o .room)) (length bs - i)
+    → 0 < k → i < length bs → d ≡ stretchedBy (o .chip .collector) (take (i + k - i) (drop i bs))
+    → FedFrom p bs (i + k) (before (record { core = o .chip .core; collector = d }) (o .memory) (o .room)) t
+fed-stretch {p} {bs} {i} {o} {t} k d f l s e h q g =
+    let x = plain-is p (o .chip) (length (o .memory .codeFlash)) (length (o .memory .dataFlash)) (length (o .room)) (length bs - i) k e h in
+    subst (λ (z : Collector). FedFrom p bs (i + k) (before (record { core = o .chip .core; collector = z }) (o .memory) (o .room)) t)
+    (sym (g ∙ ap (λ (j : ℕ). stretchedBy (o .chip .collector) (take j (drop i bs))) (the-part i k)))
+    (stretch-fed p bs k i (o .chip) (o .memory) (o .room) t (any-answer f q) l s (x .accepted) (x .lacks .begun) (x .lacks .short) (omega (arith, x .lacks .there)))
+
+-- How many bytes are lacking, by the code's tests; x is what LEN counts.
+pub lacking-early : (count len rest : ℕ) → count < 2 → 0 ≡ lackingOf count len rest
+unfolding lackingOf if_then_else_
+lacking-early count len rest h = simp (lt-leb 2 count h)
+
+pub lacking-none : (x count len rest : ℕ) → x ≡ counted len → 2 ≤ count → x + 3 ≤ count → 0 ≡ lackingOf count len rest
+unfolding lackingOf if_then_else_
+lacking-none x count len rest e h k =
+    let z : counted len + 3 - count ≡ 0 = omega arith in
+    simp (le-leb 2 count h, z, le-ltb rest 0 (omega arith))
+
+pub lacking-rest : (x count len rest : ℕ) → x ≡ counted len → 2 ≤ count → rest < x + 3 - count → rest ≡ lackingOf count len rest
+unfolding lackingOf if_then_else_
+lacking-rest x count len rest e h k = simp (le-leb 2 count h, lt-ltb rest (counted len + 3 - count) (omega arith))
+
+pub lacking-whole : (x count len rest : ℕ) → x ≡ counted len → 2 ≤ count → x + 3 - count ≤ rest → x + 3 - count ≡ lackingOf count len rest
+unfolding lackingOf if_then_else_
+lacking-whole x count len rest e h k = simp (le-leb 2 count h, le-ltb rest (counted len + 3 - count) (omega arith)) (omega arith)

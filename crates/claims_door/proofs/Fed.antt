@@ -1,0 +1,118 @@
+-- A stretch of bytes through the door that is refused takes no byte and changes nothing: from an accepted state no later byte is refused.
+-- Assumes nothing.
+use mathlib.Core.Bool.{true}
+use mathlib.Core.List.{List, [], _∷_}
+use mathlib.Core.Path.{_∙_, _≡_, ap, refl}
+use Prim.Native.Nat.{_+_, ℕ}
+use native.Mathlib.Omega.{arith}
+use lib.Dec.{eqb}
+use lib.ListN.{drop, length, length-drop}
+use lib.Seq.{length-take-le}
+use Rattle.chip.specs.Run.{Feeding, before, fedOn, feedFrom, feedOf, onward}
+use Rattle.chip.specs.Step.{Outcome, Reaction, reactTo, settled, stepOf}
+use Rattle.chip.specs.declared.Answer.{Answer}
+use Rattle.chip.specs.declared.Answer.the-variants.{Refused, Replied}
+use Rattle.chip.specs.declared.Chip.{Chip}
+use Rattle.chip.specs.declared.Event.{Event}
+use Rattle.chip.specs.declared.Event.the-variants.{Byte}
+use Rattle.claims_door.proofs.Back.{written-back}
+use Rattle.claims_door.specs.Kept.{FeedKept}
+use Rattle.claims_good.proofs.Stays.{onward-is, stays}
+use Rattle.claims_good.proofs.Verdict.{accepted}
+use Rattle.claims_good.specs.Good.{Stands, aByte, verdictIn}
+use Rattle.door.proofs.Laws.{Admits, admitted}
+use Rattle.door.specs.Calls.{FeedTold, admission, bytesTold, fedBy, fedThrough, feedTold, framesTold, refusalNumber}
+use Rattle.door.specs.Layout.{chipIn, collectorIn, isState, layoutOf, partOf}
+use Rattle.effect.specs.Effect.{Flash}
+use Rattle.frame.proofs.Laws.Sum.{Below, below-drop, below-take, more}
+use Rattle.frame.specs.Collector.{heard}
+use Rattle.frame.specs.Framing.{frames}
+use Rattle.part.specs.declared.Part.{Part}
+use Rattle.part.specs.declared.refusal.Refusal.{Refusal}
+use Rattle.part.specs.declared.refusal.Verdict.{Verdict}
+use Rattle.part.specs.declared.refusal.Verdict.the-variants.{Accepted, Barred}
+use Rattle.words.proofs.Laws.{if-all}
+
+replied-not-refused : (u : Verdict) (p : Part) (x : Reaction) (c : Chip) (m : Flash) (room : List ℕ) → u ≡ Accepted → refusalNumber (settled u p x c m room .answer) ≡ 0
+unfolding settled refusalNumber
+replied-not-refused Accepted p x c m room e = refl
+replied-not-refused (Barred r) p x c m room e = absurd (let z : _≡_ {A = ℕ} 0 1 = cc in omega arith)
+
+-- From a state that stands, bytes are not refused.
+on-unrefused : (a : Answer) (n : ℕ) (o : Outcome) (rest : Feeding) → a ≡ o .answer → refusalNumber (o .answer) ≡ 0 → refusalNumber (rest .left .answer) ≡ 0
+    → refusalNumber (fedOn a n o rest .left .answer) ≡ 0
+unfolding fedOn
+on-unrefused (Refused r) n o rest e h k = h
+on-unrefused (Replied bytes frames) n o rest e h k = if-all (λ (f : Feeding). refusalNumber (f .left .answer) ≡ 0) (eqb frames 0) (λ t. k) (λ t. h)
+
+feed-unrefused : (p : Part) (n : ℕ) (bs : List ℕ) (o : Outcome) → Stands p o → Below 256 bs → refusalNumber (o .answer) ≡ 0
+    → refusalNumber (feedFrom p n bs o .left .answer) ≡ 0
+unfolding feedFrom
+feed-unrefused p n [] o s b e = e
+feed-unrefused p n (x ∷ xs) o s (more h b) e =
+    let r : refusalNumber (onward p o (Byte x) .answer) ≡ 0 = stepped p o (Byte x) (s .accepted) in
+    on-unrefused (onward p o (Byte x) .answer) n (onward p o (Byte x)) (feedFrom p (n + 1) xs (onward p o (Byte x))) refl r
+    (feed-unrefused p (n + 1) xs (onward p o (Byte x)) (stays p o (Byte x) s (aByte h)) b r)
+  where
+    stepped : (p : Part) (o : Outcome) (v : Event) → verdictIn p o ≡ Accepted → refusalNumber (onward p o v .answer) ≡ 0
+    stepped p o v e =
+        ap (λ (y : Outcome). refusalNumber (y .answer)) (onward-is p o v e)
+        ∙ replied-not-refused Accepted p (reactTo v p (o .chip .core) (heard (o .chip .collector)) (o .memory)) (o .chip) (o .memory) (o .room) refl
+
+feed-fine : (p : Part) (bs : List ℕ) (o : Outcome) → Stands p o → Below 256 bs → o .answer ≡ Replied 0 0 → refusalNumber (feedOf p bs o .left .answer) ≡ 0
+unfolding feedOf refusalNumber
+feed-fine p bs o s b e = feed-unrefused p 0 bs o s b (ap refusalNumber e)
+
+-- What is lent as bytes makes a state that stands, where it is accepted.
+stands : (codes extras clock : ℕ) (names state : List ℕ) (m : Flash) (room : List ℕ) → Below 256 state → length names ≡ 16 → length state ≡ 293
+    → verdictIn (partOf codes extras clock names) (before (chipIn state) m room) ≡ Accepted → Stands (partOf codes extras clock names) (before (chipIn state) m room)
+unfolding partOf chipIn collectorIn
+stands codes extras clock names state m room b n l e =
+    record {
+      accepted = e;
+      places = length-take-le 260 (drop 33 state) (rw length-drop (omega arith));
+      bytes = below-take 256 260 (below-drop 256 33 b);
+      arrays = record {
+        deviceLong = length-take-le 3 names (omega arith);
+        nameLong = length-take-le 10 (drop 3 names) (rw length-drop (omega arith));
+        versionLong = length-take-le 3 (drop 13 names) (rw length-drop (omega arith));
+      };
+    }
+
+abbrev told : Feeding → FeedTold
+told f = feedTold (refusalNumber (f .left .answer)) (f .taken) (bytesTold (f .left .answer)) (framesTold (f .left .answer)) (layoutOf (f .left .chip)) (f .left .memory) (f .left .room)
+
+-- The first byte is refused: none is taken, and the chip is handed back as it was.
+settled-feed : (u : Verdict) (r : Refusal) (p : Part) (x : Reaction) (state : List ℕ) (m : Flash) (room : List ℕ) (rest : Feeding) → Below 256 state → isState state ≡ true
+    → u ≡ Barred r → FeedKept (told (fedOn (settled u p x (chipIn state) m room .answer) 0 (settled u p x (chipIn state) m room) rest)) state m room
+unfolding settled fedOn
+settled-feed (Barred q) r p x state m room rest b e h = record { noneTaken = refl; kept = record { stateStays = written-back state b e; flashStays = refl; roomStays = refl } }
+settled-feed Accepted r p x state m room rest b e h = absurd (let z : _≡_ {A = ℕ} 0 1 = cc in omega arith)
+
+first-refused : (p : Part) (r : Refusal) (bs state : List ℕ) (m : Flash) (room : List ℕ) → Below 256 state → isState state ≡ true
+    → verdictIn p (before (chipIn state) m room) ≡ Barred r → (refusalNumber (feedOf p bs (before (chipIn state) m room) .left .answer) ≡ 0 → ⊥)
+    → FeedKept (told (feedOf p bs (before (chipIn state) m room))) state m room
+unfolding feedOf feedFrom stepOf refusalNumber
+first-refused p r [] state m room b e v h = absurd (h refl)
+first-refused p r (x ∷ xs) state m room b e v h =
+    settled-feed (verdictIn p (before (chipIn state) m room)) r p (reactTo (Byte x) p (chipIn state .core) (heard (chipIn state .collector)) m) state m room _ b e v
+
+fed-kept : (u : Verdict) (codes extras clock : ℕ) (names bs state : List ℕ) (m : Flash) (room : List ℕ) → Below 256 state → Below 256 bs → (u ≡ Accepted → Admits names state)
+    → (fedBy u (partOf codes extras clock names) bs state m room .told .refusal ≡ 0 → ⊥) → FeedKept (fedBy u (partOf codes extras clock names) bs state m room) state m room
+unfolding fedBy
+fed-kept (Barred r) codes extras clock names bs state m room b c a h = record { noneTaken = refl; kept = record { stateStays = refl; flashStays = refl; roomStays = refl } }
+fed-kept Accepted codes extras clock names bs state m room b c a h = go (verdictIn p (before (chipIn state) m room)) refl
+  where
+    p : Part
+    p = partOf codes extras clock names
+
+    go : (v : Verdict) → verdictIn p (before (chipIn state) m room) ≡ v → FeedKept (told (feedOf p bs (before (chipIn state) m room))) state m room
+    go Accepted e = absurd (h (feed-fine p bs (before (chipIn state) m room) (stands codes extras clock names state m room b (a refl .named) (a refl .long) e) c refl))
+    go (Barred r) e = first-refused p r bs state m room b (a refl .held) e h
+
+-- Every stretch, whatever bytes are handed in as the state.
+pub refused-feed-keeps : (codes extras clock : ℕ) (names bs state : List ℕ) (m : Flash) (room : List ℕ) → Below 256 state → Below 256 bs
+    → (fedThrough codes extras clock names bs state m room .told .refusal ≡ 0 → ⊥) → FeedKept (fedThrough codes extras clock names bs state m room) state m room
+unfolding fedThrough
+refused-feed-keeps codes extras clock names bs state m room b c h =
+    fed-kept (admission codes extras clock names state (length (m .codeFlash)) (length (m .dataFlash))) codes extras clock names bs state m room b c (λ e. admitted codes extras clock names state (length (m .codeFlash)) (length (m .dataFlash)) e) h
