@@ -16,7 +16,8 @@
  *     2, 3 the code or the data slice is not 1,024 times the part's blocks
  *     9 the bytes are no state, or none that the document accepts
  *     4 the reply room is under 32 bytes (zc_replay: also output under 192 bytes)
- * After a refusal nothing that was lent has changed, but for the numbers told: they are 0.
+ * After a refusal nothing that was lent has changed, but for the numbers told, which are 0. zc_replay alone can be refused after some records (4, for want of
+ * output): what those did stays, and the numbers count them.
  */
 #ifndef ZC_DOOR_H
 #define ZC_DOOR_H
