@@ -11,11 +11,12 @@ use lib.Seq.{drop-cons, getD-drop, getD-take, length-take-le, take-add, take-all
 use borrow.Author.Tests.{eqb-true, leb-true, ne-eqb}
 use Rattle.chip.specs.declared.Chip.{Chip}
 use Rattle.claims_door.specs.Held.{Held}
-use Rattle.door.specs.Layout.{awaitedIn, awaitedOf, chipIn, collectorIn, headOf, isState, layoutOf, little, numberAt, optionsHeld, phaseIn, phaseNumber}
+use Rattle.door.specs.Layout.{awaitedIn, awaitedOf, chipIn, collectorIn, headOf, isState, layoutOf, optionsHeld, phaseIn, phaseNumber}
 use Rattle.effect.specs.declared.Awaited.{Awaited}
 use Rattle.effect.specs.declared.Phase.{Phase}
 use Rattle.effect.specs.declared.Phase.the-variants.{Awaiting, ModeByte, Ready, Setup}
 use Rattle.frame.proofs.Laws.Sum.{Below, below-at}
+use Rattle.layout.specs.Layout.{little, numberAt}
 use Rattle.lent.specs.Lent.{allAre}
 use Rattle.options.specs.declared.Options.{Options}
 use Rattle.words.proofs.Laws.{and-left, and-right, or-right}

@@ -22,11 +22,13 @@ use Rattle.claims_good.proofs.Verdict.{accepted}
 use Rattle.claims_good.specs.Good.{Stands, aByte, verdictIn}
 use Rattle.door.proofs.Laws.{Admits, admitted}
 use Rattle.door.specs.Calls.{FeedTold, admission, bytesTold, fedBy, fedThrough, feedTold, framesTold, refusalNumber}
-use Rattle.door.specs.Layout.{chipIn, collectorIn, isState, layoutOf, partOf}
+use Rattle.door.specs.Layout.{chipIn, collectorIn, isState, layoutOf}
 use Rattle.effect.specs.Effect.{Flash}
 use Rattle.frame.proofs.Laws.Sum.{Below, below-drop, below-take, more}
 use Rattle.frame.specs.Collector.{heard}
 use Rattle.frame.specs.Framing.{frames}
+use Rattle.layout.proofs.Laws.{part-long}
+use Rattle.layout.specs.Layout.{partOf}
 use Rattle.part.specs.declared.Part.{Part}
 use Rattle.part.specs.declared.refusal.Refusal.{Refusal}
 use Rattle.part.specs.declared.refusal.Verdict.{Verdict}
@@ -64,19 +66,16 @@ unfolding feedOf refusalNumber
 feed-fine p bs o s b e = feed-unrefused p 0 bs o s b (ap refusalNumber e)
 
 -- What is lent as bytes makes a state that stands, where it is accepted.
-stands : (codes extras clock : ℕ) (names state : List ℕ) (m : Flash) (room : List ℕ) → Below 256 state → length names ≡ 16 → length state ≡ 293
+stands : (codes extras clock : ℕ) (names state : List ℕ) (m : Flash) (room : List ℕ) → Below 256 state → length state ≡ 293
     → verdictIn (partOf codes extras clock names) (before (chipIn state) m room) ≡ Accepted → Stands (partOf codes extras clock names) (before (chipIn state) m room)
-unfolding partOf chipIn collectorIn
-stands codes extras clock names state m room b n l e =
+unfolding chipIn collectorIn
+stands codes extras clock names state m room b l e =
+    let a = part-long codes extras clock names in
     record {
       accepted = e;
       places = length-take-le 260 (drop 33 state) (rw length-drop (omega arith));
       bytes = below-take 256 260 (below-drop 256 33 b);
-      arrays = record {
-        deviceLong = length-take-le 3 names (omega arith);
-        nameLong = length-take-le 10 (drop 3 names) (rw length-drop (omega arith));
-        versionLong = length-take-le 3 (drop 13 names) (rw length-drop (omega arith));
-      };
+      arrays = record { deviceLong = a .deviceLong; nameLong = a .nameLong; versionLong = a .versionLong };
     }
 
 abbrev told : Feeding → FeedTold
@@ -97,7 +96,7 @@ first-refused p r [] state m room b e v h = absurd (h refl)
 first-refused p r (x ∷ xs) state m room b e v h =
     settled-feed (verdictIn p (before (chipIn state) m room)) r p (reactTo (Byte x) p (chipIn state .core) (heard (chipIn state .collector)) m) state m room _ b e v
 
-fed-kept : (u : Verdict) (codes extras clock : ℕ) (names bs state : List ℕ) (m : Flash) (room : List ℕ) → Below 256 state → Below 256 bs → (u ≡ Accepted → Admits names state)
+fed-kept : (u : Verdict) (codes extras clock : ℕ) (names bs state : List ℕ) (m : Flash) (room : List ℕ) → Below 256 state → Below 256 bs → (u ≡ Accepted → Admits state)
     → (fedBy u (partOf codes extras clock names) bs state m room .told .refusal ≡ 0 → ⊥) → FeedKept (fedBy u (partOf codes extras clock names) bs state m room) state m room
 unfolding fedBy
 fed-kept (Barred r) codes extras clock names bs state m room b c a h = record { noneTaken = refl; kept = record { stateStays = refl; flashStays = refl; roomStays = refl } }
@@ -107,7 +106,7 @@ fed-kept Accepted codes extras clock names bs state m room b c a h = go (verdict
     p = partOf codes extras clock names
 
     go : (v : Verdict) → verdictIn p (before (chipIn state) m room) ≡ v → FeedKept (told (feedOf p bs (before (chipIn state) m room))) state m room
-    go Accepted e = absurd (h (feed-fine p bs (before (chipIn state) m room) (stands codes extras clock names state m room b (a refl .named) (a refl .long) e) c refl))
+    go Accepted e = absurd (h (feed-fine p bs (before (chipIn state) m room) (stands codes extras clock names state m room b (a refl .long) e) c refl))
     go (Barred r) e = first-refused p r bs state m room b (a refl .held) e h
 
 -- Every stretch, whatever bytes are handed in as the state.

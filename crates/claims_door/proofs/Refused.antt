@@ -11,10 +11,11 @@ use Rattle.claims_door.proofs.Back.{written-back}
 use Rattle.claims_door.specs.Kept.{Kept}
 use Rattle.door.proofs.Laws.{admitted}
 use Rattle.door.specs.Calls.{admission, bytesTold, framesTold, refusalNumber, stepTold, steppedBy, steppedThrough}
-use Rattle.door.specs.Layout.{chipIn, isState, layoutOf, partOf}
+use Rattle.door.specs.Layout.{chipIn, isState, layoutOf}
 use Rattle.effect.specs.Effect.{Flash}
 use Rattle.frame.proofs.Laws.Sum.{Below}
 use Rattle.frame.specs.Collector.{heard}
+use Rattle.layout.specs.Layout.{partOf}
 use Rattle.part.specs.declared.Part.{Part}
 use Rattle.part.specs.declared.refusal.Verdict.{Verdict}
 use Rattle.part.specs.declared.refusal.Verdict.the-variants.{Accepted, Barred}

@@ -1,4 +1,5 @@
 pub mod Outcome
+pub mod Numbers
 pub mod Lent
 pub mod Part
 pub mod Frame

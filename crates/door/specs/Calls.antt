@@ -10,8 +10,9 @@ use Rattle.chip.specs.declared.Answer.{Answer}
 use Rattle.chip.specs.declared.Answer.the-variants.{Refused, Replied}
 use Rattle.chip.specs.declared.Chip.{Chip}
 use Rattle.chip.specs.declared.Event.{Event}
-use Rattle.door.specs.Layout.{chipIn, isState, layoutOf, namesSize, partOf, stateSize}
+use Rattle.door.specs.Layout.{chipIn, isState, layoutOf, stateSize}
 use Rattle.effect.specs.Effect.{Flash}
+use Rattle.layout.specs.Layout.{partOf}
 use Rattle.part.specs.Part.{described, size}
 use Rattle.part.specs.Refusal.{_when_, firstOf, number}
 use Rattle.part.specs.declared.Area.the-variants.{CodeFlash, DataFlash}
@@ -24,13 +25,12 @@ use Rattle.records.specs.declared.Ended.{Ended}
 use Rattle.records.specs.declared.Ended.the-variants.{AtBadRecord, Halted, Whole}
 use Rattle.words.specs.Words.{if_then_else_}
 
--- "Order for the chip: 1, 2, 3, 9, 4": what bars a call before the chip is asked. Sixteen bytes belong to a description; bytes that are no state are 9.
+-- "Order for the chip: 1, 2, 3, 9, 4": what bars a call before the chip is asked. Names that are not sixteen bytes describe no part; bytes that are no state are 9.
 unfoldable pub admission : ℕ → ℕ → ℕ → List ℕ → List ℕ → ℕ → ℕ → Verdict
 admission codes extras clock names state code extra =
     let p = partOf codes extras clock names in
     firstOf
-    (BadPart when not (eqb (length names) namesSize)
-    ∷ BadPart when not (described p)
+    (BadPart when not (described p)
     ∷ CodeLength when not (eqb code (size p CodeFlash))
     ∷ DataLength when not (eqb extra (size p DataFlash))
     ∷ BadState when not (isState state)
@@ -63,8 +63,8 @@ madeBy (Replied bytes frames) c state = if eqb (length state) stateSize then mad
 
 unfoldable pub freshThrough : ℕ → ℕ → ℕ → List ℕ → List ℕ → Made
 freshThrough codes extras clock names state =
-    if eqb (length names) namesSize then madeBy (freshOf (partOf codes extras clock names) .answer) (freshOf (partOf codes extras clock names) .chip) state
-    else made (number BadPart) state
+    let f = freshOf (partOf codes extras clock names) in
+    madeBy (f .answer) (f .chip) state
 
 -- One event.
 pub record StepTold : Type 0 where

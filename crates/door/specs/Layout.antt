@@ -1,8 +1,7 @@
--- How a part and a chip's state cross the door as bytes: one layout of 293 bytes for a state. Numbers of more than one byte travel low byte first, as the
--- document's do.
+-- How a chip's state crosses the door as bytes: one layout of 293 bytes. Numbers and parts cross as the crate `layout` says.
 use mathlib.Core.Bool.{Bool}
 use mathlib.Core.List.{List, [], _++_, _∷_}
-use Prim.Native.Nat.{_%_, _*_, _+_, _/_, suc, zero, ℕ}
+use Prim.Native.Nat.{_%_, _/_, ℕ}
 use lib.Dec.{eqb}
 use lib.ListN.{drop, getD, length, take}
 use Rattle.chip.specs.declared.Chip.{Chip}
@@ -10,34 +9,10 @@ use Rattle.effect.specs.declared.Awaited.{Awaited}
 use Rattle.effect.specs.declared.Phase.{Phase}
 use Rattle.effect.specs.declared.Phase.the-variants.{Awaiting, ModeByte, Ready, Setup}
 use Rattle.frame.specs.declared.collector.Collector.{Collector}
+use Rattle.layout.specs.Layout.{little, numberAt}
 use Rattle.lent.specs.Lent.{allAre}
 use Rattle.options.specs.declared.Options.{Options}
-use Rattle.part.specs.declared.Part.{Part}
 use Rattle.words.specs.Words.{_and_, _from_to_, _or_, if_then_else_}
-
--- A part: three numbers, and sixteen bytes. "The description also holds device code (3 bytes), name (10), firmware version (3)."
-abbrev pub namesSize : ℕ
-namesSize = 16
-
-unfoldable pub partOf : ℕ → ℕ → ℕ → List ℕ → Part
-partOf code extra clock names =
-    record {
-      «code_blocks» = code;
-      «data_blocks» = extra;
-      clock = clock;
-      device = take 3 names;
-      name = take 10 (drop 3 names);
-      version = take 3 (drop 13 names);
-    }
-
--- A number in k bytes, and the number that k bytes from a place on are.
-unfoldable pub little : ℕ → ℕ → List ℕ
-little zero n = []
-little (suc k) n = n % 256 ∷ little k (n / 256)
-
-unfoldable pub numberAt : ℕ → ℕ → List ℕ → ℕ
-numberAt zero at bs = 0
-numberAt (suc k) at bs = getD bs at 0 + 256 * numberAt k (at + 1) bs
 
 -- The phases by the document's numbers, 1 to 4. Only phase 4 awaits: in the others command, next and last address are 0.
 abbrev pub phaseNumber : Phase → ℕ

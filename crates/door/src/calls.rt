@@ -24,21 +24,18 @@ fn admit(
 ) -> Verdict
     ensures { λ r. ⌜ r ≡ admission «code_blocks» «data_blocks» clock (now (names .entry)) (now (state .entry)) code «data» ⌝ }
 {
-    if names.len() == 16 {
-        let part = super::part_of(code_blocks, data_blocks, clock, names);
-        if part.is_described() {
-            if code == part.size(Area::CodeFlash) {
-                if data == part.size(Area::DataFlash) {
-                    if super::is_state(state) {
-                        return Verdict::Accepted;
-                    }
-                    return Verdict::Barred(Refusal::BadState);
+    let part = layout::part_of(code_blocks, data_blocks, clock, names);
+    if part.is_described() {
+        if code == part.size(Area::CodeFlash) {
+            if data == part.size(Area::DataFlash) {
+                if super::is_state(state) {
+                    return Verdict::Accepted;
                 }
-                return Verdict::Barred(Refusal::DataLength);
+                return Verdict::Barred(Refusal::BadState);
             }
-            return Verdict::Barred(Refusal::CodeLength);
+            return Verdict::Barred(Refusal::DataLength);
         }
-        return Verdict::Barred(Refusal::BadPart);
+        return Verdict::Barred(Refusal::CodeLength);
     }
     Verdict::Barred(Refusal::BadPart)
 }
@@ -100,27 +97,22 @@ pub extern "C" fn zc_fresh(
 ) -> u32
     ensures { λ r. ⌜ made r (now (state .exit)) ≡ freshThrough «code_blocks» «data_blocks» clock (now (names .entry)) (now (state .entry)) ⌝ }
 {
-    if names.len() == 16 {
-        let part = super::part_of(code_blocks, data_blocks, clock, names);
-        let step = events::fresh(part);
-        let answer = step.answer;
-        match answer {
-            Answer::Replied {
-                bytes: n,
-                frames: k,
-            } => {
-                if state.len() == 293 {
-                    super::lay(step.chip, state);
-                    return 0;
-                }
-                return 9;
+    let part = layout::part_of(code_blocks, data_blocks, clock, names);
+    let step = events::fresh(part);
+    let answer = step.answer;
+    match answer {
+        Answer::Replied {
+            bytes: n,
+            frames: k,
+        } => {
+            if state.len() == 293 {
+                super::lay(step.chip, state);
+                return 0;
             }
-            Answer::Refused(refusal) => {
-                return refusal.number() as u32;
-            }
+            9
         }
+        Answer::Refused(refusal) => refusal.number() as u32,
     }
-    1
 }
 
 fn step(
@@ -154,7 +146,7 @@ fn step(
             refusal.number() as u32
         }
         Verdict::Accepted => {
-            let part = super::part_of(code_blocks, data_blocks, clock, names);
+            let part = layout::part_of(code_blocks, data_blocks, clock, names);
             let chip = super::chip_in(state);
             let s = events::step(part, chip, event, code, data, room);
             let answer = s.answer;
@@ -295,7 +287,7 @@ pub extern "C" fn zc_feed(
             refusal.number() as u32
         }
         Verdict::Accepted => {
-            let part = super::part_of(code_blocks, data_blocks, clock, names);
+            let part = layout::part_of(code_blocks, data_blocks, clock, names);
             let chip = super::chip_in(state);
             let f = events::feed(part, chip, fed, code, data, room);
             let answer = f.answer;
@@ -344,7 +336,7 @@ pub extern "C" fn zc_replay(
             refusal.number() as u32
         }
         Verdict::Accepted => {
-            let part = super::part_of(code_blocks, data_blocks, clock, names);
+            let part = layout::part_of(code_blocks, data_blocks, clock, names);
             let chip = super::chip_in(state);
             let x = records::replay(part, chip, capture, code, data, room, output);
             let ended = x.ended;

@@ -1,96 +1,16 @@
-// How a part and a chip's state cross the door as bytes: one layout, read and written here alone. The calls for C and Rust stand in `calls`.
+// How a chip's state crosses the door as bytes: one layout, read and written here alone. The calls for C and Rust stand in `calls`.
 ghost use mathlib.Core.Path.{_≡_};
-ghost use Prim.Native.Nat.{_+_, _≤_};
 ghost use lib.ListN.{drop, length, take};
 ghost use Rattle.lent.specs.Lent.{allAre};
-ghost use Rattle.door.specs.Layout.{awaitedIn, awaitedOf, chipIn, collectorIn, optionsHeld, headOf, isState, layoutOf, little, namesSize, numberAt, partOf, phaseIn, phaseNumber, stateSize};
+ghost use Rattle.door.specs.Layout.{awaitedIn, awaitedOf, chipIn, collectorIn, optionsHeld, headOf, isState, layoutOf, phaseIn, phaseNumber, stateSize};
 use chip::Chip;
 use effect::Awaited;
 use effect::Core;
 use effect::Phase;
 use frame::collector::Collector;
 use options::Options;
-use part::Part;
 
 pub mod calls;
-
-fn wide(b: u8) -> usize
-    ensures { λ r. ⌜ (r ≡ b) × (r ≤ 255) ⌝ }
-{
-    b as usize
-}
-
-fn number2(bytes: &[u8], at: usize) -> u16
-    requires { ⌜ at + 2 ≤ length (now bytes) ⌝ }
-    ensures { λ r. ⌜ r ≡ numberAt 2 at (now (bytes .entry)) ⌝ }
-{
-    let low = wide(bytes[at]);
-    let high = wide(bytes[at + 1]);
-    (low + 256 * high) as u16
-}
-
-fn number4(bytes: &[u8], at: usize) -> usize
-    requires { ⌜ at + 4 ≤ length (now bytes) ⌝ }
-    ensures { λ r. ⌜ (r ≡ numberAt 4 at (now (bytes .entry))) × (r ≤ 4294967295) ⌝ }
-{
-    let a = wide(bytes[at]);
-    let b = wide(bytes[at + 1]);
-    let c = wide(bytes[at + 2]);
-    let d = wide(bytes[at + 3]);
-    a + 256 * b + 65536 * c + 16777216 * d
-}
-
-fn number8(bytes: &[u8], at: usize) -> usize
-    requires { ⌜ at + 8 ≤ length (now bytes) ⌝ }
-    ensures { λ r. ⌜ r ≡ numberAt 8 at (now (bytes .entry)) ⌝ }
-{
-    let low = number4(bytes, at);
-    let high = number4(bytes, at + 4);
-    low + 4294967296 * high
-}
-
-fn little8(n: usize) -> [u8; 8]
-    ensures { λ r. ⌜ r ≡ little 8 n ⌝ }
-{
-    let n1 = n / 256;
-    let n2 = n1 / 256;
-    let n3 = n2 / 256;
-    let n4 = n3 / 256;
-    let n5 = n4 / 256;
-    let n6 = n5 / 256;
-    let n7 = n6 / 256;
-    [
-        (n % 256) as u8,
-        (n1 % 256) as u8,
-        (n2 % 256) as u8,
-        (n3 % 256) as u8,
-        (n4 % 256) as u8,
-        (n5 % 256) as u8,
-        (n6 % 256) as u8,
-        (n7 % 256) as u8,
-    ]
-}
-
-// The description of a part: its numbers, and device code, name and version one after the other.
-fn part_of(code_blocks: u32, data_blocks: u32, clock: u32, names: &[u8]) -> Part
-    requires { ⌜ length (now names) ≡ namesSize ⌝ }
-    ensures { λ r. ⌜ r ≡ partOf «code_blocks» «data_blocks» clock (now (names .entry)) ⌝ }
-{
-    let mut device = [0u8; 3];
-    let mut name = [0u8; 10];
-    let mut version = [0u8; 3];
-    lent::put(&mut device, 0, &names[0..3]);
-    lent::put(&mut name, 0, &names[3..13]);
-    lent::put(&mut version, 0, &names[13..16]);
-    Part {
-        code_blocks,
-        data_blocks,
-        clock,
-        device,
-        name,
-        version,
-    }
-}
 
 // Whether nothing is said to be awaited.
 fn is_nothing_awaited(state: &[u8]) -> bool
@@ -138,8 +58,8 @@ fn awaited_in(state: &[u8]) -> Awaited
     requires { ⌜ length (now state) ≡ stateSize ⌝ }
     ensures { λ r. ⌜ r ≡ awaitedIn (now (state .entry)) ⌝ }
 {
-    let next = number8(state, 9);
-    let last = number8(state, 17);
+    let next = layout::number8(state, 9);
+    let last = layout::number8(state, 17);
     Awaited {
         command: state[8],
         next,
@@ -151,8 +71,8 @@ fn options_in(state: &[u8]) -> Options
     requires { ⌜ length (now state) ≡ stateSize ⌝ }
     ensures { λ r. ⌜ r ≡ optionsHeld (now (state .entry)) ⌝ }
 {
-    let start = number2(state, 2);
-    let end = number2(state, 4);
+    let start = layout::number2(state, 2);
+    let end = layout::number2(state, 4);
     Options {
         flags: state[0],
         boot: state[1],
@@ -165,7 +85,7 @@ fn collector_in(state: &[u8]) -> Collector
     requires { ⌜ length (now state) ≡ stateSize ⌝ }
     ensures { λ r. ⌜ r ≡ collectorIn (now (state .entry)) ⌝ }
 {
-    let len = number8(state, 25);
+    let len = layout::number8(state, 25);
     let mut bytes = [0u8; 260];
     lent::put(&mut bytes, 0, &state[33..293]);
     Collector { bytes, len }
@@ -252,9 +172,9 @@ fn lay(chip: Chip, state: &mut [u8])
     let awaited = awaited_of(phase);
     let options = core.options;
     let first = head(options, core.rate, phase_number(phase), awaited.command);
-    let next = little8(awaited.next);
-    let last = little8(awaited.last);
-    let count = little8(collector.len);
+    let next = layout::little8(awaited.next);
+    let last = layout::little8(awaited.last);
+    let count = layout::little8(collector.len);
     let bytes = collector.bytes;
     lent::put(state, 0, &first);
     lent::put(state, 9, &next);

@@ -1,7 +1,7 @@
 -- `door::collector_in` meets its contract: 260 bytes put into an array of 260 are the array.
 -- Assumes nothing.
 use borrow.Author.Needs.{needs}
-use Rattle.door.proofs.Laws.{put-whole}
+use Rattle.layout.proofs.Laws.{put-whole}
 use Rattle.door.specs.Layout.{collectorIn}
 use Rattle.door.proofs.collector_in.Statement.{statement}
 use Rattle.door.proofs.collector_in.Tie as tie

@@ -7,9 +7,6 @@ use Rattle.door.specs.Calls.{replayedBy, replayedThrough}
 use Rattle.door.proofs.calls.zc_replay.Statement.{statement}
 use Rattle.door.proofs.calls.zc_replay.Tie as tie
 
-part-of-requires : tie.Need-part-of-requires
-part-of-requires c κs = admitted _ _ _ _ _ _ _ (sym (c .before .before .admit .ensures) ∙ c .enum-told .given .1) .named
-
 chip-in-requires : tie.Need-chip-in-requires
 chip-in-requires c κs = admitted _ _ _ _ _ _ _ (sym (c .before .before .before .before .admit .ensures) ∙ c .before .before .enum-told .given .1) .long
 
@@ -33,7 +30,7 @@ zc-replay-spec =
     (λ c κs. search needs)
     (λ c. search needs)
     (λ c. search needs)
-    part-of-requires
+    (λ c κs. search needs)
     chip-in-requires
     (λ c κs. search needs)
     lay-requires

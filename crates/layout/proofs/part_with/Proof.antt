@@ -1,18 +1,18 @@
--- `door::part_of` meets its contract: each stretch of the names, put into an array of its length, is the array.
+-- `layout::part_with` meets its contract: each stretch of the names, put into an array of its length, is the array.
 -- Assumes nothing.
+use Rattle.layout.proofs.Laws.{put-whole}
+use Rattle.layout.specs.Layout.{partWith}
 use borrow.Author.Needs.{needs}
-use Rattle.door.proofs.Laws.{put-whole}
-use Rattle.door.specs.Layout.{partOf}
-use Rattle.door.proofs.part_of.Statement.{statement}
-use Rattle.door.proofs.part_of.Tie as tie
+use Rattle.layout.proofs.part_with.Statement.{statement}
+use Rattle.layout.proofs.part_with.Tie as tie
 
 returns : tie.Need-returns
-unfolding partOf
+unfolding partWith
 returns c =
     rw (put-whole _ _ _ _ (c .before .before .before .before .before .before .before .before .before .put .ensures) (search needs), put-whole _ _ _ _ (c .before .before .before .before .before .put2 .ensures) (search needs), put-whole _ _ _ _ (c .before .put3 .ensures) (search needs))
 
-pub part-of-spec : {M : Type 1} → statement M
-part-of-spec =
+pub part-with-spec : {M : Type 1} → statement M
+part-with-spec =
     tie.close
     (tie.spec
     (λ c. search needs)

@@ -1,10 +1,10 @@
--- `door::little8` meets its contract: eight bytes, the lowest first.
+-- `layout::little8` meets its contract: the lowest byte first.
 -- Assumes nothing.
 use mathlib.Core.Path.{refl}
+use Rattle.layout.specs.Layout.{little}
 use borrow.Author.Needs.{needs}
-use Rattle.door.specs.Layout.{little}
-use Rattle.door.proofs.little8.Statement.{statement}
-use Rattle.door.proofs.little8.Tie as tie
+use Rattle.layout.proofs.little8.Statement.{statement}
+use Rattle.layout.proofs.little8.Tie as tie
 
 returns : tie.Need-returns
 unfolding little

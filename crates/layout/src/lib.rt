@@ -1,0 +1,139 @@
+// How numbers and a part cross the door as bytes, read and written here alone: low byte first. The states' layouts stand in `door` and `dock_door`.
+ghost use mathlib.Core.Path.{_≡_};
+ghost use Prim.Native.Nat.{_≤_};
+ghost use lib.ListN.{length};
+ghost use Rattle.layout.specs.Layout.{little, namesSize, numberAt, partOf, partWith};
+use part::Part;
+
+fn wide(b: u8) -> u32
+    ensures { λ r. ⌜ (r ≡ b) × (r ≤ 255) ⌝ }
+{
+    b as u32
+}
+
+fn first2(bytes: &[u8]) -> u16
+    ensures { λ r. ⌜ r ≡ numberAt 2 0 (now (bytes .entry)) ⌝ }
+{
+    let low = wide(lent::byte_at(bytes, 0));
+    let high = wide(lent::byte_at(bytes, 1));
+    (low + 256 * high) as u16
+}
+
+fn first4(bytes: &[u8]) -> u32
+    ensures { λ r. ⌜ r ≡ numberAt 4 0 (now (bytes .entry)) ⌝ }
+{
+    let a = wide(lent::byte_at(bytes, 0));
+    let b = wide(lent::byte_at(bytes, 1));
+    let c = wide(lent::byte_at(bytes, 2));
+    let d = wide(lent::byte_at(bytes, 3));
+    a + 256 * b + 65536 * c + 16777216 * d
+}
+
+fn first8(bytes: &[u8]) -> usize
+    ensures { λ r. ⌜ r ≡ numberAt 8 0 (now (bytes .entry)) ⌝ }
+{
+    let low = number4(bytes, 0);
+    let high = number4(bytes, 4);
+    (low as usize) + 4294967296 * (high as usize)
+}
+
+// The number that two, four or eight bytes from a place on are; bytes that are not there count as 0.
+pub fn number2(bytes: &[u8], at: usize) -> u16
+    ensures { λ r. ⌜ r ≡ numberAt 2 at (now (bytes .entry)) ⌝ }
+{
+    if at < bytes.len() {
+        return first2(&bytes[at..]);
+    }
+    0
+}
+
+pub fn number4(bytes: &[u8], at: usize) -> u32
+    ensures { λ r. ⌜ r ≡ numberAt 4 at (now (bytes .entry)) ⌝ }
+{
+    if at < bytes.len() {
+        return first4(&bytes[at..]);
+    }
+    0
+}
+
+pub fn number8(bytes: &[u8], at: usize) -> usize
+    ensures { λ r. ⌜ r ≡ numberAt 8 at (now (bytes .entry)) ⌝ }
+{
+    if at < bytes.len() {
+        return first8(&bytes[at..]);
+    }
+    0
+}
+
+pub fn little4(n: u32) -> [u8; 4]
+    ensures { λ r. ⌜ r ≡ little 4 n ⌝ }
+{
+    let n1 = n / 256;
+    let n2 = n1 / 256;
+    let n3 = n2 / 256;
+    [
+        (n % 256) as u8,
+        (n1 % 256) as u8,
+        (n2 % 256) as u8,
+        (n3 % 256) as u8,
+    ]
+}
+
+pub fn little8(n: usize) -> [u8; 8]
+    ensures { λ r. ⌜ r ≡ little 8 n ⌝ }
+{
+    let n1 = n / 256;
+    let n2 = n1 / 256;
+    let n3 = n2 / 256;
+    let n4 = n3 / 256;
+    let n5 = n4 / 256;
+    let n6 = n5 / 256;
+    let n7 = n6 / 256;
+    [
+        (n % 256) as u8,
+        (n1 % 256) as u8,
+        (n2 % 256) as u8,
+        (n3 % 256) as u8,
+        (n4 % 256) as u8,
+        (n5 % 256) as u8,
+        (n6 % 256) as u8,
+        (n7 % 256) as u8,
+    ]
+}
+
+fn part_with(code_blocks: u32, data_blocks: u32, clock: u32, names: &[u8]) -> Part
+    requires { ⌜ length (now names) ≡ namesSize ⌝ }
+    ensures { λ r. ⌜ r ≡ partWith «code_blocks» «data_blocks» clock (now (names .entry)) ⌝ }
+{
+    let mut device = [0u8; 3];
+    let mut name = [0u8; 10];
+    let mut version = [0u8; 3];
+    lent::put(&mut device, 0, &names[0..3]);
+    lent::put(&mut name, 0, &names[3..13]);
+    lent::put(&mut version, 0, &names[13..16]);
+    Part {
+        code_blocks,
+        data_blocks,
+        clock,
+        device,
+        name,
+        version,
+    }
+}
+
+// The description of a part: its numbers, and device code, name and version one after the other; none that is accepted where these are not sixteen bytes.
+pub fn part_of(code_blocks: u32, data_blocks: u32, clock: u32, names: &[u8]) -> Part
+    ensures { λ r. ⌜ r ≡ partOf «code_blocks» «data_blocks» clock (now (names .entry)) ⌝ }
+{
+    if names.len() == 16 {
+        return part_with(code_blocks, data_blocks, clock, names);
+    }
+    Part {
+        code_blocks: 0,
+        data_blocks: 0,
+        clock: 0,
+        device: [0u8; 3],
+        name: [0u8; 10],
+        version: [0u8; 3],
+    }
+}
