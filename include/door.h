@@ -1,8 +1,8 @@
-/* The proved chip for programs in C: document 01's software chip behind six calls.
+/* The proved chip and the proved dock for programs in C: document 01's software chip behind six calls, and its dock behind four.
  *
  * Every call is total: no argument makes it undefined, as long as each pointer points to as many bytes as the length after it says, nothing that is lent to
- * be changed overlaps anything else, and the pointers to numbers are not null. What a call does is proved equal to a definition (crates/door/specs); nothing
- * checks this header against the source, so it is kept to numbers and bytes.
+ * be changed overlaps anything else, and the pointers to numbers are not null. What a call does is proved equal to a definition (crates/door/specs and
+ * crates/dock_door/specs); nothing checks this header against the source, so it is kept to numbers and bytes.
  *
  * A part is three numbers and 16 bytes of names: device code (3), name (10), firmware version (3).
  *
@@ -18,6 +18,24 @@
  *     4 the reply room is under 32 bytes (zc_replay: also output under 192 bytes)
  * After a refusal nothing that was lent has changed, but for the numbers told, which are 0. zc_replay alone can be refused after some records (4, for want of
  * output): what those did stays, and the numbers count them.
+ *
+ * A job for the dock is a part, the first and the last address of its range, rate code, supply in 100 mV, the retries allowed, and an image as long as the
+ * range, which is lent to every call.
+ *
+ * A dock's state is ZC_DOCK bytes, which the caller keeps and lends:
+ *     0 stage: 1 9Ah, 2 00h, 3 C0h, 4 32h, 5 22h, 6 40h, 7 a page of 40h, 8 13h, 9 a page of 13h, 10 the job is finished, 11 it has failed
+ *     1 whether the answer to that frame is awaited (0 or 1)   2-5 retries used   6-9 frames used
+ *     10 whether a block is named (0 or 1)   11-14 the block, counted in the job from 0   15 whether a page is named (0 or 1)   16-19 the page
+ *     20 why the job failed: 1 status, 2 mismatch, 3 unreadable, 4 timeout   21 the command of the frame that failed   22 the status named
+ * Numbers are low byte first. Stages 4 to 9 name their block, 7 and 9 their page, and 11 what the failure names; whatever is not named is 0.
+ *
+ * The dock's calls answer 0, or the number of document 01's refusal, in the order 1, 5, 6, 7, 9, 4, 8:
+ *     1 the part, the rate or the supply is outside the document's numbers, or the names are not 16 bytes
+ *     5 the range is bad   6 the image is not as long as the range   7 more than 15 retries
+ *     9 the bytes are no state of a dock, or none that the document accepts for this job
+ *     4 the frame room is under 260 bytes
+ *     8 out of turn: a frame asked while an answer is awaited, an answer or a timeout while none is, or anything once the job is over
+ * After a refusal nothing that was lent has changed, but for the numbers told, which are 0.
  */
 #ifndef ZC_DOOR_H
 #define ZC_DOOR_H
@@ -30,6 +48,8 @@
 #define ZC_ROOM 32
 #define ZC_OUTPUT 192
 #define ZC_BAD_RECORD 16
+#define ZC_DOCK 23
+#define ZC_FRAME_ROOM 260
 
 #ifdef __cplusplus
 extern "C" {
@@ -58,6 +78,26 @@ uint32_t zc_feed(uint32_t code_blocks, uint32_t data_blocks, uint32_t clock, con
 uint32_t zc_replay(uint32_t code_blocks, uint32_t data_blocks, uint32_t clock, const uint8_t *names, size_t names_len, uint8_t *state,
                    size_t state_len, const uint8_t *capture, size_t capture_len, uint8_t *code, size_t code_len, uint8_t *data, size_t data_len,
                    uint8_t *room, size_t room_len, uint8_t *output, size_t output_len, size_t *played, size_t *bytes, size_t *frames);
+
+/* A dock before its first frame. The chip that it is for has its mode byte. Refusals: 1, 5, 6, 7, 9 (length). */
+uint32_t zc_start(uint32_t code_blocks, uint32_t data_blocks, uint32_t clock, const uint8_t *names, size_t names_len, uint32_t start, uint32_t end,
+                  uint32_t rate, uint32_t supply, uint32_t retries, const uint8_t *image, size_t image_len, uint8_t *dock, size_t dock_len);
+
+/* The next frame, at the start of the room: so many bytes; the room past them stays. Send a gap before it. Its answer is awaited from now on. */
+uint32_t zc_ask(uint32_t code_blocks, uint32_t data_blocks, uint32_t clock, const uint8_t *names, size_t names_len, uint32_t start, uint32_t end,
+                uint32_t rate, uint32_t supply, uint32_t retries, const uint8_t *image, size_t image_len, uint8_t *dock, size_t dock_len,
+                uint8_t *room, size_t room_len, size_t *bytes);
+
+/* The whole answer to that frame, handed in at once. `ended`: 0 the next frame is due; 1 the job is finished; 2 to 5 it has failed, by a status, a mismatch, an
+ * unreadable answer, a timeout. Once it has ended, `frames_used` and `retries_used` are what it took, and the state says what a failure names; else both are 0. */
+uint32_t zc_answer(uint32_t code_blocks, uint32_t data_blocks, uint32_t clock, const uint8_t *names, size_t names_len, uint32_t start, uint32_t end,
+                   uint32_t rate, uint32_t supply, uint32_t retries, const uint8_t *image, size_t image_len, uint8_t *dock, size_t dock_len,
+                   const uint8_t *answer, size_t answer_len, uint32_t *ended, uint32_t *frames_used, uint32_t *retries_used);
+
+/* No answer came to that frame. Told as by zc_answer. */
+uint32_t zc_timeout(uint32_t code_blocks, uint32_t data_blocks, uint32_t clock, const uint8_t *names, size_t names_len, uint32_t start, uint32_t end,
+                    uint32_t rate, uint32_t supply, uint32_t retries, const uint8_t *image, size_t image_len, uint8_t *dock, size_t dock_len,
+                    uint32_t *ended, uint32_t *frames_used, uint32_t *retries_used);
 
 #ifdef __cplusplus
 }

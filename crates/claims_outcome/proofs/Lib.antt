@@ -16,3 +16,4 @@ pub mod Answer
 pub mod Flow
 pub mod Dock
 pub mod Door
+pub mod DockDoor

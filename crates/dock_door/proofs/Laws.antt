@@ -1,0 +1,50 @@
+-- Laws about the layout: the literal that the code writes is the layout; and what an admitted call may rely on.
+-- Assumes nothing.
+use mathlib.Core.Bool.{Bool, false, true}
+use mathlib.Core.List.{List, [], _∷_}
+use mathlib.Core.Path.{_≡_, refl}
+use Prim.Native.Nat.{ℕ}
+use native.Mathlib.Omega.{arith}
+use lib.ListN.{getD, length}
+use borrow.Author.Tests.{eqb-true}
+use Rattle.dock_door.specs.Calls.{admission, holding}
+use Rattle.dock_door.specs.Layout.{dockSize, isDock, isNamed, layoutWith, named}
+use Rattle.dock_door.specs.declared.Flat.{Flat}
+use Rattle.job.specs.Refusals.{callVerdict}
+use Rattle.job.specs.declared.Job.{Job}
+use Rattle.job.specs.declared.refusals.Call.the-variants.{Begins}
+use Rattle.layout.specs.Layout.{little}
+use Rattle.part.specs.declared.refusal.Refusal.the-variants.{BadState}
+use Rattle.part.specs.declared.refusal.Verdict.{Verdict}
+use Rattle.part.specs.declared.refusal.Verdict.the-variants.{Accepted, Barred}
+use Rattle.words.proofs.Laws.{and-left}
+use Rattle.words.specs.Words.{if_then_else_}
+
+-- Four bytes taken one by one.
+abbrev four : List ℕ → List ℕ → List ℕ
+four l rest = getD l 0 0 ∷ getD l 1 0 ∷ getD l 2 0 ∷ getD l 3 0 ∷ rest
+
+pub layout-is : (f : Flat) (awaited retries frames : ℕ) (r k b p : List ℕ) (m n x y : ℕ) → r ≡ little 4 retries → k ≡ little 4 frames → m ≡ named (f .block)
+    → b ≡ little 4 m → n ≡ named (f .page) → p ≡ little 4 n → x ≡ isNamed (f .block) → y ≡ isNamed (f .page)
+    → f .stage ∷ awaited ∷ four r (four k (x ∷ four b (y ∷ four p (f .cause ∷ f .command ∷ f .status ∷ [])))) ≡ layoutWith f awaited retries frames
+unfolding layoutWith little
+layout-is f awaited retries frames r k b p m n x y g h i j l o q s = rw (g, h, j, i, o, l, q, s)
+
+-- A call that is admitted has bytes that are a state.
+held : (t : Bool) → (if t then Accepted else Barred BadState) ≡ Accepted → t ≡ true
+unfolding if_then_else_
+held true e = refl
+held false e = absurd (let z : _≡_ {A = ℕ} 0 1 = cc in omega arith)
+
+holds : (v : Verdict) (state : List ℕ) → holding v state ≡ Accepted → isDock state ≡ true
+unfolding holding
+holds (Barred r) state e = absurd (let z : _≡_ {A = ℕ} 0 1 = cc in omega arith)
+holds Accepted state e = held (isDock state) e
+
+pub admitted : (j : Job) (image : ℕ) (state : List ℕ) → admission j image state ≡ Accepted → isDock state ≡ true
+unfolding admission
+admitted j image state e = holds (callVerdict j image Begins) state e
+
+pub dock-long : (state : List ℕ) → isDock state ≡ true → length state ≡ dockSize
+unfolding isDock
+dock-long state e = eqb-true _ _ (and-left _ _ e)

@@ -1,0 +1,127 @@
+-- What each call on the dock does and tells through the door: refusals by document 01's numbers, then the dock's own definitions on the state that crossed as
+-- bytes.
+use mathlib.Core.List.{List}
+use Prim.Native.Nat.{_+_, ℕ}
+use lib.Dec.{eqb}
+use lib.ListN.{length}
+use Rattle.dock.specs.Calls.{Asking, askOf, hearOf, startOf}
+use Rattle.dock.specs.declared.Report.{Report}
+use Rattle.dock.specs.declared.Report.the-variants.{Denied, Due, Ended, Put}
+use Rattle.dock.specs.declared.Stepped.{Stepped}
+use Rattle.dock_door.specs.Layout.{causeNumber, dockIn, dockSize, isDock, layoutOf}
+use Rattle.flow.specs.Flow.{Heard}
+use Rattle.job.specs.Refusals.{callVerdict}
+use Rattle.job.specs.declared.Ending.{Ending}
+use Rattle.job.specs.declared.Ending.the-variants.{Failed, Finished}
+use Rattle.job.specs.declared.Job.{Job}
+use Rattle.job.specs.declared.refusals.Call.the-variants.{Begins}
+use Rattle.layout.specs.Layout.{partOf}
+use Rattle.part.specs.Refusal.{number}
+use Rattle.part.specs.declared.refusal.Refusal.the-variants.{BadState}
+use Rattle.part.specs.declared.refusal.Verdict.{Verdict}
+use Rattle.part.specs.declared.refusal.Verdict.the-variants.{Accepted, Barred}
+use Rattle.words.specs.Words.{if_then_else_}
+
+-- A job: a part as it crosses, and five numbers.
+unfoldable pub jobOf : ℕ → ℕ → ℕ → List ℕ → ℕ → ℕ → ℕ → ℕ → ℕ → Job
+jobOf codes extras clock names start end rate supply retries =
+    record { part = partOf codes extras clock names; start = start; end = end; rate = rate; supply = supply; retries = retries }
+
+-- "for the dock: 1, 5, 6, 7, 9, 4, 8": what bars a call before the dock is asked. The job's refusals come first, then bytes that are no state.
+unfoldable pub holding : Verdict → List ℕ → Verdict
+holding (Barred r) state = Barred r
+holding Accepted state = if isDock state then Accepted else Barred BadState
+
+unfoldable pub admission : Job → ℕ → List ℕ → Verdict
+admission j image state = holding (callVerdict j image Begins) state
+
+-- What a report is in numbers: the refusal's; the bytes of the frame that was put; how the job ended ("finished" 1, failed 2 to 5 by its cause), and the frames
+-- and retries used where it has ended. Each is 0 where there is none.
+unfoldable pub refusalNumber : Report → ℕ
+refusalNumber Due = 0
+refusalNumber (Put n) = 0
+refusalNumber (Ended a) = 0
+refusalNumber (Denied r) = number r
+
+unfoldable pub bytesPut : Report → ℕ
+bytesPut Due = 0
+bytesPut (Put n) = n
+bytesPut (Ended a) = 0
+bytesPut (Denied r) = 0
+
+unfoldable pub endingNumber : Ending → ℕ
+endingNumber Finished = 1
+endingNumber (Failed f) = 1 + causeNumber (f .cause)
+
+unfoldable pub endedNumber : Report → ℕ
+endedNumber Due = 0
+endedNumber (Put n) = 0
+endedNumber (Ended a) = endingNumber (a .ending)
+endedNumber (Denied r) = 0
+
+unfoldable pub framesUsed : Report → ℕ
+framesUsed Due = 0
+framesUsed (Put n) = 0
+framesUsed (Ended a) = a .frames
+framesUsed (Denied r) = 0
+
+unfoldable pub retriesUsed : Report → ℕ
+retriesUsed Due = 0
+retriesUsed (Put n) = 0
+retriesUsed (Ended a) = a .retries
+retriesUsed (Denied r) = 0
+
+-- To start: 9 for lent bytes that no state fits in.
+pub record StartTold : Type 0 where
+  pub refusal : ℕ
+  pub state : List ℕ
+
+abbrev pub startTold : ℕ → List ℕ → StartTold
+startTold n state = record { refusal = n; state = state }
+
+unfoldable pub startedBy : Verdict → Stepped → List ℕ → StartTold
+startedBy (Barred r) s state = startTold (number r) state
+startedBy Accepted s state = if eqb (length state) dockSize then startTold 0 (layoutOf (s .dock)) else startTold (number BadState) state
+
+unfoldable pub startThrough : Job → List ℕ → List ℕ → StartTold
+startThrough j image state = startedBy (callVerdict j (length image) Begins) (startOf j image) state
+
+-- To ask for the next frame.
+pub record AskTold : Type 0 where
+  pub refusal : ℕ
+  pub bytes : ℕ
+  pub state : List ℕ
+  pub room : List ℕ
+
+abbrev pub askTold : ℕ → ℕ → List ℕ → List ℕ → AskTold
+askTold n bytes state room = record { refusal = n; bytes = bytes; state = state; room = room }
+
+unfoldable pub askedBy : Verdict → Job → List ℕ → List ℕ → List ℕ → AskTold
+askedBy (Barred r) j image state room = askTold (number r) 0 state room
+askedBy Accepted j image state room =
+    let a = askOf j image (dockIn state) room in
+    askTold (refusalNumber (a .report)) (bytesPut (a .report)) (layoutOf (a .dock)) (a .room)
+
+unfoldable pub askThrough : Job → List ℕ → List ℕ → List ℕ → AskTold
+askThrough j image state room = askedBy (admission j (length image) state) j image state room
+
+-- To hand in an answer, or to report a timeout.
+pub record HearTold : Type 0 where
+  pub refusal : ℕ
+  pub ended : ℕ
+  pub frames : ℕ
+  pub retries : ℕ
+  pub state : List ℕ
+
+abbrev pub hearTold : ℕ → ℕ → ℕ → ℕ → List ℕ → HearTold
+hearTold n ended frames retries state = record { refusal = n; ended = ended; frames = frames; retries = retries; state = state }
+
+unfoldable pub toldOf : Stepped → HearTold
+toldOf s = hearTold (refusalNumber (s .report)) (endedNumber (s .report)) (framesUsed (s .report)) (retriesUsed (s .report)) (layoutOf (s .dock))
+
+unfoldable pub heardBy : Verdict → Job → List ℕ → List ℕ → Heard → HearTold
+heardBy (Barred r) j image state h = hearTold (number r) 0 0 0 state
+heardBy Accepted j image state h = toldOf (hearOf j image (dockIn state) h)
+
+unfoldable pub hearThrough : Job → List ℕ → List ℕ → Heard → HearTold
+hearThrough j image state h = heardBy (admission j (length image) state) j image state h

@@ -1,0 +1,326 @@
+// The dock's calls for C and Rust. Each takes a job as eight numbers, sixteen bytes and the image, and a dock's state as 23 lent bytes, and answers a refusal
+// number, 0 where it was not refused; what else it tells goes into lent numbers. Document 01, "The dock's flow" and "Refusal numbers".
+ghost use mathlib.Core.Path.{_≡_};
+ghost use lib.ListN.{length};
+ghost use Rattle.flow.specs.Flow.{answered, silence};
+ghost use Rattle.dock_door.specs.Calls.{admission, askThrough, askTold, bytesPut, endedNumber, endingNumber, framesUsed, hearThrough, hearTold, jobOf, refusalNumber, retriesUsed, startThrough, startTold, toldOf};
+ghost use Rattle.dock_door.specs.Layout.{dockSize};
+use dock::Report;
+use dock::Stepped;
+use dock::calls;
+use job::Ending;
+use job::Job;
+use job::refusals;
+use job::refusals::Call;
+use part::refusal::Refusal;
+use part::refusal::Verdict;
+
+fn job_of(
+    code_blocks: u32,
+    data_blocks: u32,
+    clock: u32,
+    names: &[u8],
+    start: u32,
+    end: u32,
+    rate: u32,
+    supply: u32,
+    retries: u32,
+) -> Job
+    ensures { λ r. ⌜ r ≡ jobOf «code_blocks» «data_blocks» clock (now (names .entry)) start end rate supply retries ⌝ }
+{
+    let part = layout::part_of(code_blocks, data_blocks, clock, names);
+    Job {
+        part,
+        start,
+        end,
+        rate,
+        supply,
+        retries,
+    }
+}
+
+// What bars a call before the dock is asked: the job, then bytes that are no state, in the paper's order.
+fn admit(job: Job, image: usize, state: &[u8]) -> Verdict
+    ensures { λ r. ⌜ r ≡ admission job image (now (state .entry)) ⌝ }
+{
+    let v = refusals::verdict(job, image, Call::Begins);
+    match v {
+        Verdict::Barred(refusal) => Verdict::Barred(refusal),
+        Verdict::Accepted => {
+            if super::is_dock(state) {
+                return Verdict::Accepted;
+            }
+            Verdict::Barred(Refusal::BadState)
+        }
+    }
+}
+
+fn refusal_number(report: Report) -> u32
+    ensures { λ r. ⌜ r ≡ refusalNumber report ⌝ }
+{
+    match report {
+        Report::Due => 0,
+        Report::Put(n) => 0,
+        Report::Ended(account) => 0,
+        Report::Denied(refusal) => refusal.number() as u32,
+    }
+}
+
+fn bytes_put(report: Report) -> usize
+    ensures { λ r. ⌜ r ≡ bytesPut report ⌝ }
+{
+    match report {
+        Report::Due => 0,
+        Report::Put(n) => n,
+        Report::Ended(account) => 0,
+        Report::Denied(refusal) => 0,
+    }
+}
+
+fn ending_number(ending: Ending) -> u32
+    ensures { λ r. ⌜ r ≡ endingNumber ending ⌝ }
+{
+    match ending {
+        Ending::Finished => 1,
+        Ending::Failed(failure) => {
+            let cause = failure.cause;
+            1 + (super::cause_number(cause) as u32)
+        }
+    }
+}
+
+fn ended_number(report: Report) -> u32
+    ensures { λ r. ⌜ r ≡ endedNumber report ⌝ }
+{
+    match report {
+        Report::Due => 0,
+        Report::Put(n) => 0,
+        Report::Ended(account) => {
+            let ending = account.ending;
+            ending_number(ending)
+        }
+        Report::Denied(refusal) => 0,
+    }
+}
+
+fn frames_used(report: Report) -> u32
+    ensures { λ r. ⌜ r ≡ framesUsed report ⌝ }
+{
+    match report {
+        Report::Due => 0,
+        Report::Put(n) => 0,
+        Report::Ended(account) => account.frames,
+        Report::Denied(refusal) => 0,
+    }
+}
+
+fn retries_used(report: Report) -> u32
+    ensures { λ r. ⌜ r ≡ retriesUsed report ⌝ }
+{
+    match report {
+        Report::Due => 0,
+        Report::Put(n) => 0,
+        Report::Ended(account) => account.retries,
+        Report::Denied(refusal) => 0,
+    }
+}
+
+// What hearing left, into the lent state and numbers.
+fn tell(
+    s: Stepped,
+    state: &mut [u8],
+    ended: &mut u32,
+    frames_told: &mut u32,
+    retries_told: &mut u32,
+) -> u32
+    requires { ⌜ length (now state) ≡ dockSize ⌝ }
+    ensures { λ r. ⌜ hearTold r (now (ended .exit)) (now («frames_told» .exit)) (now («retries_told» .exit)) (now (state .exit)) ≡ toldOf s ⌝ }
+{
+    let report = s.report;
+    super::lay(s.dock, state);
+    *ended = ended_number(report);
+    *frames_told = frames_used(report);
+    *retries_told = retries_used(report);
+    refusal_number(report)
+}
+
+// A dock before its first frame, into the lent state.
+#[no_mangle]
+pub extern "C" fn zc_start(
+    code_blocks: u32,
+    data_blocks: u32,
+    clock: u32,
+    names: &[u8],
+    start: u32,
+    end: u32,
+    rate: u32,
+    supply: u32,
+    retries: u32,
+    image: &[u8],
+    state: &mut [u8],
+) -> u32
+    ensures { λ r. ⌜ startTold r (now (state .exit)) ≡ startThrough (jobOf «code_blocks» «data_blocks» clock (now (names .entry)) start end rate supply retries) (now (image .entry)) (now (state .entry)) ⌝ }
+{
+    let job = job_of(
+        code_blocks,
+        data_blocks,
+        clock,
+        names,
+        start,
+        end,
+        rate,
+        supply,
+        retries,
+    );
+    let v = refusals::verdict(job, image.len(), Call::Begins);
+    match v {
+        Verdict::Barred(refusal) => refusal.number() as u32,
+        Verdict::Accepted => {
+            if state.len() == 23 {
+                let s = calls::start(job, image);
+                super::lay(s.dock, state);
+                return 0;
+            }
+            9
+        }
+    }
+}
+
+// The next frame, put at the start of the room: so many bytes.
+#[no_mangle]
+pub extern "C" fn zc_ask(
+    code_blocks: u32,
+    data_blocks: u32,
+    clock: u32,
+    names: &[u8],
+    start: u32,
+    end: u32,
+    rate: u32,
+    supply: u32,
+    retries: u32,
+    image: &[u8],
+    state: &mut [u8],
+    room: &mut [u8],
+    bytes: &mut usize,
+) -> u32
+    ensures { λ r. ⌜ askTold r (now (bytes .exit)) (now (state .exit)) (now (room .exit)) ≡ askThrough (jobOf «code_blocks» «data_blocks» clock (now (names .entry)) start end rate supply retries) (now (image .entry)) (now (state .entry)) (now (room .entry)) ⌝ }
+{
+    let job = job_of(
+        code_blocks,
+        data_blocks,
+        clock,
+        names,
+        start,
+        end,
+        rate,
+        supply,
+        retries,
+    );
+    let v = admit(job, image.len(), state);
+    match v {
+        Verdict::Barred(refusal) => {
+            *bytes = 0;
+            refusal.number() as u32
+        }
+        Verdict::Accepted => {
+            let s = calls::ask(job, image, super::dock_in(state), room);
+            let report = s.report;
+            super::lay(s.dock, state);
+            *bytes = bytes_put(report);
+            refusal_number(report)
+        }
+    }
+}
+
+// The whole answer to the frame that was handed out.
+#[no_mangle]
+pub extern "C" fn zc_answer(
+    code_blocks: u32,
+    data_blocks: u32,
+    clock: u32,
+    names: &[u8],
+    start: u32,
+    end: u32,
+    rate: u32,
+    supply: u32,
+    retries: u32,
+    image: &[u8],
+    state: &mut [u8],
+    answer: &[u8],
+    ended: &mut u32,
+    frames_told: &mut u32,
+    retries_told: &mut u32,
+) -> u32
+    ensures { λ r. ⌜ hearTold r (now (ended .exit)) (now («frames_told» .exit)) (now («retries_told» .exit)) (now (state .exit)) ≡ hearThrough (jobOf «code_blocks» «data_blocks» clock (now (names .entry)) start end rate supply retries) (now (image .entry)) (now (state .entry)) (answered (now (answer .entry))) ⌝ }
+{
+    let job = job_of(
+        code_blocks,
+        data_blocks,
+        clock,
+        names,
+        start,
+        end,
+        rate,
+        supply,
+        retries,
+    );
+    let v = admit(job, image.len(), state);
+    match v {
+        Verdict::Barred(refusal) => {
+            *ended = 0;
+            *frames_told = 0;
+            *retries_told = 0;
+            refusal.number() as u32
+        }
+        Verdict::Accepted => {
+            let s = calls::answer(job, image, super::dock_in(state), answer);
+            tell(s, state, ended, frames_told, retries_told)
+        }
+    }
+}
+
+// No answer came to the frame that was handed out.
+#[no_mangle]
+pub extern "C" fn zc_timeout(
+    code_blocks: u32,
+    data_blocks: u32,
+    clock: u32,
+    names: &[u8],
+    start: u32,
+    end: u32,
+    rate: u32,
+    supply: u32,
+    retries: u32,
+    image: &[u8],
+    state: &mut [u8],
+    ended: &mut u32,
+    frames_told: &mut u32,
+    retries_told: &mut u32,
+) -> u32
+    ensures { λ r. ⌜ hearTold r (now (ended .exit)) (now («frames_told» .exit)) (now («retries_told» .exit)) (now (state .exit)) ≡ hearThrough (jobOf «code_blocks» «data_blocks» clock (now (names .entry)) start end rate supply retries) (now (image .entry)) (now (state .entry)) silence ⌝ }
+{
+    let job = job_of(
+        code_blocks,
+        data_blocks,
+        clock,
+        names,
+        start,
+        end,
+        rate,
+        supply,
+        retries,
+    );
+    let v = admit(job, image.len(), state);
+    match v {
+        Verdict::Barred(refusal) => {
+            *ended = 0;
+            *frames_told = 0;
+            *retries_told = 0;
+            refusal.number() as u32
+        }
+        Verdict::Accepted => {
+            let s = calls::timeout(job, image, super::dock_in(state));
+            tell(s, state, ended, frames_told, retries_told)
+        }
+    }
+}
