@@ -23,11 +23,11 @@ use Rattle.words.proofs.Laws.{and-left, and-right, or-right}
 use Rattle.words.specs.Words.{_and_, _from_to_, _or_, if_then_else_}
 
 -- A number of k bytes, taken apart and put together.
-unfoldable together : ℕ → ℕ → ℕ
+unfoldable pub together : ℕ → ℕ → ℕ
 together zero n = 0
 together (suc k) n = n % 256 + 256 * together k (n / 256)
 
-together-is : (k n : ℕ) → n < 256 ^ k → together k n ≡ n
+pub together-is : (k n : ℕ) → n < 256 ^ k → together k n ≡ n
 unfolding together
 together-is zero n h = omega arith
 together-is (suc k) n h =

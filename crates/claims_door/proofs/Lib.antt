@@ -1,3 +1,5 @@
 pub mod Back
 pub mod Refused
 pub mod Fed
+pub mod DockBack
+pub mod DockRefused

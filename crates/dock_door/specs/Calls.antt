@@ -4,7 +4,7 @@ use mathlib.Core.List.{List}
 use Prim.Native.Nat.{_+_, ℕ}
 use lib.Dec.{eqb}
 use lib.ListN.{length}
-use Rattle.dock.specs.Calls.{Asking, askOf, hearOf, startOf}
+use Rattle.dock.specs.Calls.{askOf, hearOf, startOf}
 use Rattle.dock.specs.declared.Report.{Report}
 use Rattle.dock.specs.declared.Report.the-variants.{Denied, Due, Ended, Put}
 use Rattle.dock.specs.declared.Stepped.{Stepped}

@@ -14,13 +14,13 @@ use job::Work;
 pub mod calls;
 
 // A stage in numbers: which it is, the block and the page that it names, and of a failure the cause, the command and the status.
-struct Flat {
-    stage: u8,
-    block: Named,
-    page: Named,
-    cause: u8,
-    command: u8,
-    status: u8,
+pub struct Flat {
+    pub stage: u8,
+    pub block: Named,
+    pub page: Named,
+    pub cause: u8,
+    pub command: u8,
+    pub status: u8,
 }
 
 fn cause_number(cause: Cause) -> u8

@@ -1,0 +1,100 @@
+-- The layout of a dock's state: a dock that is written is read back the same, and bytes that are a state are written back the same.
+-- Assumes nothing.
+use mathlib.Core.Bool.{Bool, false, true}
+use mathlib.Core.List.{List}
+use mathlib.Core.Path.{_∙_, _≡_, ap, refl}
+use Prim.Native.Nat.{_<_, _^_, ℕ}
+use lib.Dec.{eqb}
+use lib.ListN.{length}
+use Rattle.claims_door.proofs.Back.{together, together-is}
+use Rattle.claims_door.specs.Docked.{HeldDock}
+use Rattle.dock_door.specs.Layout.{bit, causeIn, causeNumber, dockIn, dockSize, endingIn, flat, flatEnding, flatIn, flatOf, flatWork, isDock, isNamed, layoutOf, layoutWith, named, namedIn, setupIn, stageIn, workIn}
+use Rattle.dock_door.specs.declared.Flat.{Flat}
+use Rattle.job.specs.declared.Cause.{Cause}
+use Rattle.job.specs.declared.Cause.the-variants.{Mismatch, TimedOut, UnexpectedStatus, Unreadable}
+use Rattle.job.specs.declared.Dock.{Dock}
+use Rattle.job.specs.declared.Ending.the-variants.{Failed, Finished}
+use Rattle.job.specs.declared.Failure.{Failure}
+use Rattle.job.specs.declared.Named.{Named}
+use Rattle.job.specs.declared.Named.the-variants.{It, Unnamed}
+use Rattle.job.specs.declared.Setup.the-variants.{BaudRate, ResetChip, SiliconSignature}
+use Rattle.job.specs.declared.Stage.{Stage}
+use Rattle.job.specs.declared.Stage.the-variants.{InBlock, Over, SetUp}
+use Rattle.job.specs.declared.Work.the-variants.{Blank, Erase, Program, ProgramPage, VerifyBlock, VerifyPage}
+use Rattle.layout.specs.Layout.{little, numberAt}
+use Rattle.lent.proofs.Laws.{same-is, same-self}
+use Rattle.words.proofs.Laws.{and-both, and-right}
+use Rattle.words.specs.Words.{if_then_else_}
+
+named-back : (b : Named) → named b < 256 ^ 4 → namedIn (isNamed b) (together 4 (named b)) ≡ b
+unfolding namedIn isNamed named if_then_else_
+named-back (It n) h = ap It (together-is 4 n h)
+named-back Unnamed h = refl
+
+flat-back : (f : Flat) (awaited retries frames : ℕ) → named (f .block) < 256 ^ 4 → named (f .page) < 256 ^ 4 → flatIn (layoutWith f awaited retries frames) ≡ f
+unfolding flatIn layoutWith little numberAt together
+flat-back f awaited retries frames h i =
+    ap (λ (b : Named). flat (f .stage) b (namedIn (isNamed (f .page)) (together 4 (named (f .page)))) (f .cause) (f .command) (f .status)) (named-back (f .block) h)
+    ∙ ap (λ (p : Named). flat (f .stage) (f .block) p (f .cause) (f .command) (f .status)) (named-back (f .page) i)
+
+cause-back : (c : Cause) → causeIn (causeNumber c) ≡ c
+unfolding causeIn causeNumber if_then_else_
+cause-back UnexpectedStatus = refl
+cause-back Mismatch = refl
+cause-back Unreadable = refl
+cause-back TimedOut = refl
+
+abbrev failed : Cause → Failure → Stage
+failed c f = Over (Failed (record { cause = c; command = f .command; page = f .page; status = f .status; block = f .block }))
+
+stage-back : (s : Stage) → stageIn (flatOf s) ≡ s
+unfolding stageIn flatOf flatWork flatEnding endingIn setupIn workIn named if_then_else_
+stage-back (SetUp BaudRate) = refl
+stage-back (SetUp ResetChip) = refl
+stage-back (SetUp SiliconSignature) = refl
+stage-back (InBlock k Blank) = refl
+stage-back (InBlock k Erase) = refl
+stage-back (InBlock k Program) = refl
+stage-back (InBlock k (ProgramPage p)) = refl
+stage-back (InBlock k VerifyBlock) = refl
+stage-back (InBlock k (VerifyPage p)) = refl
+stage-back (Over Finished) = refl
+stage-back (Over (Failed f)) = ap (λ (c : Cause). failed c f) (cause-back (f .cause))
+
+bit-back : (b : Bool) → eqb (bit b) 1 ≡ b
+bit-back true = refl
+bit-back false = refl
+
+abbrev held : Stage → Bool → ℕ → ℕ → Dock
+held s awaited retries frames = record { stage = s; awaited = awaited; retries = retries; frames = frames }
+
+back : (f : Flat) (awaited : Bool) (retries frames : ℕ) → named (f .block) < 256 ^ 4 → named (f .page) < 256 ^ 4 → retries < 256 ^ 4 → frames < 256 ^ 4
+    → dockIn (layoutWith f (bit awaited) retries frames) ≡ held (stageIn f) awaited retries frames
+unfolding dockIn layoutWith little numberAt together
+back f awaited retries frames h i j k =
+    ap (λ (g : Flat). held (stageIn g) (eqb (bit awaited) 1) (together 4 retries) (together 4 frames)) (flat-back f (bit awaited) retries frames h i)
+    ∙ ap (λ (b : Bool). held (stageIn f) b (together 4 retries) (together 4 frames)) (bit-back awaited)
+    ∙ ap (λ (n : ℕ). held (stageIn f) awaited n (together 4 frames)) (together-is 4 retries j)
+    ∙ ap (λ (n : ℕ). held (stageIn f) awaited retries n) (together-is 4 frames k)
+
+-- A dock that is written is read back the same.
+pub dock-read-back : (d : Dock) → HeldDock d → dockIn (layoutOf d) ≡ d
+unfolding layoutOf
+dock-read-back d h =
+    back (flatOf (d .stage)) (d .awaited) (d .retries) (d .frames) (h .block) (h .page) (h .retries) (h .frames)
+    ∙ ap (λ (s : Stage). held s (d .awaited) (d .retries) (d .frames)) (stage-back (d .stage))
+
+long : (f : Flat) (awaited retries frames : ℕ) → length (layoutWith f awaited retries frames) ≡ dockSize
+unfolding layoutWith little
+long f awaited retries frames = refl
+
+-- What is written is a state.
+pub dock-written-state : (d : Dock) → HeldDock d → isDock (layoutOf d) ≡ true
+unfolding isDock layoutOf
+dock-written-state d h =
+    and-both (rw long) (rw (dock-read-back d h) (same-self (layoutOf d)))
+
+-- Bytes that are a state are written back the same.
+pub dock-written-back : (bs : List ℕ) → isDock bs ≡ true → layoutOf (dockIn bs) ≡ bs
+unfolding isDock
+dock-written-back bs e = same-is (layoutOf (dockIn bs)) bs (and-right _ _ e)

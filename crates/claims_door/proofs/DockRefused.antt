@@ -1,0 +1,88 @@
+-- A call on the dock that is refused changes nothing: "State and lent bytes stay."
+-- Assumes nothing.
+use mathlib.Core.Bool.{Bool, false, true}
+use mathlib.Core.List.{List}
+use mathlib.Core.Path.{_≡_, refl}
+use Prim.Native.Nat.{ℕ}
+use lib.Dec.{eqb}
+use lib.ListN.{length}
+use Rattle.claims_door.proofs.DockBack.{dock-written-back}
+use Rattle.claims_door.specs.Docked.{AskKept}
+use Rattle.dock.specs.Calls.{Placed, askOf, asked, hearOf, moved, placing, standing, startOf, turning}
+use Rattle.dock.specs.declared.Stepped.{Stepped}
+use Rattle.dock_door.proofs.Laws.{admitted}
+use Rattle.dock_door.specs.Calls.{admission, askThrough, askTold, askedBy, bytesPut, hearThrough, heardBy, refusalNumber, startThrough, startTold, startedBy, toldOf}
+use Rattle.dock_door.specs.Layout.{dockIn, dockSize, isDock, layoutOf}
+use Rattle.flow.specs.Flow.{Heard, afterHeard, frameAt}
+use Rattle.flow.specs.declared.Turned.{Turned}
+use Rattle.job.specs.Refusals.{callVerdict}
+use Rattle.job.specs.declared.Dock.{Dock}
+use Rattle.job.specs.declared.Job.{Job}
+use Rattle.job.specs.declared.Stage.{Stage}
+use Rattle.job.specs.declared.Stage.the-variants.{InBlock, Over, SetUp}
+use Rattle.job.specs.declared.refusals.Call.the-variants.{Asks, Begins, Tells}
+use Rattle.part.specs.Refusal.{number}
+use Rattle.part.specs.declared.refusal.Refusal.the-variants.{BadState}
+use Rattle.part.specs.declared.refusal.Verdict.{Verdict}
+use Rattle.part.specs.declared.refusal.Verdict.the-variants.{Accepted, Barred}
+use Rattle.words.specs.Words.{if_then_else_}
+
+-- The dock is asked, and refuses: it hands the dock back as it was, and that is written back as the bytes it was read from.
+asks-kept : (u : Verdict) (f : Placed) (state room : List ℕ) → isDock state ≡ true → (refusalNumber (asked u f (dockIn state) room .report) ≡ 0 → ⊥)
+    → AskKept (askTold (refusalNumber (asked u f (dockIn state) room .report)) (bytesPut (asked u f (dockIn state) room .report)) (layoutOf (asked u f (dockIn state) room .dock)) (asked u f (dockIn state) room .room)) state room
+unfolding asked refusalNumber
+asks-kept (Barred r) f state room e h = record { stateStays = dock-written-back state e; roomStays = refl }
+asks-kept Accepted f state room e h = absurd (h refl)
+
+asked-kept : (u : Verdict) (j : Job) (image state room : List ℕ) → (u ≡ Accepted → isDock state ≡ true) → (askedBy u j image state room .refusal ≡ 0 → ⊥)
+    → AskKept (askedBy u j image state room) state room
+unfolding askedBy askOf
+asked-kept (Barred r) j image state room e h = record { stateStays = refl; roomStays = refl }
+asked-kept Accepted j image state room e h =
+    asks-kept (callVerdict j (length image) (Asks (dockIn state) (length room))) (placing (frameAt j image (dockIn state .stage)) room) state room (e refl) h
+
+-- To ask, whatever bytes are handed in as the state.
+pub refused-ask-keeps : (j : Job) (image state room : List ℕ) → (askThrough j image state room .refusal ≡ 0 → ⊥) → AskKept (askThrough j image state room) state room
+unfolding askThrough
+refused-ask-keeps j image state room h = asked-kept (admission j (length image) state) j image state room (λ e. admitted j (length image) state e) h
+
+unrefused : (s : Stage) (d : Dock) → refusalNumber (standing s d) ≡ 0
+unfolding refusalNumber standing
+unrefused (SetUp s) d = refl
+unrefused (InBlock k w) d = refl
+unrefused (Over e) d = refl
+
+tells-kept : (u : Verdict) (t : Turned) (state : List ℕ) → isDock state ≡ true → (refusalNumber (turning u (dockIn state) t .report) ≡ 0 → ⊥)
+    → layoutOf (turning u (dockIn state) t .dock) ≡ state
+unfolding turning
+tells-kept (Barred r) t state e h = dock-written-back state e
+tells-kept Accepted t state e h = absurd (h (unrefused (t .stage) (moved (dockIn state) t)))
+
+heard-kept : (u : Verdict) (j : Job) (image state : List ℕ) (x : Heard) → (u ≡ Accepted → isDock state ≡ true) → (heardBy u j image state x .refusal ≡ 0 → ⊥)
+    → heardBy u j image state x .state ≡ state
+unfolding heardBy toldOf hearOf
+heard-kept (Barred r) j image state x e h = refl
+heard-kept Accepted j image state x e h =
+    tells-kept (callVerdict j (length image) (Tells (dockIn state))) (afterHeard j (dockIn state .retries) (dockIn state .stage) x) state (e refl) h
+
+-- To hand in an answer or to report a timeout, whatever bytes are handed in as the state.
+pub refused-hearing-keeps : (j : Job) (image state : List ℕ) (x : Heard) → (hearThrough j image state x .refusal ≡ 0 → ⊥) → hearThrough j image state x .state ≡ state
+unfolding hearThrough
+refused-hearing-keeps j image state x h = heard-kept (admission j (length image) state) j image state x (λ e. admitted j (length image) state e) h
+
+fits-kept : (t : Bool) (s : Stepped) (state : List ℕ)
+    → ((if t then startTold 0 (layoutOf (s .dock)) else startTold (number BadState) state) .refusal ≡ 0 → ⊥)
+    → (if t then startTold 0 (layoutOf (s .dock)) else startTold (number BadState) state) .state ≡ state
+unfolding if_then_else_
+fits-kept true s state h = absurd (h refl)
+fits-kept false s state h = refl
+
+starts-kept : (u : Verdict) (s : Stepped) (state : List ℕ) → (startedBy u s state .refusal ≡ 0 → ⊥) → startedBy u s state .state ≡ state
+unfolding startedBy
+starts-kept (Barred r) s state h = refl
+starts-kept Accepted s state h = fits-kept (eqb (length state) dockSize) s state h
+
+-- To start.
+pub refused-start-keeps : (j : Job) (image state : List ℕ) → (startThrough j image state .refusal ≡ 0 → ⊥) → startThrough j image state .state ≡ state
+unfolding startThrough
+refused-start-keeps j image state h = starts-kept (callVerdict j (length image) Begins) (startOf j image) state h

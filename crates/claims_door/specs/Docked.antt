@@ -1,0 +1,18 @@
+-- A dock as the language can hold one: each number within its type. And what a refused call on the dock leaves.
+use mathlib.Core.List.{List}
+use mathlib.Core.Path.{_≡_}
+use Prim.Native.Nat.{_<_, _^_, ℕ}
+use Rattle.dock_door.specs.Calls.{AskTold}
+use Rattle.dock_door.specs.Layout.{flatOf, named}
+use Rattle.job.specs.declared.Dock.{Dock}
+
+pub record HeldDock (d : Dock) : Type 0 where
+  pub retries : d .retries < 256 ^ 4
+  pub frames : d .frames < 256 ^ 4
+  pub block : named (flatOf (d .stage) .block) < 256 ^ 4
+  pub page : named (flatOf (d .stage) .page) < 256 ^ 4
+
+-- "State and lent bytes stay."
+pub record AskKept (t : AskTold) (state room : List ℕ) : Type 0 where
+  pub stateStays : t .state ≡ state
+  pub roomStays : t .room ≡ room
