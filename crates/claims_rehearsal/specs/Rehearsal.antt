@@ -40,7 +40,7 @@ theJob = record { part = thePart; start = 0x0800; end = 0x0FFF; rate = 0x03; sup
 -- So many bytes, no page of which is like another.
 unfoldable pub mixed : ℕ → List ℕ
 mixed zero = []
-mixed (suc n) = n * 7 / 3 % 256 ∷ mixed n
+mixed (suc n) = n * 11 / 9 % 256 ∷ mixed n
 
 unfoldable pub theImage : List ℕ
 theImage = mixed 2048
