@@ -1,14 +1,11 @@
-//! A proved chip with its flash and reply room, and the twin's chip in its layout.
+//! A proved chip with its flash and reply room, and the twin's chip in the door's layout.
 
-#[path = "../../include/door.rs"]
-mod calls;
-
-use calls::{Told, ROOM, STATE};
+use crate::door::{self, Told, NAMES, ROOM, STATE};
 use twin::chip::{Chip, Part, Phase, BLOCK, ERASED};
 
 pub struct Door {
     part: Part,
-    names: [u8; calls::NAMES],
+    names: [u8; NAMES],
     pub state: [u8; STATE],
     pub code: Vec<u8>,
     pub data: Vec<u8>,
@@ -18,7 +15,7 @@ pub struct Door {
 impl Door {
     /// A fresh chip of a described part, with erased flash.
     pub fn fresh(part: &Part) -> Door {
-        let mut door = Door {
+        let mut chip = Door {
             part: part.clone(),
             names: names(part),
             state: [0; STATE],
@@ -26,16 +23,16 @@ impl Door {
             data: vec![ERASED; part.data_blocks as usize * BLOCK],
             room: [0; ROOM],
         };
-        let told = calls::fresh(&described(part, &door.names), &mut door.state);
+        let told = door::fresh(&described(part, &chip.names), &mut chip.state);
         assert_eq!(told, 0);
-        door
+        chip
     }
 
     /// The bytes of the reply.
     #[inline]
     pub fn byte(&mut self, byte: u8) -> usize {
         let part = described(&self.part, &self.names);
-        accepted(calls::byte(
+        accepted(door::byte(
             &part,
             &mut self.state,
             byte,
@@ -48,7 +45,7 @@ impl Door {
     #[inline]
     pub fn gap(&mut self) {
         let part = described(&self.part, &self.names);
-        accepted(calls::gap(
+        accepted(door::gap(
             &part,
             &mut self.state,
             &mut self.code,
@@ -60,7 +57,7 @@ impl Door {
     /// How many bytes were taken, and the bytes of the reply.
     pub fn feed(&mut self, fed: &[u8]) -> (usize, usize) {
         let part = described(&self.part, &self.names);
-        let (taken, told) = calls::feed(
+        let (taken, told) = door::feed(
             &part,
             &mut self.state,
             fed,
@@ -74,7 +71,7 @@ impl Door {
     /// How many records were played, and the bytes of their replies. The output may be too short for all of them.
     pub fn replay(&mut self, capture: &[u8], output: &mut [u8]) -> (usize, usize) {
         let part = described(&self.part, &self.names);
-        let (played, told) = calls::replay(
+        let (played, told) = door::replay(
             &part,
             &mut self.state,
             capture,
@@ -93,16 +90,18 @@ fn accepted(told: Told) -> usize {
     told.bytes
 }
 
-fn names(part: &Part) -> [u8; calls::NAMES] {
-    let mut names = [0; calls::NAMES];
+/// Device code, name and firmware version, end to end.
+pub fn names(part: &Part) -> [u8; NAMES] {
+    let mut names = [0; NAMES];
     names[..3].copy_from_slice(&part.device);
     names[3..13].copy_from_slice(&part.name);
     names[13..].copy_from_slice(&part.version);
     names
 }
 
-fn described<'a>(part: &Part, names: &'a [u8]) -> calls::Part<'a> {
-    calls::Part {
+/// A part as the door takes it.
+pub fn described<'a>(part: &Part, names: &'a [u8]) -> door::Part<'a> {
+    door::Part {
         code_blocks: part.code_blocks,
         data_blocks: part.data_blocks,
         clock: part.clock,

@@ -1,12 +1,10 @@
 //! The proved chip against the twin, in one process and on the same bytes: ratios of the least of several runs each. After every pair of runs both have said
 //! the same bytes and hold the same flash and state.
 
-mod door;
-
 use std::hint::black_box;
 use std::time::Instant;
 
-use door::{layout, Door};
+use trials::chip::{layout, Door};
 use twin::chip::{step, Answer, Chip, Event, Part, PAGE, PROGRAM, VERIFY};
 use twin::frame::{LAST_FOOTER, MORE_FOOTER};
 use twin::random::{command_frame, data_frame, range_body};
