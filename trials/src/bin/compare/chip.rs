@@ -1,0 +1,720 @@
+//! The chip: the twin, the proved chip by single events and the proved chip by stretches (zc_feed), given the same; after every event the answer, the whole
+//! room, the 293 bytes of state with the options among them, and all code and data flash are compared (01 "Frames" to "Refusal numbers").
+
+use trials::chip::{described, layout, names};
+use trials::door::{self, Told, NAMES, ROOM, STATE};
+use twin::chip::{step, Answer, Chip, Event, Part, Phase, BLOCK, DATA_FLASH, PAGE};
+use twin::frame::LONGEST;
+use twin::random::{statuses, Generator};
+use twin::replay::hex_line;
+
+use crate::coverage::Coverage;
+use crate::script;
+
+/// What differs, as text, with the call that it came from.
+pub type Difference = String;
+
+/// A chip with its flash; the state is the twin's record or the door's bytes.
+#[derive(Clone)]
+pub struct Side<S> {
+    pub state: S,
+    pub code: Vec<u8>,
+    pub data: Vec<u8>,
+}
+
+pub struct Trio<'a> {
+    pub part: Part,
+    names: [u8; NAMES],
+    pub twin: Side<Chip>,
+    stepped: Side<[u8; STATE]>,
+    fed: Side<[u8; STATE]>,
+    coverage: &'a mut Coverage,
+    pub events: u64,
+    pub calls_refused: u64,
+    phases: [u64; 6],
+    fill: u8,
+}
+
+/// The longest room that is lent.
+const LONG_ROOM: usize = 64;
+
+impl<'a> Trio<'a> {
+    /// A fresh chip with this flash on all three sides.
+    pub fn fresh(
+        part: &Part,
+        code: Vec<u8>,
+        data: Vec<u8>,
+        coverage: &'a mut Coverage,
+    ) -> Result<Trio<'a>, Difference> {
+        let names = names(part);
+        let chip = Chip::fresh(part)
+            .map_err(|number| format!("the twin refuses {part:?} with {number}"))?;
+        let mut state = [0xEE; STATE];
+        let told = door::fresh(&described(part, &names), &mut state);
+        if told != 0 || state != layout(&chip) {
+            return Err(format!(
+                "zc_fresh of {part:?} told {told}, state {}",
+                hex_line(&state)
+            ));
+        }
+        let side = Side { state, code, data };
+        Ok(Trio {
+            part: part.clone(),
+            names,
+            twin: Side {
+                state: chip,
+                code: side.code.clone(),
+                data: side.data.clone(),
+            },
+            stepped: side.clone(),
+            fed: side,
+            coverage,
+            events: 0,
+            calls_refused: 0,
+            phases: [0; 6],
+            fill: 0xA5,
+        })
+    }
+
+    /// Another state on all sides.
+    pub fn hand_in(&mut self, chip: Chip) {
+        self.stepped.state = layout(&chip);
+        self.fed.state = self.stepped.state;
+        self.twin.state = chip;
+    }
+
+    /// Another flash on all sides.
+    pub fn hand_in_flash(&mut self, code: Vec<u8>, data: Vec<u8>) {
+        self.stepped.code.copy_from_slice(&code);
+        self.fed.code.copy_from_slice(&code);
+        self.twin.code = code;
+        self.stepped.data.copy_from_slice(&data);
+        self.fed.data.copy_from_slice(&data);
+        self.twin.data = data;
+    }
+
+    /// Bytes: each by its own call to the twin and to the stepped chip, and the longest silent stretches at once to the fed one.
+    pub fn bytes(&mut self, mut rest: &[u8], room: usize) -> Result<(), Difference> {
+        while !rest.is_empty() {
+            self.fill = self.fill.wrapping_add(1);
+            let before = self.fed.state;
+            let mut fed_room = [self.fill; LONG_ROOM];
+            let (taken, fed_told) = door::feed(
+                &described(&self.part, &self.names),
+                &mut self.fed.state,
+                rest,
+                &mut self.fed.code,
+                &mut self.fed.data,
+                &mut fed_room[..room],
+            );
+            let mut steps = 0;
+            let (mut told, mut last_room) = (None, [self.fill; LONG_ROOM]);
+            for byte in rest {
+                let (one, one_room) = self.event(Event::Byte(*byte), room)?;
+                steps += 1;
+                (told, last_room) = (Some(one), one_room);
+                if one.frames > 0 {
+                    break;
+                }
+            }
+            let what = if taken != steps {
+                Some(format!(
+                    "{taken} bytes taken, {steps} heard until an answer"
+                ))
+            } else if Some(fed_told) != told {
+                Some(format!("told {fed_told:?}, by single bytes {told:?}"))
+            } else if fed_room != last_room {
+                Some(format!(
+                    "room {}, by single bytes {}",
+                    hex_line(&fed_room),
+                    hex_line(&last_room)
+                ))
+            } else {
+                unlike(&self.twin, &self.fed)
+            };
+            if let Some(what) = what {
+                return Err(format!(
+                    "zc_feed {} with room {room}\n  {}\n  state before {}",
+                    hex_line(rest),
+                    what,
+                    hex_line(&before)
+                ));
+            }
+            self.coverage.count("zc_feed, calls");
+            self.coverage.add("zc_feed, bytes", taken as u64);
+            rest = &rest[steps..];
+        }
+        Ok(())
+    }
+
+    /// A gap or power-on, on all three sides.
+    pub fn pause(&mut self, event: Event, room: usize) -> Result<(), Difference> {
+        self.fill = self.fill.wrapping_add(1);
+        self.event(event, room)?;
+        self.fed.state = self.stepped.state;
+        Ok(())
+    }
+
+    /// One event to the twin and to the stepped chip, and everything compared.
+    fn event(&mut self, event: Event, room: usize) -> Result<(Told, [u8; LONG_ROOM]), Difference> {
+        let before = self.stepped.state;
+        let phase = self.twin.state.phase;
+        let mut room_twin = [self.fill; LONG_ROOM];
+        let mut room_proved = room_twin;
+        let answer = step(
+            &self.part,
+            &mut self.twin.state,
+            event,
+            &mut self.twin.code,
+            &mut self.twin.data,
+            &mut room_twin[..room],
+        );
+        let part = described(&self.part, &self.names);
+        let Side { state, code, data } = &mut self.stepped;
+        let lent = &mut room_proved[..room];
+        let told = match event {
+            Event::Byte(byte) => door::byte(&part, state, byte, code, data, lent),
+            Event::Gap => door::gap(&part, state, code, data, lent),
+            Event::PowerOn => door::power_on(&part, state, code, data, lent),
+        };
+        self.events += 1;
+        self.phases[phase_index(phase)] += 1;
+        let expected = in_numbers(answer);
+        let what = if told != expected {
+            Some(format!("told {told:?}, the twin {expected:?}"))
+        } else if room_proved != room_twin {
+            Some(format!(
+                "room {}, the twin's {}",
+                hex_line(&room_proved),
+                hex_line(&room_twin)
+            ))
+        } else if room_proved[told.bytes..]
+            .iter()
+            .any(|byte| *byte != self.fill)
+        {
+            Some(format!(
+                "room past the reply changed: {}",
+                hex_line(&room_proved)
+            ))
+        } else {
+            unlike(&self.twin, &self.stepped)
+        };
+        if let Some(what) = what {
+            return Err(format!(
+                "{event:?} with room {room} on {:?}\n  {what}\n  state before {}",
+                self.part,
+                hex_line(&before)
+            ));
+        }
+        if told.frames > 0 {
+            self.count_answer(phase, &before, &room_twin[..told.bytes]);
+        }
+        Ok((told, room_proved))
+    }
+
+    /// Which frame was answered, and what was said.
+    fn count_answer(&mut self, phase: Phase, before: &[u8; STATE], answer: &[u8]) {
+        let said = statuses(answer);
+        let said_text: Vec<String> = said.iter().map(|status| format!("{status:02X}h")).collect();
+        let said_text = said_text.join(" ");
+        let name = match phase {
+            Phase::Awaiting { command: 0xA0, .. } => "data of A0h".to_string(),
+            Phase::Awaiting { command, .. } => format!("page of {command:02X}h"),
+            _ if script::COMMANDS.contains(&before[35]) => format!("{:02X}h", before[35]),
+            _ => "another COM".to_string(),
+        };
+        self.coverage.count(&format!("{name}, {said_text}"));
+        for status in said {
+            self.coverage.count(&format!("status, {status:02X}h"));
+        }
+    }
+
+    /// Events by phase, kept apart from the names so that an event costs no look-up.
+    pub fn finish(self) -> (u64, u64) {
+        for (name, count) in PHASES.iter().zip(self.phases) {
+            self.coverage.add(&format!("events, {name}"), count);
+        }
+        (self.events, self.calls_refused)
+    }
+}
+
+pub const PHASES: [&str; 6] = [
+    "phase 1",
+    "phase 2",
+    "phase 3",
+    "phase 4 of 40h",
+    "phase 4 of 13h",
+    "phase 4 of A0h",
+];
+
+fn phase_index(phase: Phase) -> usize {
+    match phase {
+        Phase::ModeByte => 0,
+        Phase::Setup => 1,
+        Phase::Ready => 2,
+        Phase::Awaiting { command: 0x40, .. } => 3,
+        Phase::Awaiting { command: 0x13, .. } => 4,
+        Phase::Awaiting { .. } => 5,
+    }
+}
+
+fn in_numbers(answer: Answer) -> Told {
+    match answer {
+        Answer::Replied { bytes, frames } => Told {
+            refusal: 0,
+            bytes,
+            frames,
+        },
+        Answer::Refused(number) => refused(number),
+    }
+}
+
+fn refused(number: u8) -> Told {
+    Told {
+        refusal: number.into(),
+        bytes: 0,
+        frames: 0,
+    }
+}
+
+fn unlike(twin: &Side<Chip>, proved: &Side<[u8; STATE]>) -> Option<String> {
+    let expected = layout(&twin.state);
+    if proved.state != expected {
+        Some(format!(
+            "state {}, the twin's {}",
+            hex_line(&proved.state),
+            hex_line(&expected)
+        ))
+    } else if proved.code != twin.code {
+        Some(format!(
+            "code flash differs at {:05X}h",
+            first(&proved.code, &twin.code)
+        ))
+    } else if proved.data != twin.data {
+        Some(format!(
+            "data flash differs at offset {:04X}h",
+            first(&proved.data, &twin.data)
+        ))
+    } else {
+        None
+    }
+}
+
+fn first(left: &[u8], right: &[u8]) -> usize {
+    left.iter().zip(right).take_while(|(a, b)| a == b).count()
+}
+
+// Calls that are refused: 01 "Refusal numbers", order 1, 2, 3, 9, 4
+
+pub const ORDER: [u8; 5] = [1, 2, 3, 9, 4];
+
+/// How refusal 1 and refusal 9 are provoked; the last four of 9 are bytes that are no state, which the twin's types cannot hold.
+pub const BAD_PARTS: [&str; 4] = ["code blocks", "data blocks", "clock", "names"];
+pub const BAD_STATES: [&str; 17] = [
+    "collected in phase 1",
+    "another header",
+    "as many as the frame needs",
+    "260 or more",
+    "rate",
+    "flags",
+    "last boot block",
+    "window reversed",
+    "window past the code blocks",
+    "command of phase 4",
+    "next no page start",
+    "last no block end",
+    "next past last",
+    "not both in one area",
+    "not 293 bytes",
+    "phase byte",
+    "awaited in phases 1 to 3",
+];
+const NO_STATE: usize = 14;
+
+/// Which call is refused.
+pub const CALLS: [&str; 4] = ["zc_byte", "zc_gap", "zc_power_on", "zc_feed"];
+
+impl Trio<'_> {
+    /// A call with one to three of the faults, on copies; nothing may change.
+    pub fn refused_call(&mut self, choice: &mut Generator) -> Result<(), Difference> {
+        let count = choice.pick(&[1, 1, 2, 2, 2, 3]);
+        let mut faults = Vec::new();
+        while faults.len() < count {
+            let fault = choice.pick(&ORDER);
+            if !faults.contains(&fault) {
+                faults.push(fault);
+            }
+        }
+        self.refused_with(choice, &faults)
+    }
+
+    pub fn refused_with(
+        &mut self,
+        choice: &mut Generator,
+        faults: &[u8],
+    ) -> Result<(), Difference> {
+        let has = |number: u8| faults.contains(&number);
+        let mut part = self.part.clone();
+        let mut lent_names = self.names.to_vec();
+        let mut bad_part = 0;
+        if has(1) {
+            bad_part = choice.below(BAD_PARTS.len());
+            spoil_part(choice, &mut part, &mut lent_names, bad_part);
+        }
+        // What the part asks for, as far as that can be lent, so that a bad part is the only fault where it is meant to be.
+        let fitting = |blocks: u32, held: &[u8]| {
+            let mut lent = held.to_vec();
+            if blocks < 1000 {
+                lent.resize(blocks as usize * BLOCK, 0x5A);
+            }
+            lent
+        };
+        let mut code = fitting(part.code_blocks, &self.twin.code);
+        let mut data = fitting(part.data_blocks, &self.twin.data);
+        if has(2) {
+            spoil_length(choice, &mut code);
+        }
+        if has(3) {
+            spoil_length(choice, &mut data);
+        }
+        let mut chip = self.twin.state.clone();
+        if choice.chance(30) {
+            chip = script::good_chip(choice, &self.part);
+        }
+        let mut way = 0;
+        if has(9) {
+            way = choice.below(BAD_STATES.len());
+            spoil_chip(choice, &self.part, &mut chip, way);
+        }
+        let mut state = layout(&chip).to_vec();
+        if has(9) && way >= NO_STATE {
+            spoil_bytes(choice, &mut state, way);
+        }
+        let any = choice.below(32);
+        let short = choice.pick(&[0, 31, any]);
+        let mut room = vec![self.fill; if has(4) { short } else { ROOM }];
+
+        let event = match choice.below(4) {
+            0 => Event::Gap,
+            1 => Event::PowerOn,
+            _ => Event::Byte(choice.pick(&[0x01, 0x02, 0x3A, 0x00])),
+        };
+        let bytes = [choice.byte(), choice.byte(), choice.byte()];
+        let by_feed = matches!(event, Event::Byte(_)) && choice.chance(50);
+        let expected = self.expected(
+            &part,
+            &lent_names,
+            &chip,
+            event,
+            (&code, &data, &room),
+            way,
+            faults,
+        )?;
+
+        let described = door::Part {
+            code_blocks: part.code_blocks,
+            data_blocks: part.data_blocks,
+            clock: part.clock,
+            names: &lent_names,
+        };
+        let kept = (state.clone(), code.clone(), data.clone(), room.clone());
+        let (call, told) = match event {
+            Event::Byte(_) if by_feed => {
+                let (taken, told) = door::feed(
+                    &described, &mut state, &bytes, &mut code, &mut data, &mut room,
+                );
+                if taken != 0 {
+                    return Err(format!(
+                        "zc_feed took {taken} bytes of a call with faults {faults:?}"
+                    ));
+                }
+                (3, told)
+            }
+            Event::Byte(byte) => (
+                0,
+                door::byte(
+                    &described, &mut state, byte, &mut code, &mut data, &mut room,
+                ),
+            ),
+            Event::Gap => (
+                1,
+                door::gap(&described, &mut state, &mut code, &mut data, &mut room),
+            ),
+            Event::PowerOn => (
+                2,
+                door::power_on(&described, &mut state, &mut code, &mut data, &mut room),
+            ),
+        };
+        let what = if told != refused(expected) {
+            Some(format!("told {told:?}, expected refusal {expected}"))
+        } else if kept != (state, code, data, room) {
+            Some("lent bytes changed".to_string())
+        } else {
+            None
+        };
+        if let Some(what) = what {
+            let (state, code, data, room) = kept;
+            return Err(format!(
+                "{} with faults {faults:?} (for 1 {}, for 9 {})\n  {what}\n  {part:?}, {} bytes of names, code {}, data {}, room {}, state {}",
+                CALLS[call],
+                BAD_PARTS[bad_part],
+                BAD_STATES[way],
+                lent_names.len(),
+                code.len(),
+                data.len(),
+                room.len(),
+                hex_line(&state)
+            ));
+        }
+        self.calls_refused += 1;
+        self.coverage.count(&format!("{}, {expected}", CALLS[call]));
+        let alone = if faults.len() == 1 {
+            "alone"
+        } else {
+            "with more faults"
+        };
+        self.coverage.count(&format!("refusal {expected}, {alone}"));
+        if expected == 1 {
+            self.coverage
+                .count(&format!("refusal 1 by, {}", BAD_PARTS[bad_part]));
+        }
+        if expected == 9 {
+            self.coverage
+                .count(&format!("refusal 9 by, {}", BAD_STATES[way]));
+        }
+        Ok(())
+    }
+
+    /// The number by the order of the faults, by the twin where its types can hold what is lent, and both must agree.
+    #[allow(clippy::too_many_arguments)]
+    fn expected(
+        &self,
+        part: &Part,
+        lent_names: &[u8],
+        chip: &Chip,
+        event: Event,
+        (code, data, room): (&[u8], &[u8], &[u8]),
+        way: usize,
+        faults: &[u8],
+    ) -> Result<u8, Difference> {
+        let by_order = ORDER.into_iter().find(|number| faults.contains(number));
+        let (mut twin_code, mut twin_data, mut twin_room) =
+            (code.to_vec(), data.to_vec(), room.to_vec());
+        let mut twin_chip = chip.clone();
+        let answer = step(
+            part,
+            &mut twin_chip,
+            event,
+            &mut twin_code,
+            &mut twin_data,
+            &mut twin_room,
+        );
+        let by_twin = match answer {
+            // Names of another length are a bad part, which comes before all else.
+            _ if lent_names.len() != NAMES => 1,
+            Answer::Refused(number @ 1..=3) => number,
+            // Bytes that are no state come before the room.
+            _ if faults.contains(&9) && way >= NO_STATE => 9,
+            Answer::Refused(number) => number,
+            Answer::Replied { .. } => 0,
+        };
+        let unchanged =
+            twin_chip == *chip && twin_code == code && twin_data == data && twin_room == room;
+        match answer {
+            Answer::Refused(_) if !unchanged => Err(format!(
+                "the twin changed something though it refused {faults:?}"
+            )),
+            _ if by_order != Some(by_twin) => Err(format!(
+                "the twin says {by_twin} to faults {faults:?} ({}): {chip:?} {part:?}",
+                BAD_STATES[way]
+            )),
+            _ => Ok(by_twin),
+        }
+    }
+
+    /// zc_fresh refused: 1 for a bad part, then 9 for bytes that no state fits in.
+    pub fn refused_fresh(&mut self, choice: &mut Generator) -> Result<(), Difference> {
+        let (bad_part, bad_length) = choice.pick(&[(true, false), (false, true), (true, true)]);
+        let mut part = self.part.clone();
+        let mut lent_names = self.names.to_vec();
+        if bad_part {
+            let way = choice.below(BAD_PARTS.len());
+            spoil_part(choice, &mut part, &mut lent_names, way);
+        }
+        let lengths = if bad_length {
+            [0, 292, 294]
+        } else {
+            [STATE; 3]
+        };
+        let mut state = vec![self.fill; choice.pick(&lengths)];
+        let described = door::Part {
+            code_blocks: part.code_blocks,
+            data_blocks: part.data_blocks,
+            clock: part.clock,
+            names: &lent_names,
+        };
+        let told = door::fresh(&described, &mut state);
+        let by_twin = match Chip::fresh(&part) {
+            _ if lent_names.len() != NAMES => 1,
+            Err(number) => number,
+            Ok(_) => 9,
+        };
+        let expected = if bad_part { 1 } else { 9 };
+        if told != expected
+            || by_twin != expected as u8
+            || state.iter().any(|byte| *byte != self.fill)
+        {
+            return Err(format!(
+                "zc_fresh of {part:?} with {} names and {} bytes told {told}, expected {expected}, the twin {by_twin}",
+                lent_names.len(),
+                state.len()
+            ));
+        }
+        self.calls_refused += 1;
+        self.coverage.count(&format!("zc_fresh, {expected}"));
+        Ok(())
+    }
+}
+
+fn spoil_part(choice: &mut Generator, part: &mut Part, lent_names: &mut Vec<u8>, way: usize) {
+    match way {
+        0 => part.code_blocks = choice.pick(&[0, 7, 65, 256 + 16, u32::MAX]),
+        1 => part.data_blocks = choice.pick(&[9, 255, 256, 256 + 4, u32::MAX]),
+        2 => part.clock = choice.pick(&[0, 33, 255, 256 + 32, u32::MAX]),
+        _ => lent_names.resize(choice.pick(&[0, 1, 15, 17, 32]), 0x20),
+    }
+}
+
+fn spoil_length(choice: &mut Generator, flash: &mut Vec<u8>) {
+    let length = flash.len();
+    let other = if length == 0 {
+        choice.pick(&[1, PAGE, BLOCK])
+    } else {
+        choice.pick(&[
+            0,
+            1,
+            length - 1,
+            length + 1,
+            length - BLOCK.min(length),
+            length + BLOCK,
+        ])
+    };
+    flash.resize(other, 0x5A);
+}
+
+/// Gives cause for refusal 9 in that way; the ways of bytes that are no state leave the chip good.
+fn spoil_chip(choice: &mut Generator, part: &Part, chip: &mut Chip, way: usize) {
+    let code = part.code_blocks as usize * BLOCK;
+    let awaiting = |command: u8, next: usize, last: usize| Phase::Awaiting {
+        command,
+        next,
+        last,
+    };
+    let command = choice.pick(&[0x40, 0x13]);
+    // A phase of this kind is good with an empty collector.
+    if (9..=13).contains(&way) {
+        chip.count = 0;
+    }
+    match way {
+        0 => {
+            chip.phase = Phase::ModeByte;
+            chip.count = choice.pick(&[1, 2, 4, 259]);
+            chip.collected[0] = choice.pick(&[0x01, 0x02, 0x3A]);
+        }
+        1 => {
+            let (phase, header) = choice.pick(&[
+                (Phase::Setup, 0x02),
+                (Phase::Ready, 0x02),
+                (Phase::Ready, 0x00),
+                (awaiting(command, 0, BLOCK - 1), 0x01),
+                (awaiting(0xA0, 0, 0), 0x01),
+            ]);
+            chip.phase = phase;
+            chip.collected[..2].copy_from_slice(&[header, 0x07]);
+            chip.count = choice.pick(&[1, 2, 5, 10]);
+        }
+        2 => {
+            let (phase, header) = choice.pick(&[
+                (Phase::Setup, 0x01),
+                (Phase::Ready, 0x01),
+                (awaiting(command, 0, BLOCK - 1), 0x02),
+                (awaiting(0xA0, 0, 0), 0x02),
+            ]);
+            let len = choice.pick(&[0x01, 0x03, 0x08, 0xFE, 0xFF]);
+            chip.phase = phase;
+            chip.collected[..2].copy_from_slice(&[header, len]);
+            let needed = usize::from(len) + 4;
+            chip.count = choice.pick(&[needed, (needed + 1).min(LONGEST - 1)]);
+        }
+        3 => {
+            let (phase, header) = choice.pick(&[
+                (Phase::Ready, 0x01),
+                (awaiting(command, 0, BLOCK - 1), 0x02),
+            ]);
+            chip.phase = phase;
+            chip.collected[..2].copy_from_slice(&[header, 0x00]);
+            let any = choice.word() as usize;
+            chip.count = choice.pick(&[260, 261, 512, 1 << 32, usize::MAX, any.max(260)]);
+        }
+        4 => chip.rate = choice.pick(&[0x04, 0x05, 0x80, 0xFF]),
+        5 => chip.options.flags &= !choice.pick(&[0x01, 0x08, 0x20, 0x40, 0x80, 0xE9]),
+        6 => chip.options.boot = choice.pick(&[0x00, 0x02, 0x04, 0xFF]),
+        7 => {
+            chip.options.end = choice.below(part.code_blocks as usize - 1) as u16;
+            chip.options.start = chip.options.end + 1;
+        }
+        8 => {
+            chip.options.start = choice.pick(&[0, 1]);
+            chip.options.end = choice.pick(&[part.code_blocks as u16, 0x0100, 0xFFFF]);
+        }
+        9 => {
+            let any = choice.byte();
+            let other = if [0x40, 0x13, 0xA0].contains(&any) {
+                0x22
+            } else {
+                any
+            };
+            chip.phase = awaiting(choice.pick(&[0x00, 0x9A, 0xB0, 0x32, other]), 0, BLOCK - 1);
+        }
+        10 => chip.phase = awaiting(command, choice.pick(&[1, 0x80, 0xFF, 0x3FF]), BLOCK - 1),
+        11 => {
+            let last = choice.pick(&[BLOCK, BLOCK - 2, PAGE - 1, BLOCK + PAGE - 1, 2 * BLOCK]);
+            chip.phase = awaiting(command, 0, last);
+        }
+        12 => {
+            let (next, last) = choice.pick(&[(BLOCK, BLOCK - 1), (code - PAGE, BLOCK - 1)]);
+            chip.phase = awaiting(command, next, last);
+        }
+        13 => {
+            let data = DATA_FLASH;
+            let past = data + part.data_blocks as usize * BLOCK;
+            let (next, last) = choice.pick(&[
+                (0, data + BLOCK - 1),
+                (data, BLOCK - 1),
+                (0, code + BLOCK - 1),
+                (code, code + BLOCK - 1),
+                (past, past + BLOCK - 1),
+                (data - BLOCK, data - 1),
+                (0, usize::MAX),
+                (usize::MAX - (PAGE - 1), usize::MAX),
+                (1 << 32, (1 << 32) + BLOCK - 1),
+            ]);
+            chip.phase = awaiting(command, next, last);
+        }
+        _ => (),
+    }
+}
+
+/// Bytes that are no state.
+fn spoil_bytes(choice: &mut Generator, state: &mut Vec<u8>, way: usize) {
+    match way {
+        14 => state.resize(choice.pick(&[0, 1, 292, 294, 586]), 0x00),
+        15 => state[7] = choice.pick(&[0, 5, 6, 0x80, 0xFF]),
+        _ => {
+            state[7] = choice.pick(&[1, 2, 3]);
+            state[8..25].fill(0);
+            let at = choice.between(8, 24);
+            state[choice.pick(&[8, at, 24])] = choice.pick(&[0x01, 0x40, 0xFF]);
+        }
+    }
+}

@@ -1,0 +1,229 @@
+//! Directed events: every COM with every fault of a frame in every phase, every pair of edge addresses, every flag byte and every window edge for A0h, and
+//! protection by every flag byte that the chip accepts, and every set of faults of a refused call (01 "Frames", "Phases", "Commands").
+
+use twin::chip::{
+    Chip, Event, Part, Phase, BLANK_CHECK, BLOCK, BLOCK_ERASE, CHECKSUM, DATA_FLASH, PAGE, PROGRAM,
+    SECURITY_RELEASE, SECURITY_SET, VERIFY,
+};
+use twin::frame::{LAST_FOOTER, MORE_FOOTER};
+use twin::random::{command_frame, data_frame, range_body, Generator};
+use twin::replay::replay_part;
+
+use crate::chip::{Difference, Trio, ORDER};
+use crate::coverage::Coverage;
+use crate::script;
+
+fn parts() -> [Part; 3] {
+    [(8, 0, 1), (16, 4, 32), (64, 8, 20)].map(|(code_blocks, data_blocks, clock)| Part {
+        code_blocks,
+        data_blocks,
+        clock,
+        ..replay_part()
+    })
+}
+
+/// All of it; hands back the events and the refused calls.
+pub fn run(coverage: &mut Coverage) -> Result<(u64, u64), Difference> {
+    let mut counts = (0, 0);
+    for part in parts() {
+        let mut choice = Generator::new(part.code_blocks.into());
+        let code = script::flash(&mut choice, 50, part.code_blocks);
+        let data = script::flash(&mut choice, 50, part.data_blocks);
+        let mut trio = Trio::fresh(&part, code, data, coverage)?;
+        every_command(&mut trio)?;
+        edge_ranges(&mut trio)?;
+        options(&mut trio)?;
+        protection(&mut trio)?;
+        faults(&mut trio, &mut choice)?;
+        let (events, refused) = trio.finish();
+        counts = (counts.0 + events, counts.1 + refused);
+    }
+    Ok(counts)
+}
+
+fn standing(trio: &Trio, phase: Phase) -> Chip {
+    let mut chip = Chip::fresh(&trio.part).expect("a described part");
+    chip.phase = phase;
+    chip
+}
+
+fn phases() -> [Phase; 6] {
+    let awaiting = |command: u8, next: usize, last: usize| Phase::Awaiting {
+        command,
+        next,
+        last,
+    };
+    [
+        Phase::ModeByte,
+        Phase::Setup,
+        Phase::Ready,
+        awaiting(PROGRAM, PAGE, BLOCK - 1),
+        awaiting(VERIFY, BLOCK - PAGE, BLOCK - 1),
+        awaiting(SECURITY_SET, 0, 0),
+    ]
+}
+
+/// 01's LEN of each command, one less and one more, and the frame's faults alone and in pairs.
+fn every_command(trio: &mut Trio) -> Result<(), Difference> {
+    for phase in phases() {
+        for com in 0..=255 {
+            for length in [1, 2, 3, 4, 5, 6, 7, 8, 9] {
+                let body = [com, 0x00, 0x21, 0x00, 0xFF, 0x03, 0x00, 0x00, 0x00];
+                let good = command_frame(&body[..length]);
+                let size = good.len();
+                let (mut bad_sum, mut bad_footer) = (good.clone(), good.clone());
+                bad_sum[size - 2] ^= 0x01;
+                bad_footer[size - 1] = MORE_FOOTER;
+                let mut both = bad_sum.clone();
+                both[size - 1] = MORE_FOOTER;
+                for frame in [good, bad_sum, bad_footer, both] {
+                    trio.hand_in(standing(trio, phase));
+                    trio.bytes(&frame, 32)?;
+                    trio.pause(Event::Gap, 33)?;
+                }
+            }
+        }
+        // LEN 00h is 256.
+        for com in script::COMMANDS {
+            let mut body = vec![0x00; 256];
+            body[0] = com;
+            trio.hand_in(standing(trio, phase));
+            trio.bytes(&command_frame(&body), 32)?;
+            trio.pause(Event::PowerOn, 32)?;
+        }
+    }
+    Ok(())
+}
+
+/// Every pair of addresses at an edge, for each command with a range, and each of them for 22h.
+fn edge_ranges(trio: &mut Trio) -> Result<(), Difference> {
+    let code = trio.part.code_blocks as usize * BLOCK;
+    let data = DATA_FLASH + trio.part.data_blocks as usize * BLOCK;
+    let edges = [
+        0,
+        BLOCK - 1,
+        BLOCK,
+        4 * BLOCK - 1,
+        4 * BLOCK,
+        code - BLOCK,
+        code - 1,
+        code,
+        code + BLOCK - 1,
+        DATA_FLASH - BLOCK,
+        DATA_FLASH - 1,
+        DATA_FLASH,
+        DATA_FLASH + BLOCK - 1,
+        data - 1,
+        data,
+        data + BLOCK - 1,
+        0xFF_FC00,
+        0xFF_FFFF,
+    ];
+    for start in edges {
+        trio.hand_in(standing(trio, Phase::Ready));
+        trio.bytes(&command_frame(&range_body(BLOCK_ERASE, start, 0)[..4]), 32)?;
+        for end in edges {
+            for command in [PROGRAM, VERIFY, CHECKSUM] {
+                trio.hand_in(standing(trio, Phase::Ready));
+                trio.bytes(&command_frame(&range_body(command, start, end)), 32)?;
+            }
+            for area in [0x00, 0x01, 0x02] {
+                let mut body = range_body(BLANK_CHECK, start, end);
+                body.push(area);
+                trio.hand_in(standing(trio, Phase::Ready));
+                trio.bytes(&command_frame(&body), 32)?;
+            }
+        }
+    }
+    Ok(())
+}
+
+/// A0h's data: every flag byte over every stored one, and every edge of the window.
+fn options(trio: &mut Trio) -> Result<(), Difference> {
+    let awaiting = Phase::Awaiting {
+        command: SECURITY_SET,
+        next: 0,
+        last: 0,
+    };
+    let last = trio.part.code_blocks as u16 - 1;
+    let send = |trio: &mut Trio, stored: u8, data: &[u8], footer: u8| {
+        let mut chip = standing(trio, awaiting);
+        chip.options.flags = stored;
+        trio.hand_in(chip);
+        trio.bytes(&data_frame(data, footer), 32)
+    };
+    for stored in script::FREE_FLAGS {
+        for flags in 0..=255 {
+            let data = [flags, 3, 0, 0, last as u8, 0, 0xFF, 0xFF];
+            send(trio, stored, &data, LAST_FOOTER)?;
+        }
+    }
+    for start in [0, 1, last - 1, last, last + 1, 0x0100, 0xFFFF] {
+        for end in [
+            0,
+            1,
+            last - 1,
+            last,
+            last + 1,
+            0x0100,
+            0x0100 + last,
+            0xFFFF,
+        ] {
+            for (boot, reserved) in [(3, 0xFF), (2, 0xFF), (3, 0x00)] {
+                let ([a, b], [c, d]) = (start.to_le_bytes(), end.to_le_bytes());
+                let data = [0xFF, boot, a, b, c, d, 0xFF, reserved];
+                send(trio, 0xFF, &data, LAST_FOOTER)?;
+                send(trio, 0xFF, &data, MORE_FOOTER)?;
+            }
+        }
+    }
+    for length in 1..=16 {
+        send(trio, 0xFF, &[0xFF; 16][..length], LAST_FOOTER)?;
+    }
+    Ok(())
+}
+
+/// 22h, 40h and A2h under every flag byte that the chip accepts, on flash that is blank and that is not.
+fn protection(trio: &mut Trio) -> Result<(), Difference> {
+    let code = trio.part.code_blocks;
+    let data = trio.part.data_blocks;
+    for filled in [0, 100] {
+        for flags in script::FREE_FLAGS {
+            let mut choice = Generator::new(flags.into());
+            trio.hand_in_flash(
+                script::flash(&mut choice, filled, code),
+                script::flash(&mut choice, filled, data),
+            );
+            for block in [3 * BLOCK, 4 * BLOCK, DATA_FLASH] {
+                let erase = command_frame(&range_body(BLOCK_ERASE, block, 0)[..4]);
+                let write = command_frame(&range_body(PROGRAM, block, block + BLOCK - 1));
+                let release = command_frame(&[SECURITY_RELEASE]);
+                for frame in [release, write, erase] {
+                    let mut chip = standing(trio, Phase::Ready);
+                    chip.options.flags = flags;
+                    chip.options.start = 1;
+                    trio.hand_in(chip);
+                    trio.bytes(&frame, 32)?;
+                }
+            }
+        }
+    }
+    Ok(())
+}
+
+/// Every set of the five faults, so that each refusal is met alone and before each that comes after it.
+fn faults(trio: &mut Trio, choice: &mut Generator) -> Result<(), Difference> {
+    for set in 1..1 << ORDER.len() {
+        let in_set = |(bit, _): &(usize, u8)| set >> bit & 1 == 1;
+        let faults: Vec<u8> = ORDER
+            .into_iter()
+            .enumerate()
+            .filter(in_set)
+            .map(|(_, number)| number)
+            .collect();
+        for _ in 0..40 {
+            trio.refused_with(choice, &faults)?;
+        }
+    }
+    Ok(())
+}

@@ -1,0 +1,354 @@
+//! The dock: random histories of calls to the twin and to the proved dock; after each call the reply, the 23 bytes of state, the whole room and the counts are
+//! compared (01 "The dock's flow", "Refusal numbers"). Beside them, bytes that are no state of a dock, which the twin's types cannot hold.
+
+use trials::dock::{cause_number, layout, stage_number, Work};
+use trials::door::{self, Report as Told, DOCK, NAMES};
+use twin::dock::{start, Report, Stage, State};
+use twin::histories::play;
+use twin::random::Generator;
+use twin::replay::hex_line;
+use twin::transcript::{
+    call_line, cause_text, job_line, twin_dock, Action, Call, Outcome, Reply, FILLER,
+};
+
+use crate::chip::Difference;
+use crate::coverage::{row, Coverage};
+
+/// What the histories were, for the report.
+#[derive(Default)]
+pub struct Counts {
+    pub calls: u64,
+    pub no_states: u64,
+}
+
+/// One history; every call of it compared.
+pub fn history(seed: u64, coverage: &mut Coverage, counts: &mut Counts) -> Result<(), Difference> {
+    let mut choice = Generator::new(!seed);
+    let mut difference = None;
+    let played = play(seed, |call| {
+        let expected = twin_dock(call);
+        counts.calls += 1;
+        if difference.is_none() {
+            let mut what = unlike(call, &expected);
+            if what.is_none() && choice.chance(20) {
+                counts.no_states += 1;
+                what = no_state(&mut choice, call, coverage);
+            }
+            difference = what.map(|what| {
+                format!(
+                    "{what}\n  {}\n  the twin: {}",
+                    job_line(call.job, call.image),
+                    call_line(call, &expected)
+                )
+            });
+        }
+        count(coverage, call, &expected);
+        expected
+    });
+    coverage.count(&format!("ending, {}", played.ending));
+    match difference {
+        Some(what) => Err(what),
+        None => Ok(()),
+    }
+}
+
+/// The call, made to the proved dock; what differs from the twin's outcome, if anything.
+fn unlike(call: &Call, expected: &Outcome) -> Option<String> {
+    let refusal = match expected.reply {
+        Reply::Refused(number) => u32::from(number),
+        _ => 0,
+    };
+    if call.expected_refusal() != Some(refusal as u8).filter(|number| *number != 0) {
+        return Some(format!(
+            "the twin tells {refusal} to faults {:?}",
+            call.faults
+        ));
+    }
+    let work = Work::new(call.job, call.image);
+    let job = work.job();
+    // What a refused start leaves is what was lent.
+    let mut dock = match call.action {
+        Action::Start => [0xEE; DOCK],
+        Action::Ask { state, .. } | Action::Answer { state, .. } | Action::Timeout { state } => {
+            layout(&state)
+        }
+    };
+    let after = expected.state.as_ref().map_or(dock, layout);
+    let told = match call.action {
+        Action::Start => {
+            let told = door::start(&job, &mut dock);
+            (told != refusal).then(|| format!("zc_start told {told}, not {refusal}"))
+        }
+        Action::Ask { room, .. } => {
+            let mut lent = vec![FILLER; room];
+            let told = door::ask(&job, &mut dock, &mut lent);
+            let length = match expected.reply {
+                Reply::Frame(length) => length,
+                _ => 0,
+            };
+            if told != (refusal, length) {
+                Some(format!("zc_ask told {told:?}, not {:?}", (refusal, length)))
+            } else if lent != expected.room {
+                Some(format!(
+                    "room {}, the twin's {}",
+                    hex_line(&lent),
+                    hex_line(&expected.room)
+                ))
+            } else {
+                None
+            }
+        }
+        Action::Answer { bytes, .. } => {
+            unlike_report("zc_answer", door::answer(&job, &mut dock, bytes), expected)
+        }
+        Action::Timeout { .. } => {
+            unlike_report("zc_timeout", door::timeout(&job, &mut dock), expected)
+        }
+    };
+    told.or_else(|| {
+        (dock != after)
+            .then(|| format!("state {}, the twin's {}", hex_line(&dock), hex_line(&after)))
+    })
+}
+
+fn unlike_report(name: &str, told: Told, expected: &Outcome) -> Option<String> {
+    let expected = in_numbers(expected);
+    (told != expected).then(|| format!("{name} told {told:?}, not {expected:?}"))
+}
+
+fn in_numbers(outcome: &Outcome) -> Told {
+    let (refusal, ended, frames, retries) = match outcome.reply {
+        Reply::Refused(number) => (number, 0, 0, 0),
+        Reply::Told(Report::Finished { frames, retries }) => (0, 1, frames, retries),
+        Reply::Told(Report::Failed {
+            failure,
+            frames,
+            retries,
+        }) => (
+            0,
+            1 + u32::from(cause_number(failure.cause)),
+            frames,
+            retries,
+        ),
+        _ => (0, 0, 0, 0),
+    };
+    Told {
+        refusal: refusal.into(),
+        ended,
+        frames_used: frames as u32,
+        retries_used: retries as u32,
+    }
+}
+
+pub const NO_STATES: [&str; 10] = [
+    "not 23 bytes",
+    "stage",
+    "awaited",
+    "a block named or not against the stage",
+    "a number of no block",
+    "a page named or not against the stage",
+    "a number of no page",
+    "cause",
+    "command or status of no failure",
+    "names not 16 bytes",
+];
+const SHORT_NAMES: usize = 9;
+
+/// The call again, with bytes that are no state, or with names that are no names; nothing may change.
+fn no_state(choice: &mut Generator, call: &Call, coverage: &mut Coverage) -> Option<String> {
+    let (state, room) = match call.action {
+        Action::Start => (None, 0),
+        Action::Ask { state, room } => (Some(state), room),
+        Action::Answer { state, .. } | Action::Timeout { state } => (Some(state), 0),
+    };
+    // Only its length is looked at where a start is to write it.
+    let way = match state {
+        Some(_) => choice.below(NO_STATES.len()),
+        None => choice.pick(&[0, SHORT_NAMES]),
+    };
+    let mut dock = state.as_ref().map_or([0xEE; DOCK], layout).to_vec();
+    spoil(choice, &mut dock, way);
+    let work = Work::new(call.job, call.image);
+    let mut job = work.job();
+    let mut lent_names = job.part.names.to_vec();
+    if way == SHORT_NAMES {
+        lent_names.resize(choice.pick(&[0, 1, NAMES - 1, NAMES + 1, 32]), 0x20);
+    }
+    job.part.names = &lent_names;
+    // 1, 5, 6 and 7 come before 9, and 9 before 4 and 8.
+    let expected = match start(call.job, call.image) {
+        _ if way == SHORT_NAMES => 1,
+        Err(number) => u32::from(number),
+        Ok(_) => 9,
+    };
+    let kept = dock.clone();
+    let mut lent = vec![FILLER; room];
+    let none = |told: Told| {
+        (
+            told.refusal,
+            told.ended == 0 && told.frames_used == 0 && told.retries_used == 0,
+        )
+    };
+    let (told, zeros) = match call.action {
+        Action::Start => (door::start(&job, &mut dock), true),
+        Action::Ask { .. } => {
+            let (told, length) = door::ask(&job, &mut dock, &mut lent);
+            (told, length == 0)
+        }
+        Action::Answer { bytes, .. } => none(door::answer(&job, &mut dock, bytes)),
+        Action::Timeout { .. } => none(door::timeout(&job, &mut dock)),
+    };
+    if told != expected || !zeros || dock != kept || lent.iter().any(|byte| *byte != FILLER) {
+        return Some(format!(
+            "no state ({}) told {told}, not {expected}, or something changed; dock {} after {}",
+            NO_STATES[way],
+            hex_line(&dock),
+            hex_line(&kept)
+        ));
+    }
+    if expected == 9 || way == SHORT_NAMES {
+        coverage.count(&format!("no state, {}", NO_STATES[way]));
+    }
+    if expected == 9 && state.is_none() {
+        coverage.count("zc_start, 9");
+    }
+    None
+}
+
+fn spoil(choice: &mut Generator, dock: &mut Vec<u8>, way: usize) {
+    let stage = dock[0];
+    let names_block = (4..=9).contains(&stage);
+    let names_page = stage == 7 || stage == 9;
+    let over = stage == 11;
+    match way {
+        0 => dock.resize(choice.pick(&[0, 1, DOCK - 1, DOCK + 1, 2 * DOCK]), 0x00),
+        1 => dock[0] = choice.pick(&[0, 12, 13, 0x80, 0xFF]),
+        2 => dock[1] = choice.pick(&[2, 3, 0xFF]),
+        3 if over => dock[10] = choice.pick(&[2, 0xFF]),
+        3 if names_block => dock[10..15].fill(0),
+        3 => dock[10] = 1,
+        4 => {
+            dock[10] = 0;
+            dock[choice.between(11, 14)] |= 1;
+        }
+        5 if over => dock[15] = choice.pick(&[2, 0xFF]),
+        5 if names_page => dock[15..20].fill(0),
+        5 => dock[15] = 1,
+        6 => {
+            dock[15] = 0;
+            dock[choice.between(16, 19)] |= 1;
+        }
+        7 if over => dock[20] = choice.pick(&[0, 5, 0xFF]),
+        7 => dock[20] = choice.pick(&[1, 4, 5, 0xFF]),
+        8 if over => dock[20] = 0,
+        8 => dock[choice.pick(&[21, 22])] = choice.pick(&[0x01, 0x40, 0xFF]),
+        _ => (),
+    }
+}
+
+fn count(coverage: &mut Coverage, call: &Call, outcome: &Outcome) {
+    let (name, before): (&str, Option<State>) = match call.action {
+        Action::Start => ("zc_start", None),
+        Action::Ask { state, .. } => ("zc_ask", Some(state)),
+        Action::Answer { state, .. } => ("zc_answer", Some(state)),
+        Action::Timeout { state } => ("zc_timeout", Some(state)),
+    };
+    if let Reply::Refused(number) = outcome.reply {
+        coverage.count(&format!("{name}, {number}"));
+        let alone = if call.faults.len() == 1 {
+            "alone"
+        } else {
+            "with more faults"
+        };
+        coverage.count(&format!("dock's refusal {number}, {alone}"));
+        return;
+    }
+    coverage.count(&format!("{name}, accepted"));
+    let Some(before) = before else { return };
+    coverage.count(&format!(
+        "{name} at, {}",
+        STAGES[usize::from(stage_number(before.stage)) - 1]
+    ));
+    if let Some(State {
+        stage: Stage::Failed(failure),
+        ..
+    }) = outcome.state
+    {
+        let page = failure.page.map_or("", |_| " page");
+        coverage.count(&format!(
+            "{}, {:02X}h{page}",
+            cause_text(failure.cause),
+            failure.command
+        ));
+        coverage.count(&format!("named, {:02X}h", failure.status));
+    }
+    if outcome
+        .state
+        .is_some_and(|after| after.retries > before.retries)
+    {
+        coverage.count(&format!(
+            "retry spent at, {}",
+            STAGES[usize::from(stage_number(before.stage)) - 1]
+        ));
+    }
+}
+
+/// The stages that have a frame, as failures name it.
+const STAGES: [&str; 9] = [
+    "9Ah", "00h", "C0h", "32h", "22h", "40h", "40h page", "13h", "13h page",
+];
+
+/// Prints what came; hands back what did not.
+pub fn tables(coverage: &Coverage) -> Vec<String> {
+    let mut missing = Vec::new();
+    let stages = [
+        row("zc_ask at", &STAGES),
+        row("zc_answer at", &STAGES),
+        row("zc_timeout at", &STAGES),
+        row("retry spent at", &STAGES),
+    ];
+    missing.extend(coverage.table("calls of the dock by stage", &stages));
+    let failures = [
+        row("status", &STAGES),
+        row("mismatch", &["9Ah", "C0h"]),
+        row("unreadable", &STAGES),
+        row("timeout", &STAGES),
+        row(
+            "named",
+            &[
+                "00h", "04h", "05h", "06h", "07h", "0Fh", "10h", "15h", "1Bh", "1Ch",
+            ],
+        ),
+        row(
+            "ending",
+            &[
+                "finished",
+                "failed status",
+                "failed mismatch",
+                "failed unreadable",
+                "failed timeout",
+                "refused 1",
+                "refused 5",
+                "refused 6",
+                "refused 7",
+                "refused 9",
+            ],
+        ),
+    ];
+    missing.extend(coverage.table("failures, by cause and frame", &failures));
+    let mut refusals = vec![
+        row("zc_start", &["accepted", "1", "5", "6", "7", "9"]),
+        row("zc_ask", &["accepted", "1", "5", "6", "7", "9", "4", "8"]),
+        row("zc_answer", &["accepted", "1", "5", "6", "7", "9", "8"]),
+        row("zc_timeout", &["accepted", "1", "5", "6", "7", "9", "8"]),
+    ];
+    for number in [1, 5, 6, 7, 9, 4, 8] {
+        // 8 is the last of the order: with another fault it never shows.
+        let both = ["alone", "with more faults"];
+        let ways = if number == 8 { &both[..1] } else { &both };
+        refusals.push(row(&format!("dock's refusal {number}"), ways));
+    }
+    refusals.push(row("no state", &NO_STATES));
+    missing.extend(coverage.table("refusals of the dock", &refusals));
+    missing
+}
