@@ -2,11 +2,11 @@
 //! room, the 293 bytes of state with the options among them, and all code and data flash are compared (01 "Frames" to "Refusal numbers").
 
 use trials::chip::{described, layout, names};
-use trials::door::{self, Told, NAMES, ROOM, STATE};
+use trials::door::{self, Told, NAMES, OUTPUT, ROOM, STATE};
 use twin::chip::{step, Answer, Chip, Event, Part, Phase, BLOCK, DATA_FLASH, PAGE};
 use twin::frame::LONGEST;
 use twin::random::{statuses, Generator};
-use twin::replay::hex_line;
+use twin::replay::{hex_line, RECORD};
 
 use crate::coverage::Coverage;
 use crate::script;
@@ -201,7 +201,8 @@ impl<'a> Trio<'a> {
         };
         if let Some(what) = what {
             return Err(format!(
-                "{event:?} with room {room} on {:?}\n  {what}\n  state before {}",
+                "{} with room {room} on {:?}\n  {what}\n  state before {}",
+                text_of(event),
                 self.part,
                 hex_line(&before)
             ));
@@ -255,6 +256,14 @@ fn phase_index(phase: Phase) -> usize {
         Phase::Awaiting { command: 0x40, .. } => 3,
         Phase::Awaiting { command: 0x13, .. } => 4,
         Phase::Awaiting { .. } => 5,
+    }
+}
+
+fn text_of(event: Event) -> String {
+    match event {
+        Event::Byte(byte) => format!("zc_byte {byte:02X}"),
+        Event::Gap => "zc_gap".to_string(),
+        Event::PowerOn => "zc_power_on".to_string(),
     }
 }
 
@@ -332,7 +341,7 @@ pub const BAD_STATES: [&str; 17] = [
 const NO_STATE: usize = 14;
 
 /// Which call is refused.
-pub const CALLS: [&str; 4] = ["zc_byte", "zc_gap", "zc_power_on", "zc_feed"];
+pub const CALLS: [&str; 5] = ["zc_byte", "zc_gap", "zc_power_on", "zc_feed", "zc_replay"];
 
 impl Trio<'_> {
     /// A call with one to three of the faults, on copies; nothing may change.
@@ -400,7 +409,7 @@ impl Trio<'_> {
             _ => Event::Byte(choice.pick(&[0x01, 0x02, 0x3A, 0x00])),
         };
         let bytes = [choice.byte(), choice.byte(), choice.byte()];
-        let by_feed = matches!(event, Event::Byte(_)) && choice.chance(50);
+        let many = choice.chance(50);
         let expected = self.expected(
             &part,
             &lent_names,
@@ -418,17 +427,28 @@ impl Trio<'_> {
             names: &lent_names,
         };
         let kept = (state.clone(), code.clone(), data.clone(), room.clone());
+        let mut untaken = true;
         let (call, told) = match event {
-            Event::Byte(_) if by_feed => {
+            Event::Byte(_) if many => {
                 let (taken, told) = door::feed(
                     &described, &mut state, &bytes, &mut code, &mut data, &mut room,
                 );
-                if taken != 0 {
-                    return Err(format!(
-                        "zc_feed took {taken} bytes of a call with faults {faults:?}"
-                    ));
-                }
+                untaken = taken == 0;
                 (3, told)
+            }
+            Event::Gap if many => {
+                let mut output = [self.fill; OUTPUT];
+                let (played, told) = door::replay(
+                    &described,
+                    &mut state,
+                    &[0; RECORD],
+                    &mut code,
+                    &mut data,
+                    &mut room,
+                    &mut output,
+                );
+                untaken = played == 0 && output == [self.fill; OUTPUT];
+                (4, told)
             }
             Event::Byte(byte) => (
                 0,
@@ -447,8 +467,8 @@ impl Trio<'_> {
         };
         let what = if told != refused(expected) {
             Some(format!("told {told:?}, expected refusal {expected}"))
-        } else if kept != (state, code, data, room) {
-            Some("lent bytes changed".to_string())
+        } else if kept != (state, code, data, room) || !untaken {
+            Some("lent bytes changed, or something was taken".to_string())
         } else {
             None
         };

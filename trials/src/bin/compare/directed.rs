@@ -1,5 +1,5 @@
-//! Directed events: every COM with every fault of a frame in every phase, every pair of edge addresses, every flag byte and every window edge for A0h, and
-//! protection by every flag byte that the chip accepts, and every set of faults of a refused call (01 "Frames", "Phases", "Commands").
+//! Directed events: every COM with every fault of a frame in every phase, every pair of edge addresses, every page, every flag byte and every window edge for
+//! A0h, protection by every flag byte that the chip accepts, and every set of faults of a refused call (01 "Frames", "Phases", "Commands", "Refusal numbers").
 
 use twin::chip::{
     Chip, Event, Part, Phase, BLANK_CHECK, BLOCK, BLOCK_ERASE, CHECKSUM, DATA_FLASH, PAGE, PROGRAM,
@@ -32,6 +32,7 @@ pub fn run(coverage: &mut Coverage) -> Result<(u64, u64), Difference> {
         let mut trio = Trio::fresh(&part, code, data, coverage)?;
         every_command(&mut trio)?;
         edge_ranges(&mut trio)?;
+        every_page(&mut trio, &mut choice)?;
         options(&mut trio)?;
         protection(&mut trio)?;
         faults(&mut trio, &mut choice)?;
@@ -132,6 +133,40 @@ fn edge_ranges(trio: &mut Trio) -> Result<(), Difference> {
                 body.push(area);
                 trio.hand_in(standing(trio, Phase::Ready));
                 trio.bytes(&command_frame(&body), 32)?;
+            }
+        }
+    }
+    Ok(())
+}
+
+/// Each page of each area, as a page of the whole area: written where all is blank, verified, and written again.
+fn every_page(trio: &mut Trio, choice: &mut Generator) -> Result<(), Difference> {
+    let (code, data) = (trio.part.code_blocks, trio.part.data_blocks);
+    trio.hand_in_flash(
+        script::flash(choice, 0, code),
+        script::flash(choice, 0, data),
+    );
+    for (base, blocks) in [(0, code), (DATA_FLASH, data)] {
+        let end = base + blocks as usize * BLOCK;
+        for next in (base..end).step_by(PAGE) {
+            let footer = if next + PAGE == end {
+                LAST_FOOTER
+            } else {
+                MORE_FOOTER
+            };
+            let page: Vec<u8> = (0..PAGE)
+                .map(|at| (at * 7 + next / PAGE * 31) as u8)
+                .collect();
+            for command in [PROGRAM, VERIFY, PROGRAM] {
+                trio.hand_in(standing(
+                    trio,
+                    Phase::Awaiting {
+                        command,
+                        next,
+                        last: end - 1,
+                    },
+                ));
+                trio.bytes(&data_frame(&page, footer), 32)?;
             }
         }
     }

@@ -2,6 +2,7 @@
 //! tightly things are promised": "All others run as program tests against a second implementation"). Ends with 1 at the first difference, or if anything that
 //! must come did not.
 
+mod captures;
 mod chip;
 mod coverage;
 mod directed;
@@ -22,15 +23,18 @@ use coverage::{row, Coverage};
 /// How much is tried.
 struct Size {
     events: u64,
+    captures: u64,
     histories: u64,
 }
 
 const LONG: Size = Size {
     events: 10_000_000,
+    captures: 10_000,
     histories: 100_000,
 };
 const SHARE: Size = Size {
     events: 1_500_000,
+    captures: 500,
     histories: 3_000,
 };
 
@@ -66,6 +70,7 @@ fn main() -> ExitCode {
 
 fn compare(size: &Size, coverage: &mut Coverage) -> Result<(), Difference> {
     compare_chips(size, coverage)?;
+    compare_captures(size, coverage)?;
     #[cfg(feature = "dock")]
     compare_docks(size, coverage)?;
     Ok(())
@@ -94,6 +99,21 @@ fn compare_chips(size: &Size, coverage: &mut Coverage) -> Result<(), Difference>
     println!(
         "chip: {events} events ({directed} directed, the others in {seed} courses), each compared with all flash and options; {refused} refused calls; \
          {:.0} s",
+        start.elapsed().as_secs_f64()
+    );
+    Ok(())
+}
+
+fn compare_captures(size: &Size, coverage: &mut Coverage) -> Result<(), Difference> {
+    let start = Instant::now();
+    let mut records = 0;
+    for seed in 0..size.captures {
+        records += captures::capture(seed, coverage)
+            .map_err(|difference| format!("capture, seed {seed}: {difference}"))?;
+    }
+    println!(
+        "replay: {} captures of {records} records; {:.0} s",
+        size.captures,
         start.elapsed().as_secs_f64()
     );
     Ok(())
@@ -217,6 +237,13 @@ fn chip_tables(coverage: &Coverage) -> Vec<String> {
         ("clock".to_string(), numbers(1, 32)),
     ];
     missing.extend(coverage.table("courses by part", &parts));
-    missing.extend(coverage.table("stretches", &[row("zc_feed", &["calls", "bytes"])]));
+    let many = [
+        row("zc_feed", &["calls", "bytes"]),
+        row(
+            "captures",
+            &["whole", "bad record", "in pieces for want of output"],
+        ),
+    ];
+    missing.extend(coverage.table("many at once", &many));
     missing
 }

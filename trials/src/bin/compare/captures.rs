@@ -1,0 +1,151 @@
+//! Random captures through zc_replay and through the twin: the same reply bytes, frames and end, and the same room, state and flash after it (01 "Replay").
+
+use trials::chip::{described, layout, names};
+use trials::door::{self, BAD_RECORD, OUTPUT, ROOM, STATE};
+use twin::chip::{step, Answer};
+use twin::random::{random_capture, Generator};
+use twin::replay::{events, hex_line, judge_record, Player, RECORD};
+
+use crate::chip::Difference;
+use crate::coverage::Coverage;
+
+/// What a replay leaves.
+struct Left {
+    said: Vec<u8>,
+    frames: usize,
+    /// Records that were played, and whether the one after them is not good.
+    records: usize,
+    bad: bool,
+    room: [u8; ROOM],
+    state: [u8; STATE],
+    code: Vec<u8>,
+    data: Vec<u8>,
+}
+
+/// One capture; hands back how many records were played.
+pub fn capture(seed: u64, coverage: &mut Coverage) -> Result<u64, Difference> {
+    let capture = random_capture(seed);
+    let fill = seed as u8;
+    let twin = by_twin(&capture, fill);
+    // Little output is enough for few records at a time.
+    let mut choice = Generator::new(seed);
+    let little = choice.between(OUTPUT, 3 * OUTPUT);
+    let output = choice.pick(&[little, little, 1 << 16]);
+    let proved = by_door(&capture, fill, output, coverage)?;
+    let alike = [
+        ("reply bytes", twin.said == proved.said),
+        ("frames", twin.frames == proved.frames),
+        ("records", twin.records == proved.records),
+        ("whether a record is bad", twin.bad == proved.bad),
+        ("room", twin.room == proved.room),
+        ("state", twin.state == proved.state),
+        ("code flash", twin.code == proved.code),
+        ("data flash", twin.data == proved.data),
+    ];
+    if let Some((what, _)) = alike.iter().find(|(_, alike)| !alike) {
+        return Err(format!(
+            "zc_replay with output {output}: {what} not the twin's; the capture is {}",
+            hex_line(&capture)
+        ));
+    }
+    let end = if twin.bad { "bad record" } else { "whole" };
+    coverage.count(&format!("captures, {end}"));
+    Ok(twin.records as u64)
+}
+
+fn by_twin(capture: &[u8], fill: u8) -> Left {
+    let mut player = Player::fresh();
+    let (mut said, mut frames, mut records, mut room) = (Vec::new(), 0, 0, [fill; ROOM]);
+    let mut bad = false;
+    for record in capture.chunks(RECORD) {
+        let whole = <&[u8; RECORD]>::try_from(record).ok();
+        let Some(good) = whole.and_then(judge_record) else {
+            bad = true;
+            break;
+        };
+        for event in events(good) {
+            let answer = step(
+                &player.part,
+                &mut player.chip,
+                event,
+                &mut player.code,
+                &mut player.data,
+                &mut room,
+            );
+            if let Answer::Replied {
+                bytes,
+                frames: more,
+            } = answer
+            {
+                said.extend_from_slice(&room[..bytes]);
+                frames += more;
+            }
+        }
+        records += 1;
+    }
+    Left {
+        said,
+        frames,
+        records,
+        bad,
+        room,
+        state: layout(&player.chip),
+        code: player.code,
+        data: player.data,
+    }
+}
+
+fn by_door(
+    capture: &[u8],
+    fill: u8,
+    size: usize,
+    coverage: &mut Coverage,
+) -> Result<Left, Difference> {
+    let Player {
+        part, code, data, ..
+    } = Player::fresh();
+    let names = names(&part);
+    let part = described(&part, &names);
+    let mut left = Left {
+        said: Vec::new(),
+        frames: 0,
+        records: 0,
+        bad: false,
+        room: [fill; ROOM],
+        state: [0; STATE],
+        code,
+        data,
+    };
+    if door::fresh(&part, &mut left.state) != 0 {
+        return Err("zc_fresh refuses the part of the replay".to_string());
+    }
+    loop {
+        let mut output = vec![!fill; size];
+        let (played, told) = door::replay(
+            &part,
+            &mut left.state,
+            &capture[left.records * RECORD..],
+            &mut left.code,
+            &mut left.data,
+            &mut left.room,
+            &mut output,
+        );
+        if told.bytes > size || output[told.bytes..].iter().any(|byte| *byte != !fill) {
+            return Err(format!(
+                "zc_replay told {told:?} and changed output past that"
+            ));
+        }
+        left.said.extend_from_slice(&output[..told.bytes]);
+        left.frames += told.frames;
+        left.records += played;
+        match told.refusal {
+            0 => return Ok(left),
+            BAD_RECORD => {
+                left.bad = true;
+                return Ok(left);
+            }
+            4 if played > 0 => coverage.count("captures, in pieces for want of output"),
+            _ => return Err(format!("zc_replay told {told:?} after {played} records")),
+        }
+    }
+}
