@@ -1,9 +1,10 @@
-//! Directed events: every COM with every fault of a frame in every phase, every pair of edge addresses, every page, every flag byte and every window edge for
-//! A0h, protection by every flag byte that the chip accepts, and every set of faults of a refused call (01 "Frames", "Phases", "Commands", "Refusal numbers").
+//! Directed events: every COM with every fault of a frame in every phase, every pair of edge addresses, every page, one byte amiss in every place of a page,
+//! every flag byte and every window edge for A0h, protection by every flag byte that the chip accepts, and every set of faults of a refused call (01 "Frames",
+//! "Phases", "Commands", "Refusal numbers").
 
 use twin::chip::{
-    Chip, Event, Part, Phase, BLANK_CHECK, BLOCK, BLOCK_ERASE, CHECKSUM, DATA_FLASH, PAGE, PROGRAM,
-    SECURITY_RELEASE, SECURITY_SET, VERIFY,
+    Chip, Event, Part, Phase, BLANK_CHECK, BLOCK, BLOCK_ERASE, CHECKSUM, DATA_FLASH, ERASED, PAGE,
+    PROGRAM, SECURITY_RELEASE, SECURITY_SET, VERIFY,
 };
 use twin::frame::{LAST_FOOTER, MORE_FOOTER};
 use twin::random::{command_frame, data_frame, range_body, Generator};
@@ -33,6 +34,7 @@ pub fn run(coverage: &mut Coverage) -> Result<(u64, u64), Difference> {
         every_command(&mut trio)?;
         edge_ranges(&mut trio)?;
         every_page(&mut trio, &mut choice)?;
+        one_byte(&mut trio)?;
         options(&mut trio)?;
         protection(&mut trio)?;
         faults(&mut trio, &mut choice)?;
@@ -167,6 +169,57 @@ fn every_page(trio: &mut Trio, choice: &mut Generator) -> Result<(), Difference>
                     },
                 ));
                 trio.bytes(&data_frame(&page, footer), 32)?;
+            }
+        }
+    }
+    Ok(())
+}
+
+/// Flash that differs from blank, or from the page, in one byte: at each place of a page for 40h and 13h, at both ends of each block for 32h, B0h and A2h.
+fn one_byte(trio: &mut Trio) -> Result<(), Difference> {
+    let code = trio.part.code_blocks as usize * BLOCK;
+    let data = trio.part.data_blocks as usize * BLOCK;
+    let blank = vec![ERASED; code + data];
+    let page: Vec<u8> = (0..PAGE).map(|at| (at * 5 + 1) as u8).collect();
+    let next = 2 * PAGE;
+    for at in 0..PAGE {
+        for command in [PROGRAM, VERIFY] {
+            let mut flash = blank.clone();
+            if command == VERIFY {
+                flash[next..next + PAGE].copy_from_slice(&page);
+            }
+            flash[next + at] ^= 0x80;
+            trio.hand_in_flash(flash[..code].to_vec(), flash[code..].to_vec());
+            trio.hand_in(standing(
+                trio,
+                Phase::Awaiting {
+                    command,
+                    next,
+                    last: BLOCK - 1,
+                },
+            ));
+            trio.bytes(&data_frame(&page, MORE_FOOTER), 32)?;
+        }
+    }
+    for block in 0..(code + data) / BLOCK {
+        let start = match (block * BLOCK).checked_sub(code) {
+            Some(offset) => DATA_FLASH + offset,
+            None => block * BLOCK,
+        };
+        let end = start + BLOCK - 1;
+        let mut check = range_body(BLANK_CHECK, start, end);
+        check.push(0x00);
+        for at in [0, BLOCK - 1] {
+            let mut flash = blank.clone();
+            flash[block * BLOCK + at] = 0xFE;
+            trio.hand_in_flash(flash[..code].to_vec(), flash[code..].to_vec());
+            for body in [
+                &check,
+                &range_body(CHECKSUM, start, end),
+                &vec![SECURITY_RELEASE],
+            ] {
+                trio.hand_in(standing(trio, Phase::Ready));
+                trio.bytes(&command_frame(body), 32)?;
             }
         }
     }
