@@ -800,8 +800,9 @@ fn spoil_numbers(choice: &mut Generator, job: &mut Job) {
 fn spoil_range(choice: &mut Generator, job: &mut Job) {
     let block = BLOCK as u64;
     let data_flash = DATA_FLASH as u64;
-    let past_code = u64::from(job.part.code_blocks) * block;
-    let past_data = data_flash + u64::from(job.part.data_blocks) * block;
+    // A part that is spoiled already may have any number of blocks; the addresses stay within 32 bits.
+    let past_code = u64::from(job.part.code_blocks.min(64)) * block;
+    let past_data = data_flash + u64::from(job.part.data_blocks.min(8)) * block;
     let (start, end) = (job.start, job.end);
     (job.start, job.end) = match choice.below(10) {
         0 => (end, start),

@@ -47,6 +47,30 @@ fn refusals_come_exactly_when_provoked() {
     }
 }
 
+/// A dock of narrower numbers can be given every call. The widest come with two faults at once, which are rare.
+#[test]
+fn all_numbers_are_within_32_bits() {
+    for seed in 0..5 * HISTORIES {
+        played(seed, |call, _| {
+            let Job {
+                start,
+                end,
+                rate,
+                supply,
+                retries,
+                ..
+            } = *call.job;
+            for number in [start, end, rate, supply, retries] {
+                assert!(number <= u64::from(u32::MAX), "{seed} {call:?}");
+            }
+            if let Some(state) = state_before(call) {
+                let most = state.frames.max(state.retries);
+                assert!(most <= u64::from(u32::MAX), "{seed} {call:?}");
+            }
+        });
+    }
+}
+
 /// "at most 3 + 12(B + R) frames", and no retry past the allowance, from handed-in states too.
 #[test]
 fn no_count_passes_its_bound() {

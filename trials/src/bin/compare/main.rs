@@ -28,14 +28,14 @@ struct Size {
 }
 
 const LONG: Size = Size {
-    events: 10_000_000,
-    captures: 10_000,
-    histories: 100_000,
+    events: 50_000_000,
+    captures: 20_000,
+    histories: 200_000,
 };
 const SHARE: Size = Size {
-    events: 1_500_000,
-    captures: 500,
-    histories: 3_000,
+    events: 5_000_000,
+    captures: 1_000,
+    histories: 10_000,
 };
 
 fn main() -> ExitCode {
