@@ -1,11 +1,14 @@
-//! The proved chip against the twin, in one process and on the same bytes: ratios of the least of several runs each. After every pair of runs both have said
-//! the same bytes and hold the same flash and state.
+//! The proved chip and the proved dock against the twin, in one process and on the same bytes: ratios of the least of several runs each. After every pair of
+//! runs both have said the same bytes and hold the same flash and state.
 
 use std::hint::black_box;
 use std::time::Instant;
 
 use trials::chip::{layout, Door};
-use twin::chip::{step, Answer, Chip, Event, Part, PAGE, PROGRAM, VERIFY};
+use trials::dock::Work;
+use trials::door::{self, DOCK, FRAME_ROOM};
+use twin::chip::{step, Answer, Chip, Event, Part, BLOCK, PAGE, PROGRAM, VERIFY};
+use twin::dock;
 use twin::frame::{LAST_FOOTER, MORE_FOOTER};
 use twin::random::{command_frame, data_frame, range_body};
 use twin::replay::{judge_record, replay_part, Player, Record, CARRIED, RECORD};
@@ -86,7 +89,7 @@ fn capture(records: usize) -> Vec<u8> {
 
 struct Said {
     bytes: Vec<u8>,
-    state: [u8; 293],
+    state: Vec<u8>,
     code: Vec<u8>,
     data: Vec<u8>,
 }
@@ -94,7 +97,7 @@ struct Said {
 fn from_door(door: Door, bytes: Vec<u8>) -> Said {
     Said {
         bytes,
-        state: door.state,
+        state: door.state.to_vec(),
         code: door.code,
         data: door.data,
     }
@@ -103,7 +106,7 @@ fn from_door(door: Door, bytes: Vec<u8>) -> Said {
 fn from_twin(player: Player, bytes: Vec<u8>) -> Said {
     Said {
         bytes,
-        state: layout(&player.chip),
+        state: layout(&player.chip).to_vec(),
         code: player.code,
         data: player.data,
     }
@@ -234,13 +237,104 @@ fn twin_replay(capture: &[u8]) -> Said {
     from_twin(player, said)
 }
 
+/// A job over every code block, and what a chip that holds something else answers to its frames.
+struct Rehearsal {
+    job: dock::Job,
+    image: Vec<u8>,
+    answers: Vec<Vec<u8>>,
+}
+
+/// How often the job is done in one run.
+const JOBS: usize = 20;
+
+impl Rehearsal {
+    fn new() -> Rehearsal {
+        let mut player = Player::fresh();
+        player.code.fill(0x5A);
+        hear(&mut player, Event::Byte(0x3A), &mut [0; 32]);
+        let mut rehearsal = Rehearsal {
+            job: dock::Job {
+                part: player.part.clone(),
+                start: 0,
+                end: (BLOCKS * BLOCK - 1) as u64,
+                rate: 0,
+                supply: 33,
+                retries: 0,
+            },
+            image: (0..BLOCKS * 4)
+                .flat_map(|at| page(0, at / 4, at % 4))
+                .collect(),
+            answers: Vec::new(),
+        };
+        let (job, image) = (&rehearsal.job, &rehearsal.image);
+        let mut state = dock::start(job, image).expect("a good job");
+        let mut room = [0; FRAME_ROOM];
+        while !matches!(state.stage, dock::Stage::Finished) {
+            let length = dock::ask(job, image, &mut state, &mut room).expect("a frame is due");
+            hear(&mut player, Event::Gap, &mut [0; 32]);
+            let answer: Vec<u8> = room[..length]
+                .iter()
+                .flat_map(|byte| player.hear(Event::Byte(*byte)).bytes)
+                .collect();
+            dock::answer(job, image, &mut state, &answer).expect("the answer is awaited");
+            rehearsal.answers.push(answer);
+        }
+        rehearsal
+    }
+
+    /// A frame asked for and its answer handed in, by turns.
+    fn by_twin(&self) -> Said {
+        let (mut frames, mut room, mut after) = (Vec::new(), [0; FRAME_ROOM], None);
+        for _ in 0..JOBS {
+            let mut state = dock::start(&self.job, &self.image).expect("a good job");
+            for answer in &self.answers {
+                let length = dock::ask(&self.job, &self.image, &mut state, &mut room)
+                    .expect("a frame is due");
+                frames.extend_from_slice(&room[..length]);
+                dock::answer(&self.job, &self.image, &mut state, answer)
+                    .expect("the answer is awaited");
+            }
+            after = Some(state);
+        }
+        said_by_dock(
+            frames,
+            &trials::dock::layout(&after.expect("one job at least")),
+        )
+    }
+
+    fn by_door(&self) -> Said {
+        let work = Work::new(&self.job, &self.image);
+        let job = work.job();
+        let (mut frames, mut room, mut state) = (Vec::new(), [0; FRAME_ROOM], [0; DOCK]);
+        for _ in 0..JOBS {
+            assert_eq!(door::start(&job, &mut state), 0);
+            for answer in &self.answers {
+                let (told, length) = door::ask(&job, &mut state, &mut room);
+                assert_eq!(told, 0);
+                frames.extend_from_slice(&room[..length]);
+                assert_eq!(door::answer(&job, &mut state, answer).refusal, 0);
+            }
+        }
+        said_by_dock(frames, &state)
+    }
+}
+
+fn said_by_dock(bytes: Vec<u8>, state: &[u8]) -> Said {
+    Said {
+        bytes,
+        state: state.to_vec(),
+        code: Vec::new(),
+        data: Vec::new(),
+    }
+}
+
 /// Nanoseconds of the quickest of so many runs, the two taking turns; they must have done the same.
 fn least(
     name: &str,
     units: usize,
     unit: &str,
-    proved: fn(&[u8]) -> Said,
-    other: fn(&[u8]) -> Said,
+    proved: impl Fn(&[u8]) -> Said,
+    other: impl Fn(&[u8]) -> Said,
     input: &[u8],
     runs: usize,
 ) -> f64 {
@@ -333,5 +427,15 @@ fn main() {
     println!(
         "1,000,000 records over 100 times 10,000 records, proved {:9.2}",
         many / (100.0 * few)
+    );
+    let rehearsal = Rehearsal::new();
+    least(
+        "the dock: a frame asked for and its answer handed in",
+        JOBS * rehearsal.answers.len(),
+        "frame",
+        |_| rehearsal.by_door(),
+        |_| rehearsal.by_twin(),
+        &[],
+        RUNS,
     );
 }

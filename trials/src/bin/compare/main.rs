@@ -6,7 +6,6 @@ mod captures;
 mod chip;
 mod coverage;
 mod directed;
-#[cfg(feature = "dock")]
 mod dock;
 mod script;
 
@@ -49,14 +48,11 @@ fn main() -> ExitCode {
         }
     };
     let mut coverage = Coverage::default();
-    let mut missing = Vec::new();
-    match compare(&size, &mut coverage) {
-        Ok(()) => missing.extend(tables(&coverage)),
-        Err(difference) => {
-            println!("DIFFERENCE: {difference}");
-            return ExitCode::FAILURE;
-        }
+    if let Err(difference) = compare(&size, &mut coverage) {
+        println!("DIFFERENCE: {difference}");
+        return ExitCode::FAILURE;
     }
+    let missing = tables(&coverage);
     for name in &missing {
         println!("NEVER CAME: {name}");
     }
@@ -71,14 +67,12 @@ fn main() -> ExitCode {
 fn compare(size: &Size, coverage: &mut Coverage) -> Result<(), Difference> {
     compare_chips(size, coverage)?;
     compare_captures(size, coverage)?;
-    #[cfg(feature = "dock")]
     compare_docks(size, coverage)?;
     Ok(())
 }
 
 fn tables(coverage: &Coverage) -> Vec<String> {
     let mut missing = chip_tables(coverage);
-    #[cfg(feature = "dock")]
     missing.extend(dock::tables(coverage));
     missing
 }
@@ -119,7 +113,6 @@ fn compare_captures(size: &Size, coverage: &mut Coverage) -> Result<(), Differen
     Ok(())
 }
 
-#[cfg(feature = "dock")]
 fn compare_docks(size: &Size, coverage: &mut Coverage) -> Result<(), Difference> {
     let start = Instant::now();
     let mut counts = dock::Counts::default();
