@@ -20,7 +20,6 @@ use effect::Core;
 use effect::Done;
 use effect::Phase;
 use effect::commands;
-use effect::pages;
 use frame::Header;
 use frame::collector::Collector;
 use options::Options;

@@ -1,9 +1,8 @@
 // The commands of document 01, "Commands", in the judging order of "Frames". Decisions on numbers come first, flash is lent late.
 ghost use mathlib.Core.Path.{_≡_};
 ghost use Prim.Native.Nat.{_≤_, _+_, _-_};
-ghost use lib.ListN.{take, drop, getD, length};
+ghost use lib.ListN.{getD, length};
 ghost use Rattle.part.specs.Part.{rangeOf, placeOf, blocks};
-ghost use Rattle.frame.specs.Judgement.{isGood};
 ghost use Rattle.words.specs.Words.{_and_};
 ghost use Rattle.flash.specs.Flash.{blank};
 ghost use Rattle.options.specs.Options.{bootAllowed, eraseAllowed};
@@ -14,7 +13,8 @@ use super::Awaited;
 use super::Core;
 use super::Done;
 use super::Phase;
-use frame::judgement::Judgement;
+use super::is_good;
+use super::part_of;
 use part::Area;
 use part::Part;
 use part::Place;
@@ -190,20 +190,6 @@ fn block_erase(part: Part, core: Core, start: usize, code: &mut [u8], data: &mut
             core,
         },
     }
-}
-
-// The bytes of a stretch that may run past the end.
-pub(crate) fn part_of(bytes: &[u8], from: usize, n: usize) -> &[u8]
-    ensures { λ r. ⌜ now r ≡ take n (drop from (now (bytes .entry))) ⌝ }
-{
-    let len = bytes.len();
-    if len <= from {
-        return &bytes[len..len];
-    }
-    if len - from <= n {
-        return &bytes[from..len];
-    }
-    &bytes[from..from + n]
 }
 
 // The bytes of a good range.
@@ -385,17 +371,6 @@ fn payload_length(bytes: &[u8]) -> usize
         return 0;
     }
     n - 4
-}
-
-pub(crate) fn is_good(j: Judgement) -> bool
-    ensures { λ r. ⌜ r ≡ isGood j ⌝ }
-{
-    match j {
-        Judgement::Good => true,
-        Judgement::WrongFooter => false,
-        Judgement::WrongSum => false,
-        Judgement::UnfitLength => false,
-    }
 }
 
 fn work(

@@ -1,12 +1,14 @@
-// What a complete frame does: the commands and the pages of document 01, on the chip's record and the two areas of flash. No collector and no room
-// is in it; what is heard and what is said is the chip's.
+// What a complete frame does: the commands of document 01, on the chip's record and the two areas of flash, and what the pages above share with them.
+// No collector and no room is in it; what is heard and what is said is the chip's.
 ghost use mathlib.Core.Path.{_≡_};
+ghost use lib.ListN.{drop, take};
+ghost use Rattle.frame.specs.Judgement.{isGood};
 ghost use Rattle.effect.specs.Effect.{entered};
+use frame::judgement::Judgement;
 use options::Options;
 use reply::Reply;
 
 pub mod commands;
-pub mod pages;
 
 // What phase 4 carries. Next and last address are 0 from A0h.
 pub struct Awaited {
@@ -64,5 +66,30 @@ impl Core {
             rate: self.rate,
             phase,
         }
+    }
+}
+
+// The bytes of a stretch that may run past the end.
+pub fn part_of(bytes: &[u8], from: usize, n: usize) -> &[u8]
+    ensures { λ r. ⌜ now r ≡ take n (drop from (now (bytes .entry))) ⌝ }
+{
+    let len = bytes.len();
+    if len <= from {
+        return &bytes[len..len];
+    }
+    if len - from <= n {
+        return &bytes[from..len];
+    }
+    &bytes[from..from + n]
+}
+
+pub fn is_good(j: Judgement) -> bool
+    ensures { λ r. ⌜ r ≡ isGood j ⌝ }
+{
+    match j {
+        Judgement::Good => true,
+        Judgement::WrongFooter => false,
+        Judgement::WrongSum => false,
+        Judgement::UnfitLength => false,
     }
 }
