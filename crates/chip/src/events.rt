@@ -19,7 +19,6 @@ use effect::Awaited;
 use effect::Core;
 use effect::Done;
 use effect::Phase;
-use effect::commands;
 use frame::Header;
 use frame::collector::Collector;
 use options::Options;

@@ -7,6 +7,7 @@ pub mod Flash
 pub mod Options
 pub mod Reply
 pub mod Effect
+pub mod Commands
 pub mod Pages
 pub mod Chip
 pub mod Capture

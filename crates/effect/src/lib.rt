@@ -8,7 +8,7 @@ use frame::judgement::Judgement;
 use options::Options;
 use reply::Reply;
 
-pub mod commands;
+pub mod work;
 
 // What phase 4 carries. Next and last address are 0 from A0h.
 pub struct Awaited {
