@@ -1,4 +1,4 @@
-// The command frames of document 01, in the judging order of "Frames": footer and SUM, which command is asked for in the phase, LEN, then the command's own work.
+// The command frames of document 01, in the judging order of "Frames": footer and SUM, the command asked for in the phase, LEN, then the work of the command.
 ghost use mathlib.Core.Path.{_≡_};
 ghost use Prim.Native.Nat.{_≤_, _-_};
 ghost use lib.ListN.{length};
