@@ -1,0 +1,343 @@
+//! The two ends of the cable, by the proved library and by the second implementation (01 "The two ends of the cable").
+
+use trials::door;
+use twin::chip::{step, Answer, Chip, Event};
+use twin::dock::{self, Report, Stage};
+
+use crate::job::{
+    Flash, Job, CLOCK, CODE_BLOCKS, DATA_BLOCKS, NAMES, OPTIONS, RATE, RETRIES, SUPPLY,
+};
+
+/// How a job stands, and the frames and retries that the dock told.
+#[derive(Clone, Copy)]
+pub enum Stand {
+    GoesOn,
+    Finished {
+        frames: usize,
+        retries: usize,
+    },
+    Failed {
+        cause: Cause,
+        block: Option<usize>,
+        frames: usize,
+        retries: usize,
+    },
+    /// More frames than 01 allows were asked for; the dock was left there.
+    Endless,
+}
+
+impl Stand {
+    pub fn failed_by(self, by: Cause) -> bool {
+        matches!(self, Stand::Failed { cause, .. } if cause == by)
+    }
+}
+
+#[derive(Clone, Copy, PartialEq, Eq)]
+pub enum Cause {
+    Status,
+    Mismatch,
+    Unreadable,
+    Timeout,
+}
+
+/// The two ends of the cable: a chip with its flash, and a dock at a job. No call of a trial may be refused.
+pub trait Ends<'a>: Clone {
+    /// A fresh chip that holds this flash, and no dock yet.
+    fn with(job: &'a Job, flash: &Flash) -> Self;
+    fn flash(&self) -> &Flash;
+    fn options(&self) -> [u8; OPTIONS];
+    /// Bytes reach the chip; what it says is added.
+    fn hear(&mut self, bytes: &[u8], said: &mut Vec<u8>);
+    fn gap(&mut self);
+    fn power_on(&mut self);
+    /// A new dock, before its first frame.
+    fn start(&mut self);
+    fn ask(&mut self) -> Vec<u8>;
+    fn answer(&mut self, answer: &[u8]) -> Stand;
+    fn timeout(&mut self) -> Stand;
+}
+
+#[derive(Clone)]
+pub struct Proved<'a> {
+    job: door::Job<'a>,
+    chip: [u8; door::STATE],
+    dock: [u8; door::DOCK],
+    flash: Flash,
+    room: [u8; door::ROOM],
+}
+
+impl Proved<'_> {
+    fn stand(&self, told: door::Report) -> Stand {
+        assert_eq!(told.refusal, 0, "the dock refused an answer or a timeout");
+        let (frames, retries) = (told.frames_used as usize, told.retries_used as usize);
+        let cause = match told.ended {
+            0 => return Stand::GoesOn,
+            1 => return Stand::Finished { frames, retries },
+            2 => Cause::Status,
+            3 => Cause::Mismatch,
+            4 => Cause::Unreadable,
+            5 => Cause::Timeout,
+            other => panic!("the dock told {other} for how it ended"),
+        };
+        let block = match self.dock[10] {
+            0 => None,
+            _ => Some(u32::from_le_bytes(self.dock[11..15].try_into().unwrap()) as usize),
+        };
+        Stand::Failed {
+            cause,
+            block,
+            frames,
+            retries,
+        }
+    }
+}
+
+impl<'a> Ends<'a> for Proved<'a> {
+    fn with(job: &'a Job, flash: &Flash) -> Self {
+        let part = door::Part {
+            code_blocks: CODE_BLOCKS as u32,
+            data_blocks: DATA_BLOCKS as u32,
+            clock: CLOCK,
+            names: &NAMES,
+        };
+        let mut chip = [0; door::STATE];
+        assert_eq!(door::fresh(&part, &mut chip), 0, "the part is described");
+        Proved {
+            job: door::Job {
+                part,
+                start: job.start() as u32,
+                end: job.end() as u32,
+                rate: RATE,
+                supply: SUPPLY,
+                retries: RETRIES,
+                image: &job.image,
+            },
+            chip,
+            dock: [0; door::DOCK],
+            flash: flash.clone(),
+            room: [0; door::ROOM],
+        }
+    }
+
+    fn flash(&self) -> &Flash {
+        &self.flash
+    }
+
+    fn options(&self) -> [u8; OPTIONS] {
+        self.chip[..OPTIONS].try_into().unwrap()
+    }
+
+    fn hear(&mut self, bytes: &[u8], said: &mut Vec<u8>) {
+        let mut rest = bytes;
+        while !rest.is_empty() {
+            let Flash { code, data } = &mut self.flash;
+            let (taken, told) = door::feed(
+                &self.job.part,
+                &mut self.chip,
+                rest,
+                code,
+                data,
+                &mut self.room,
+            );
+            assert_eq!(told.refusal, 0, "the chip refused a byte");
+            said.extend(&self.room[..told.bytes]);
+            rest = &rest[taken..];
+        }
+    }
+
+    fn gap(&mut self) {
+        let Flash { code, data } = &mut self.flash;
+        let told = door::gap(&self.job.part, &mut self.chip, code, data, &mut self.room);
+        assert_eq!(
+            (told.refusal, told.bytes),
+            (0, 0),
+            "the chip takes a gap in silence"
+        );
+    }
+
+    fn power_on(&mut self) {
+        let Flash { code, data } = &mut self.flash;
+        let told = door::power_on(&self.job.part, &mut self.chip, code, data, &mut self.room);
+        assert_eq!(
+            (told.refusal, told.bytes),
+            (0, 0),
+            "the chip takes power-on in silence"
+        );
+    }
+
+    fn start(&mut self) {
+        let refusal = door::start(&self.job, &mut self.dock);
+        assert_eq!(refusal, 0, "the dock refused the job");
+    }
+
+    fn ask(&mut self) -> Vec<u8> {
+        let mut room = [0; door::FRAME_ROOM];
+        let (refusal, bytes) = door::ask(&self.job, &mut self.dock, &mut room);
+        assert_eq!(refusal, 0, "the dock refused a frame");
+        room[..bytes].to_vec()
+    }
+
+    fn answer(&mut self, answer: &[u8]) -> Stand {
+        let told = door::answer(&self.job, &mut self.dock, answer);
+        self.stand(told)
+    }
+
+    fn timeout(&mut self) -> Stand {
+        let told = door::timeout(&self.job, &mut self.dock);
+        self.stand(told)
+    }
+}
+
+#[derive(Clone)]
+pub struct Twin<'a> {
+    job: dock::Job,
+    image: &'a [u8],
+    chip: Chip,
+    dock: dock::State,
+    flash: Flash,
+}
+
+impl Twin<'_> {
+    fn event(&mut self, event: Event, said: &mut Vec<u8>) {
+        let mut room = [0; door::ROOM];
+        let Flash { code, data } = &mut self.flash;
+        match step(&self.job.part, &mut self.chip, event, code, data, &mut room) {
+            Answer::Replied { bytes, .. } => said.extend(&room[..bytes]),
+            Answer::Refused(number) => panic!("the twin's chip refused, {number}"),
+        }
+    }
+}
+
+impl<'a> Ends<'a> for Twin<'a> {
+    fn with(job: &'a Job, flash: &Flash) -> Self {
+        let part = twin::chip::Part {
+            code_blocks: CODE_BLOCKS as u32,
+            data_blocks: DATA_BLOCKS as u32,
+            clock: CLOCK,
+            device: NAMES[..3].try_into().unwrap(),
+            name: NAMES[3..13].try_into().unwrap(),
+            version: NAMES[13..].try_into().unwrap(),
+        };
+        Twin {
+            chip: Chip::fresh(&part).expect("the part is described"),
+            job: dock::Job {
+                part,
+                start: job.start() as u64,
+                end: job.end() as u64,
+                rate: RATE.into(),
+                supply: SUPPLY.into(),
+                retries: RETRIES.into(),
+            },
+            image: &job.image,
+            dock: dock::State {
+                stage: Stage::Finished,
+                awaited: false,
+                retries: 0,
+                frames: 0,
+            },
+            flash: flash.clone(),
+        }
+    }
+
+    fn flash(&self) -> &Flash {
+        &self.flash
+    }
+
+    fn options(&self) -> [u8; OPTIONS] {
+        let options = self.chip.options;
+        let ([start, start_high], [end, end_high]) =
+            (options.start.to_le_bytes(), options.end.to_le_bytes());
+        [
+            options.flags,
+            options.boot,
+            start,
+            start_high,
+            end,
+            end_high,
+        ]
+    }
+
+    fn hear(&mut self, bytes: &[u8], said: &mut Vec<u8>) {
+        bytes
+            .iter()
+            .for_each(|byte| self.event(Event::Byte(*byte), said));
+    }
+
+    fn gap(&mut self) {
+        self.event(Event::Gap, &mut Vec::new());
+    }
+
+    fn power_on(&mut self) {
+        self.event(Event::PowerOn, &mut Vec::new());
+    }
+
+    fn start(&mut self) {
+        self.dock = dock::start(&self.job, self.image).expect("the job is good");
+    }
+
+    fn ask(&mut self) -> Vec<u8> {
+        let mut room = [0; door::FRAME_ROOM];
+        let bytes =
+            dock::ask(&self.job, self.image, &mut self.dock, &mut room).expect("a frame is due");
+        room[..bytes].to_vec()
+    }
+
+    fn answer(&mut self, answer: &[u8]) -> Stand {
+        stand_of(dock::answer(&self.job, self.image, &mut self.dock, answer))
+    }
+
+    fn timeout(&mut self) -> Stand {
+        stand_of(dock::timeout(&self.job, self.image, &mut self.dock))
+    }
+}
+
+pub fn stand_of(told: Result<Report, u8>) -> Stand {
+    match told.expect("an answer is awaited") {
+        Report::GoesOn => Stand::GoesOn,
+        Report::Finished { frames, retries } => Stand::Finished {
+            frames: frames as usize,
+            retries: retries as usize,
+        },
+        Report::Failed {
+            failure,
+            frames,
+            retries,
+        } => Stand::Failed {
+            cause: match failure.cause {
+                dock::Cause::Status => Cause::Status,
+                dock::Cause::Mismatch => Cause::Mismatch,
+                dock::Cause::Unreadable => Cause::Unreadable,
+                dock::Cause::Timeout => Cause::Timeout,
+            },
+            block: failure.block.map(|block| block as usize),
+            frames: frames as usize,
+            retries: retries as usize,
+        },
+    }
+}
+
+/// The frame that was handed out is on the line: the dock hears what was said, or reports that nothing was.
+pub fn heard<'a>(ends: &mut impl Ends<'a>, said: &[u8]) -> Stand {
+    if said.is_empty() {
+        ends.timeout()
+    } else {
+        ends.answer(said)
+    }
+}
+
+/// From the next frame to the end of the job on an undamaged line, a gap before each frame; so many frames were asked for before.
+pub fn go_on<'a>(ends: &mut impl Ends<'a>, job: &Job, asked: &mut usize) -> Stand {
+    let mut said = Vec::new();
+    while *asked < job.bound() {
+        let frame = ends.ask();
+        *asked += 1;
+        ends.gap();
+        said.clear();
+        ends.hear(&frame, &mut said);
+        match heard(ends, &said) {
+            Stand::GoesOn => {}
+            over => return over,
+        }
+    }
+    Stand::Endless
+}
