@@ -15,7 +15,7 @@
  *     1 the part is outside the document's numbers, or its names are not 16 bytes
  *     2, 3 the code or the data slice is not 1,024 times the part's blocks
  *     9 the bytes are no state, or none that the document accepts
- *     4 the reply room is under 32 bytes (zc_replay: also output under 192 bytes)
+ *     4 the reply room is under 32 bytes (zc_replay, after these: also output under 192 bytes)
  * After a refusal nothing that was lent has changed, but for the numbers told, which are 0. zc_replay alone can be refused after some records (4, for want of
  * output): what those did stays, and the numbers count them.
  *
@@ -68,13 +68,15 @@ uint32_t zc_power_on(uint32_t code_blocks, uint32_t data_blocks, uint32_t clock,
                      size_t state_len, uint8_t *code, size_t code_len, uint8_t *data, size_t data_len, uint8_t *room, size_t room_len, size_t *bytes,
                      size_t *frames);
 
-/* Bytes one after the other, each as zc_byte would take it, up to the first that is answered; `taken` of them were taken. Hand in the rest again. */
+/* Bytes one after the other, each as zc_byte would take it, up to the first that is answered; `taken` of them were taken. Hand in the rest again. It is refused
+ * as zc_byte would be, also where there is no byte. */
 uint32_t zc_feed(uint32_t code_blocks, uint32_t data_blocks, uint32_t clock, const uint8_t *names, size_t names_len, uint8_t *state, size_t state_len,
                  const uint8_t *fed, size_t fed_len, uint8_t *code, size_t code_len, uint8_t *data, size_t data_len, uint8_t *room, size_t room_len,
                  size_t *taken, size_t *bytes, size_t *frames);
 
 /* Capture records (8 bytes each) one after the other. `played` records were played; their replies lie end to end in the output. ZC_BAD_RECORD: the next
- * record is not good. 4: no room for the next record's replies; go on from it with fresh output. */
+ * record is not good. 1, 2, 3, 9, and 4 for a reply room under 32 bytes: before any record, as zc_gap would be refused, also where there is none. 4 with a
+ * reply room of 32 bytes: the output has no 192 bytes left for the next record's replies; go on from it with fresh output. */
 uint32_t zc_replay(uint32_t code_blocks, uint32_t data_blocks, uint32_t clock, const uint8_t *names, size_t names_len, uint8_t *state,
                    size_t state_len, const uint8_t *capture, size_t capture_len, uint8_t *code, size_t code_len, uint8_t *data, size_t data_len,
                    uint8_t *room, size_t room_len, uint8_t *output, size_t output_len, size_t *played, size_t *bytes, size_t *frames);

@@ -91,6 +91,10 @@ verdictOf p k count head len code extra room =
     ∷ ShortRoom when ltb room 32
     ∷ [])
 
+-- The verdict on a chip.
+abbrev pub verdictOn : Part → Chip → ℕ → ℕ → ℕ → Verdict
+verdictOn p c code extra room = verdictOf p (c .core) (c .collector .len) (getD (c .collector .bytes) 0 0) (getD (c .collector .bytes) 1 0) code extra room
+
 -- What is heard now, and what was done.
 pub record Reaction : Type 0 where
   pub hears : List ℕ
@@ -159,10 +163,7 @@ settled Accepted p x c m room =
     }
 
 unfoldable pub stepOf : Part → Chip → Event → Flash → List ℕ → Outcome
-stepOf p c v m room =
-    settled
-    (verdictOf p (c .core) (c .collector .len) (getD (c .collector .bytes) 0 0) (getD (c .collector .bytes) 1 0) (length (m .codeFlash)) (length (m .dataFlash)) (length room))
-    p (reactTo v p (c .core) (heard (c .collector)) m) c m room
+stepOf p c v m room = settled (verdictOn p c (length (m .codeFlash)) (length (m .dataFlash)) (length room)) p (reactTo v p (c .core) (heard (c .collector)) m) c m room
 
 -- A fresh chip of a part: phase 1, rate 00h, fresh options, nothing collected.
 unfoldable pub freshChip : Part → Chip

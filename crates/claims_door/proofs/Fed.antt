@@ -1,6 +1,5 @@
 -- A stretch of bytes through the door that is refused takes no byte and changes nothing: from an accepted state no later byte is refused.
 -- Assumes nothing.
-use mathlib.Core.Bool.{true}
 use mathlib.Core.List.{List, [], _∷_}
 use mathlib.Core.Path.{_∙_, _≡_, ap, refl}
 use Prim.Native.Nat.{_+_, ℕ}
@@ -9,26 +8,26 @@ use lib.Dec.{eqb}
 use lib.ListN.{drop, length, length-drop}
 use lib.Seq.{length-take-le}
 use Rattle.chip.specs.Run.{Feeding, before, fedOn, feedFrom, feedOf, onward}
-use Rattle.chip.specs.Step.{Outcome, Reaction, reactTo, settled, stepOf}
+use Rattle.chip.specs.Step.{Outcome, Reaction, reactTo, settled}
 use Rattle.chip.specs.declared.Answer.{Answer}
 use Rattle.chip.specs.declared.Answer.the-variants.{Refused, Replied}
 use Rattle.chip.specs.declared.Chip.{Chip}
 use Rattle.chip.specs.declared.Event.{Event}
 use Rattle.chip.specs.declared.Event.the-variants.{Byte}
-use Rattle.claims_door.proofs.Back.{written-back}
 use Rattle.claims_door.specs.Kept.{FeedKept}
 use Rattle.claims_good.proofs.Stays.{onward-is, stays}
 use Rattle.claims_good.proofs.Verdict.{accepted}
 use Rattle.claims_good.specs.Good.{Stands, aByte, verdictIn}
-use Rattle.door.proofs.Laws.{Admits, admitted}
-use Rattle.door.specs.Calls.{FeedTold, admission, bytesTold, fedBy, fedThrough, feedTold, framesTold, refusalNumber}
-use Rattle.door.specs.Layout.{chipIn, collectorIn, isState, layoutOf}
+use Rattle.door.proofs.Laws.{accepted-admits, chip-accepts}
+use Rattle.door.specs.Calls.{accepting, fedBy, fedThrough, refusalNumber, replayTold, replayedBy, replayedThrough}
+use Rattle.door.specs.Layout.{chipIn, collectorIn}
 use Rattle.effect.specs.Effect.{Flash}
 use Rattle.frame.proofs.Laws.Sum.{Below, below-drop, below-take, more}
 use Rattle.frame.specs.Collector.{heard}
 use Rattle.frame.specs.Framing.{frames}
 use Rattle.layout.proofs.Laws.{part-long}
 use Rattle.layout.specs.Layout.{partOf}
+use Rattle.part.specs.Refusal.{number}
 use Rattle.part.specs.declared.Part.{Part}
 use Rattle.part.specs.declared.refusal.Refusal.{Refusal}
 use Rattle.part.specs.declared.refusal.Verdict.{Verdict}
@@ -78,40 +77,25 @@ stands codes extras clock names state m room b l e =
       arrays = record { deviceLong = a .deviceLong; nameLong = a .nameLong; versionLong = a .versionLong };
     }
 
-abbrev told : Feeding → FeedTold
-told f = feedTold (refusalNumber (f .left .answer)) (f .taken) (bytesTold (f .left .answer)) (framesTold (f .left .answer)) (layoutOf (f .left .chip)) (f .left .memory) (f .left .room)
-
--- The first byte is refused: none is taken, and the chip is handed back as it was.
-settled-feed : (u : Verdict) (r : Refusal) (p : Part) (x : Reaction) (state : List ℕ) (m : Flash) (room : List ℕ) (rest : Feeding) → Below 256 state → isState state ≡ true
-    → u ≡ Barred r → FeedKept (told (fedOn (settled u p x (chipIn state) m room .answer) 0 (settled u p x (chipIn state) m room) rest)) state m room
-unfolding settled fedOn
-settled-feed (Barred q) r p x state m room rest b e h = record { noneTaken = refl; kept = record { stateStays = written-back state b e; flashStays = refl; roomStays = refl } }
-settled-feed Accepted r p x state m room rest b e h = absurd (let z : _≡_ {A = ℕ} 0 1 = cc in omega arith)
-
-first-refused : (p : Part) (r : Refusal) (bs state : List ℕ) (m : Flash) (room : List ℕ) → Below 256 state → isState state ≡ true
-    → verdictIn p (before (chipIn state) m room) ≡ Barred r → (refusalNumber (feedOf p bs (before (chipIn state) m room) .left .answer) ≡ 0 → ⊥)
-    → FeedKept (told (feedOf p bs (before (chipIn state) m room))) state m room
-unfolding feedOf feedFrom stepOf refusalNumber
-first-refused p r [] state m room b e v h = absurd (h refl)
-first-refused p r (x ∷ xs) state m room b e v h =
-    settled-feed (verdictIn p (before (chipIn state) m room)) r p (reactTo (Byte x) p (chipIn state .core) (heard (chipIn state .collector)) m) state m room _ b e v
-
-fed-kept : (u : Verdict) (codes extras clock : ℕ) (names bs state : List ℕ) (m : Flash) (room : List ℕ) → Below 256 state → Below 256 bs → (u ≡ Accepted → Admits state)
-    → (fedBy u (partOf codes extras clock names) bs state m room .told .refusal ≡ 0 → ⊥) → FeedKept (fedBy u (partOf codes extras clock names) bs state m room) state m room
+fed-kept : (u : Verdict) (p : Part) (bs state : List ℕ) (m : Flash) (room : List ℕ) → Below 256 bs → (u ≡ Accepted → Stands p (before (chipIn state) m room))
+    → (fedBy u p bs state m room .told .refusal ≡ 0 → ⊥) → FeedKept (fedBy u p bs state m room) state m room
 unfolding fedBy
-fed-kept (Barred r) codes extras clock names bs state m room b c a h = record { noneTaken = refl; kept = record { stateStays = refl; flashStays = refl; roomStays = refl } }
-fed-kept Accepted codes extras clock names bs state m room b c a h = go (verdictIn p (before (chipIn state) m room)) refl
-  where
-    p : Part
-    p = partOf codes extras clock names
+fed-kept (Barred r) p bs state m room c s h = record { noneTaken = refl; kept = record { stateStays = refl; flashStays = refl; roomStays = refl } }
+fed-kept Accepted p bs state m room c s h = absurd (h (feed-fine p bs (before (chipIn state) m room) (s refl) c refl))
 
-    go : (v : Verdict) → verdictIn p (before (chipIn state) m room) ≡ v → FeedKept (told (feedOf p bs (before (chipIn state) m room))) state m room
-    go Accepted e = absurd (h (feed-fine p bs (before (chipIn state) m room) (stands codes extras clock names state m room b (a refl .long) e) c refl))
-    go (Barred r) e = first-refused p r bs state m room b (a refl .held) e h
-
--- Every stretch, whatever bytes are handed in as the state.
+-- Every stretch, an empty one too, whatever bytes are handed in as the state.
 pub refused-feed-keeps : (codes extras clock : ℕ) (names bs state : List ℕ) (m : Flash) (room : List ℕ) → Below 256 state → Below 256 bs
     → (fedThrough codes extras clock names bs state m room .told .refusal ≡ 0 → ⊥) → FeedKept (fedThrough codes extras clock names bs state m room) state m room
 unfolding fedThrough
 refused-feed-keeps codes extras clock names bs state m room b c h =
-    fed-kept (admission codes extras clock names state (length (m .codeFlash)) (length (m .dataFlash))) codes extras clock names bs state m room b c (λ e. admitted codes extras clock names state (length (m .codeFlash)) (length (m .dataFlash)) e) h
+    let x = length (m .codeFlash) in
+    let y = length (m .dataFlash) in
+    let z = length room in
+    fed-kept (accepting codes extras clock names state x y z) (partOf codes extras clock names) bs state m room c (λ e. stands codes extras clock names state m room b (accepted-admits codes extras clock names state x y z e .long) (chip-accepts codes extras clock names state x y z e)) h
+
+-- A replay that is refused before its first record plays none and keeps everything.
+pub refused-replay-keeps : (codes extras clock : ℕ) (names capture state : List ℕ) (m : Flash) (room output : List ℕ) (r : Refusal)
+    → accepting codes extras clock names state (length (m .codeFlash)) (length (m .dataFlash)) (length room) ≡ Barred r
+    → replayedThrough codes extras clock names capture state m room output ≡ replayTold (number r) 0 0 0 state m room output
+unfolding replayedThrough replayedBy
+refused-replay-keeps codes extras clock names capture state m room output r e = rw e

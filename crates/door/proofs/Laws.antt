@@ -8,9 +8,10 @@ use native.Mathlib.Omega.{arith}
 use lib.Dec.{eqb}
 use lib.ListN.{length, length-append}
 use borrow.Author.Tests.{eqb-true, not-false}
+use Rattle.chip.specs.Step.{verdictOn}
 use Rattle.chip.specs.declared.Chip.{Chip}
-use Rattle.door.specs.Calls.{admission}
-use Rattle.door.specs.Layout.{awaitedOf, headOf, isState, layoutOf, phaseNumber, stateSize}
+use Rattle.door.specs.Calls.{acceptance, accepting, admission}
+use Rattle.door.specs.Layout.{awaitedOf, chipIn, headOf, isState, layoutOf, phaseNumber, stateSize}
 use Rattle.effect.specs.declared.Awaited.{Awaited}
 use Rattle.layout.proofs.Laws.{little-long}
 use Rattle.layout.specs.Layout.{little, partOf}
@@ -21,6 +22,7 @@ use Rattle.options.specs.declared.Options.{Options}
 use Rattle.part.specs.Part.{described, size}
 use Rattle.part.specs.Refusal.{firstOf}
 use Rattle.part.specs.declared.Area.the-variants.{CodeFlash, DataFlash}
+use Rattle.part.specs.declared.Part.{Part}
 use Rattle.part.specs.declared.refusal.Refusal.{Refusal}
 use Rattle.part.specs.declared.refusal.Refusal.the-variants.{BadPart, BadState, CodeLength, DataLength}
 use Rattle.part.specs.declared.refusal.Verdict.{Verdict}
@@ -69,3 +71,28 @@ admitted codes extras clock names state code extra e =
     let d = not-barred (not (eqb extra (size p DataFlash))) DataLength _ (c .1) in
     let f = not-barred (not (isState state)) BadState _ (d .1) in
     record { held = not-false _ (f .0); long = eqb-true _ _ (and-left _ _ (not-false _ (f .0))) }
+
+-- So does one that is accepted.
+settling : (v : Verdict) (p : Part) (state : List ℕ) (code extra room : ℕ) → acceptance v p state code extra room ≡ Accepted → v ≡ Accepted
+unfolding acceptance
+settling (Barred r) p state code extra room e = e
+settling Accepted p state code extra room e = refl
+
+pub accepted-admits : (codes extras clock : ℕ) (names state : List ℕ) (code extra room : ℕ) → accepting codes extras clock names state code extra room ≡ Accepted
+    → Admits state
+unfolding accepting
+accepted-admits codes extras clock names state code extra room e =
+    admitted codes extras clock names state code extra (settling (admission codes extras clock names state code extra) (partOf codes extras clock names) state code extra room e)
+
+-- And the chip itself accepts the state that is read.
+judged : (v : Verdict) (p : Part) (state : List ℕ) (code extra room : ℕ) → acceptance v p state code extra room ≡ Accepted
+    → verdictOn p (chipIn state) code extra room ≡ Accepted
+unfolding acceptance
+judged (Barred r) p state code extra room e = absurd (let z : _≡_ {A = ℕ} 0 1 = cc in omega arith)
+judged Accepted p state code extra room e = e
+
+pub chip-accepts : (codes extras clock : ℕ) (names state : List ℕ) (code extra room : ℕ) → accepting codes extras clock names state code extra room ≡ Accepted
+    → verdictOn (partOf codes extras clock names) (chipIn state) code extra room ≡ Accepted
+unfolding accepting
+chip-accepts codes extras clock names state code extra room e =
+    judged (admission codes extras clock names state code extra) (partOf codes extras clock names) state code extra room e

@@ -5,7 +5,7 @@ use Prim.Native.Nat.{ℕ}
 use lib.Dec.{eqb}
 use lib.ListN.{length}
 use Rattle.chip.specs.Run.{before, feedOf}
-use Rattle.chip.specs.Step.{freshOf, stepOf}
+use Rattle.chip.specs.Step.{freshOf, stepOf, verdictOn}
 use Rattle.chip.specs.declared.Answer.{Answer}
 use Rattle.chip.specs.declared.Answer.the-variants.{Refused, Replied}
 use Rattle.chip.specs.declared.Chip.{Chip}
@@ -35,6 +35,15 @@ admission codes extras clock names state code extra =
     ∷ DataLength when not (eqb extra (size p DataFlash))
     ∷ BadState when not (isState state)
     ∷ [])
+
+-- More than one event at a call: the chip's own verdict is asked before the first, so that the order holds whatever follows, and for no event at all.
+unfoldable pub acceptance : Verdict → Part → List ℕ → ℕ → ℕ → ℕ → Verdict
+acceptance (Barred r) p state code extra room = Barred r
+acceptance Accepted p state code extra room = verdictOn p (chipIn state) code extra room
+
+unfoldable pub accepting : ℕ → ℕ → ℕ → List ℕ → List ℕ → ℕ → ℕ → ℕ → Verdict
+accepting codes extras clock names state code extra room =
+    acceptance (admission codes extras clock names state code extra) (partOf codes extras clock names) state code extra room
 
 -- What an answer is in numbers: the refusal's, 0 where there is none; and the bytes and the frames of the reply.
 unfoldable pub refusalNumber : Answer → ℕ
@@ -105,7 +114,7 @@ fedBy Accepted p bs state m room =
 
 unfoldable pub fedThrough : ℕ → ℕ → ℕ → List ℕ → List ℕ → List ℕ → Flash → List ℕ → FeedTold
 fedThrough codes extras clock names bs state m room =
-    fedBy (admission codes extras clock names state (length (m .codeFlash)) (length (m .dataFlash))) (partOf codes extras clock names) bs state m room
+    fedBy (accepting codes extras clock names state (length (m .codeFlash)) (length (m .dataFlash)) (length room)) (partOf codes extras clock names) bs state m room
 
 -- A capture's records: 0 where all were played, 16 where one is not good, else the refusal's number.
 unfoldable pub endNumber : Ended → ℕ
@@ -129,4 +138,4 @@ replayedBy Accepted p capture state m room output =
 
 unfoldable pub replayedThrough : ℕ → ℕ → ℕ → List ℕ → List ℕ → List ℕ → Flash → List ℕ → List ℕ → ReplayTold
 replayedThrough codes extras clock names capture state m room output =
-    replayedBy (admission codes extras clock names state (length (m .codeFlash)) (length (m .dataFlash))) (partOf codes extras clock names) capture state m room output
+    replayedBy (accepting codes extras clock names state (length (m .codeFlash)) (length (m .dataFlash)) (length room)) (partOf codes extras clock names) capture state m room output

@@ -3,7 +3,7 @@
 ghost use mathlib.Core.Path.{_≡_};
 ghost use Rattle.chip.specs.declared.Event.the-variants.{Byte, Gap, PowerOn};
 ghost use Rattle.effect.specs.Effect.{flash};
-ghost use Rattle.door.specs.Calls.{admission, bytesTold, endNumber, fedThrough, framesTold, freshThrough, made, refusalNumber, replayedThrough, steppedThrough, feedTold, replayTold, stepTold};
+ghost use Rattle.door.specs.Calls.{accepting, admission, bytesTold, endNumber, fedThrough, framesTold, freshThrough, made, refusalNumber, replayedThrough, steppedThrough, feedTold, replayTold, stepTold};
 use chip::Answer;
 use chip::Event;
 use chip::events;
@@ -38,6 +38,30 @@ fn admit(
         return Verdict::Barred(Refusal::CodeLength);
     }
     Verdict::Barred(Refusal::BadPart)
+}
+
+// The same, and then the chip's own verdict: before the first of several events.
+fn accept(
+    code_blocks: u32,
+    data_blocks: u32,
+    clock: u32,
+    names: &[u8],
+    state: &[u8],
+    code: usize,
+    data: usize,
+    room: usize,
+) -> Verdict
+    ensures { λ r. ⌜ r ≡ accepting «code_blocks» «data_blocks» clock (now (names .entry)) (now (state .entry)) code «data» room ⌝ }
+{
+    let v = admit(code_blocks, data_blocks, clock, names, state, code, data);
+    match v {
+        Verdict::Barred(refusal) => Verdict::Barred(refusal),
+        Verdict::Accepted => {
+            let part = layout::part_of(code_blocks, data_blocks, clock, names);
+            let chip = super::chip_in(state);
+            events::verdict_on(part, chip, code, data, room)
+        }
+    }
 }
 
 fn refusal_number(answer: Answer) -> u32
@@ -270,7 +294,7 @@ pub extern "C" fn zc_feed(
 ) -> u32
     ensures { λ r. ⌜ feedTold r (now (taken .exit)) (now (bytes .exit)) (now (frames .exit)) (now (state .exit)) (flash (now (code .exit)) (now («data» .exit))) (now (room .exit)) ≡ fedThrough «code_blocks» «data_blocks» clock (now (names .entry)) (now (fed .entry)) (now (state .entry)) (flash (now (code .entry)) (now («data» .entry))) (now (room .entry)) ⌝ }
 {
-    let v = admit(
+    let v = accept(
         code_blocks,
         data_blocks,
         clock,
@@ -278,6 +302,7 @@ pub extern "C" fn zc_feed(
         state,
         code.len(),
         data.len(),
+        room.len(),
     );
     match v {
         Verdict::Barred(refusal) => {
@@ -319,7 +344,7 @@ pub extern "C" fn zc_replay(
 ) -> u32
     ensures { λ r. ⌜ replayTold r (now (played .exit)) (now (bytes .exit)) (now (frames .exit)) (now (state .exit)) (flash (now (code .exit)) (now («data» .exit))) (now (room .exit)) (now (output .exit)) ≡ replayedThrough «code_blocks» «data_blocks» clock (now (names .entry)) (now (capture .entry)) (now (state .entry)) (flash (now (code .entry)) (now («data» .entry))) (now (room .entry)) (now (output .entry)) ⌝ }
 {
-    let v = admit(
+    let v = accept(
         code_blocks,
         data_blocks,
         clock,
@@ -327,6 +352,7 @@ pub extern "C" fn zc_replay(
         state,
         code.len(),
         data.len(),
+        room.len(),
     );
     match v {
         Verdict::Barred(refusal) => {

@@ -1,0 +1,32 @@
+-- `door::calls::accept` meets its contract: what bars the call, then the chip's own verdict on the state read.
+-- Assumes nothing.
+use mathlib.Core.Path.{_∙_, sym}
+use borrow.Author.Needs.{needs}
+use Rattle.door.proofs.Laws.{admitted}
+use Rattle.door.specs.Calls.{acceptance, accepting}
+use Rattle.door.proofs.calls.accept.Statement.{statement}
+use Rattle.door.proofs.calls.accept.Tie as tie
+
+chip-in-requires : tie.Need-chip-in-requires
+chip-in-requires c κs = admitted _ _ _ _ _ _ _ (sym (c .before .before .before .admit .ensures) ∙ c .before .enum-told .given .1) .long
+
+returns : tie.Need-returns
+unfolding accepting acceptance
+returns c = simp (← c .before .before .before .admit .ensures, c .before .v .given .1)
+
+returns-2 : tie.Need-returns-2
+unfolding accepting acceptance
+returns-2 c = simp (← c .before .before .before .before .before .admit .ensures, c .before .before .before .enum-told .given .1, ← c .before .before .part-of .ensures, ← c .before .chip-in .ensures, ← c .verdict-on .ensures)
+
+pub accept-spec : {M : Type 1} → statement M
+accept-spec =
+    tie.close
+    (tie.spec
+    (λ c κs. search needs)
+    (λ c. search needs)
+    (λ c. search needs)
+    (λ c κs. search needs)
+    chip-in-requires
+    (λ c κs. search needs)
+    returns
+    returns-2)
