@@ -85,6 +85,7 @@ impl Door {
     }
 }
 
+#[inline]
 fn accepted(told: Told) -> usize {
     assert_eq!(told.refusal, 0);
     told.bytes
@@ -100,6 +101,7 @@ pub fn names(part: &Part) -> [u8; NAMES] {
 }
 
 /// A part as the door takes it.
+#[inline]
 pub fn described<'a>(part: &Part, names: &'a [u8]) -> door::Part<'a> {
     door::Part {
         code_blocks: part.code_blocks,
