@@ -354,6 +354,9 @@ pub step-barred : (p : Part) (c : Chip) (v : Event) (m : Flash) (room : List ℕ
 unfolding stepOf settled
 step-barred p c v m room r a = rw a
 
+pub same-event : (o : Outcome) (p : Part) (c : Chip) (v w : Event) (m : Flash) (room : List ℕ) → o ≡ stepOf p c w m room → v ≡ w → o ≡ stepOf p c v m room
+same-event o p c v w m room e f = e ∙ ap (λ (q : Event). stepOf p c q m room) (sym f)
+
 pub at-byte : (p : Part) (k : Core) (hs : List ℕ) (b : ℕ) (m : Flash) → byteIn (k .phase) p k hs b m ≡ reactTo (Byte b) p k hs m
 unfolding reactTo
 at-byte p k hs b m = refl

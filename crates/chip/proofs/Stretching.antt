@@ -11,10 +11,11 @@ use lib.ListN.{drop, getD, length, length-set, set, take, take-append-drop}
 use lib.Seq.{append-snoc, drop-cons, drop-set-lt, getD-set-other, take-suc-set}
 use borrow.Author.Tests.{eqb-true, le-leb, le-ltb, leb-true, lt-leb, lt-ltb, ltb-false, ltb-true, ne-eqb}
 use Rattle.chip.proofs.Feeding.{FedFrom, fed-turn}
-use Rattle.chip.proofs.Settling.{accepts, at-byte, hears-settles, state-collected, step-accepted}
+use Rattle.chip.proofs.Settling.{accepts, at-byte, hears-settles, same-event, state-collected, step-accepted}
 use Rattle.chip.specs.Run.{Feeding, before, feedFrom}
 use Rattle.chip.specs.Step.{Outcome, byteIn, goodBegun, goodCollected, goodState, stepOf, verdictOf}
 use Rattle.chip.specs.declared.Chip.{Chip}
+use Rattle.chip.specs.declared.Event.{Event}
 use Rattle.chip.specs.declared.Event.the-variants.{Byte}
 use Rattle.chip.specs.declared.events.Way.the-variants.{Hears}
 use Rattle.chip.specs.inner.Ways.{completesAt, lackingOf, plainOf, stretchOf, stretchedBy, wayOf, wayOn}
@@ -162,6 +163,15 @@ module _ (p : Part) (c : Chip) (m : Flash) (room : List ℕ) (places : length (c
       ∙ ap (λ (x : ℕ). verdictOf p (c .core) (c .collector .len + 1) (getD (c .collector .bytes) 0 0) x (length (m .codeFlash)) (length (m .dataFlash)) (length room)) (stored-at 1 b (omega arith))
       ∙ same-verdict p (c .core) (c .collector .len + 1) _ _ (c .collector .len) _ _ _ _ _ (g ∙ sym good)
       ∙ accepted
+
+-- One such byte, as the step adds it.
+pub byte-adds : (p : Part) (c : Chip) (v : Event) (b n : ℕ) (m : Flash) (room : List ℕ) → length (c .collector .bytes) ≡ 260 → counted (getD (c .collector .bytes) 1 0) ≤ 256
+    → verdictAt p c m room ≡ Accepted → n ≡ lackingOf (c .collector .len) (getD (c .collector .bytes) 1 0) 1 → 0 < n → v ≡ Byte b
+    → before (record { core = c .core; collector = record { bytes = set (c .collector .bytes) (c .collector .len) b; len = c .collector .len + 1 } }) m room ≡ stepOf p c v m room
+unfolding stored
+byte-adds p c v b n m room l s a e h f =
+    let x = lacks (c .collector .len) (getD (c .collector .bytes) 1 0) 1 n e h in
+    same-event _ p c v (Byte b) m room (byte-heard p c m room l s a (x .begun) (omega (arith, x .short)) b) f
 
 -- The loop over a stretch: what the bytes still to come make of it stays the same.
 any-answer : {p : Part} {bs : List ℕ} {i : ℕ} {o : Outcome} {t : Feeding} → FedFrom p bs i o t → i < length bs → FedFrom p bs i (before (o .chip) (o .memory) (o .room)) t

@@ -300,8 +300,8 @@ fn restarted(core: Core) -> Core
     }
 }
 
-// One event, with both areas of flash and the reply room lent. Refused, it changes nothing. A byte that completes no frame has a short way.
-pub fn step(
+// One event by the long way: whatever it is, and whatever the state.
+fn long_step(
     part: Part,
     chip: Chip,
     event: Event,
@@ -447,6 +447,81 @@ fn lacking(count: usize, len: u8, rest: usize) -> usize
     n
 }
 
+// One event, with both areas of flash and the reply room lent. Refused, it changes nothing. A gap, and a byte that is only added to what is collected, are
+// settled here and look at no phase: the chip is then copied once in and once out. What the long way takes is copied for it there, and not before.
+pub fn step(
+    part: Part,
+    chip: Chip,
+    event: Event,
+    code: &mut [u8],
+    data: &mut [u8],
+    room: &mut [u8],
+) -> Step
+    ensures { λ r. ⌜ outcome r (flash (now (code .exit)) (now («data» .exit))) (now (room .exit)) ≡ stepOf part chip event (flash (now (code .entry)) (now («data» .entry))) (now (room .entry)) ⌝ }
+{
+    let core = chip.core;
+    let collector = chip.collector;
+    let at = collector.len;
+    let len = collector.bytes[1];
+    let v = verdict(
+        part,
+        core,
+        at,
+        collector.bytes[0],
+        len,
+        code.len(),
+        data.len(),
+        room.len(),
+    );
+    match v {
+        Verdict::Barred(refusal) => {
+            return Step {
+                answer: Answer::Refused(refusal),
+                chip,
+            };
+        }
+        Verdict::Accepted => match event {
+            Event::Gap => {
+                return Step {
+                    answer: Answer::Replied {
+                        bytes: 0,
+                        frames: 0,
+                    },
+                    chip: Chip {
+                        core,
+                        collector: collector.gap(),
+                    },
+                };
+            }
+            Event::PowerOn => {
+                let whole = chip;
+                let s = long_step(part, whole, event, code, data, room);
+                return s;
+            }
+            Event::Byte(b) => {
+                if 0 < lacking(at, len, 1) {
+                    let mut next = collector;
+                    next.bytes[at] = b;
+                    next.len = at + 1;
+                    return Step {
+                        answer: Answer::Replied {
+                            bytes: 0,
+                            frames: 0,
+                        },
+                        chip: Chip {
+                            core,
+                            collector: next,
+                        },
+                    };
+                }
+                let whole = chip;
+                let s = long_step(part, whole, event, code, data, room);
+                return s;
+            }
+        },
+    }
+}
+
 // How many of the bytes still to come are only added to what is collected. The refusals are asked once for all of them.
 fn plain(part: Part, chip: Chip, code: usize, data: usize, room: usize, rest: usize) -> usize
     ensures { λ r. ⌜ (r ≡ plainOf part chip code «data» room rest) × (counted (getD (chip .collector .bytes) 1 0) ≤ 256) × (length (chip .collector .bytes) ≡ 260) ⌝ }
@@ -524,7 +599,7 @@ pub fn feed(
         } else {
             let b = bytes[i];
             i = i + 1;
-            last = step(part, next, Event::Byte(b), code, data, room);
+            last = long_step(part, next, Event::Byte(b), code, data, room);
             let answer = last.answer;
             let chip = last.chip;
             match answer {

@@ -1,53 +1,43 @@
--- `chip::events::step` meets its contract: a barred call changes nothing; an accepted one settles its event's reaction, a byte by its way.
+-- `chip::events::step` meets its contract: refusals first; a gap and a byte that is only added are settled here, the rest is the long way's.
 -- Assumes nothing.
 use mathlib.Core.Path.{_∙_, _≡_, sym}
+use Prim.Native.Nat.{_<_}
 use native.Mathlib.Omega.{arith}
 use lib.ListN.{length}
 use borrow.Author.Needs.{needs}
-use Rattle.chip.proofs.Settling.{accepts, at-byte, at-gap, at-power-on, completes-settles, emptied, hears-settles, mode-settles, next-in-array, step-accepted, step-barred}
-use Rattle.chip.specs.declared.Event.the-variants.{Byte, Gap, PowerOn}
+use Rattle.chip.proofs.Settling.{accepts, at-gap, emptied, same-event, step-accepted, step-barred}
+use Rattle.chip.proofs.Stretching.{byte-adds, lacks}
+use Rattle.chip.specs.declared.Event.the-variants.{Gap}
 use Rattle.chip.proofs.events.step.Statement.{statement}
 use Rattle.chip.proofs.events.step.Tie as tie
 
 long : (c : tie.Start) → length (c .args .chip .collector .bytes) ≡ 260
 long c = search needs
 
-next-long : (c : tie.After-byte2) → length (c .byte2 .result .bytes) ≡ 260
-next-long c = search needs
-
-part-frame-does-end : tie.Need-part-frame-does-end
-part-frame-does-end c =
-    omega (arith, next-long (c .before .before), next-in-array _ _ _ _ _ _ _ (long (c .before .before .before .before .before .before .before .before .before .before .before .before .before .before .before .before .before .before .before .before)) (accepts _ _ _ _ _ _ _ _ (sym (c .before .before .before .before .before .before .before .before .before .before .before .before .verdict .ensures) ∙ c .before .before .before .before .before .before .before .before .before .before .enum-told .given .1)) (sym (c .before .before .before .before .before .before .way-in .ensures) ∙ c .before .before .before .before .w2 .given .1) (c .before .before .byte2 .ensures))
-
 returns : tie.Need-returns
-returns c =
-    step-barred _ _ _ _ _ _ (sym (c .before .before .before .verdict .ensures) ∙ c .before .v .given .1)
+returns c = step-barred _ _ _ _ _ _ (sym (c .before .before .before .verdict .ensures) ∙ c .before .v .given .1)
 
 returns-2 : tie.Need-returns-2
 returns-2 c =
     step-accepted _ _ _ _ _ Gap _ _ (sym (c .before .before .before .before .before .verdict .ensures) ∙ c .before .before .before .enum-told .given .1) (c .before .enum-told2 .given .1) (at-gap _ _ _ _)
     (emptied _ _ _ _ _ _ _ (c .gap .ensures) ((accepts _ _ _ _ _ _ _ _ (sym (c .before .before .before .before .before .verdict .ensures) ∙ c .before .before .before .enum-told .given .1)) .roomy))
 
-returns-3 : tie.Need-returns-3
-returns-3 c =
-    step-accepted _ _ _ _ _ PowerOn _ _ (sym (c .before .before .before .before .before .before .verdict .ensures) ∙ c .before .before .before .before .enum-told .given .1) (c .before .before .enum-told3 .given .1) (at-power-on _ _ _ _ _ (c .before .restarted .ensures))
-    (emptied _ _ _ _ _ _ _ (c .power-on .ensures) ((accepts _ _ _ _ _ _ _ _ (sym (c .before .before .before .before .before .before .verdict .ensures) ∙ c .before .before .before .before .enum-told .given .1)) .roomy))
+-- There is a place for the byte: what LEN counts is at most 256, and the frame is not complete.
+place : (c : tie.Then1) → c .before .before .before .before .before .before .before .before .before .before .before .before .before .before .before .args .chip .collector .len < 259
+place c = omega (arith, lacks _ _ _ _ (c .before .lacking .ensures .0) (c .if1 .taken) .short, c .before .lacking .ensures .1, c .if1 .taken)
+
+element-write-next : tie.Need-element-write-next
+element-write-next c = omega (arith, place c, long (c .before .before .before .before .before .before .before .before .before .before .before .before .before .before .before))
+
+add-next : tie.Need-add-next
+add-next c = omega (arith, place c)
 
 returns-4 : tie.Need-returns-4
 returns-4 c =
-    step-accepted _ _ _ _ _ (Byte _) _ _ (sym (c .before .before .before .before .before .before .before .before .before .verdict .ensures) ∙ c .before .before .before .before .before .before .before .enum-told .given .1) (c .before .before .before .before .before .event .given .1) (at-byte _ _ _ _ _)
-    (mode-settles _ _ _ _ _ _ _ (accepts _ _ _ _ _ _ _ _ (sym (c .before .before .before .before .before .before .before .before .before .verdict .ensures) ∙ c .before .before .before .before .before .before .before .enum-told .given .1)) (sym (c .before .before .before .way-in .ensures) ∙ c .before .enum-told4 .given .1) (c .mode-byte .ensures))
+    byte-adds _ _ _ _ _ _ _ (long (c .before .before .before .before .before .before .before .before .before .before .before .before .before .before .before)) (c .before .lacking .ensures .1) (sym (c .before .before .before .before .before .before .before .verdict .ensures) ∙ c .before .before .before .before .before .enum-told .given .1) (c .before .lacking .ensures .0) (c .if1 .taken) (c .before .before .before .event .given .1)
 
 returns-5 : tie.Need-returns-5
-returns-5 c =
-    step-accepted _ _ _ _ _ (Byte _) _ _ (sym (c .before .before .before .before .before .before .before .before .before .before .verdict .ensures) ∙ c .before .before .before .before .before .before .before .before .enum-told .given .1) (c .before .before .before .before .before .before .event .given .1) (at-byte _ _ _ _ _)
-    (hears-settles _ _ _ _ _ _ _ _ (long (c .before .before .before .before .before .before .before .before .before .before .before .before .before .before .before .before .before .before)) (accepts _ _ _ _ _ _ _ _ (sym (c .before .before .before .before .before .before .before .before .before .before .verdict .ensures) ∙ c .before .before .before .before .before .before .before .before .enum-told .given .1)) (sym (c .before .before .before .before .way-in .ensures) ∙ c .before .before .w .given .1) (c .byte .ensures))
-
-returns-6 : tie.Need-returns-6
-returns-6 c =
-    step-accepted _ _ _ _ _ (Byte _) _ _ (sym (c .before .before .before .before .before .before .before .before .before .before .before .before .before .before .before .before .before .before .before .before .before .before .before .before .before .before .before .verdict .ensures) ∙ c .before .before .before .before .before .before .before .before .before .before .before .before .before .before .before .before .before .before .before .before .before .before .before .before .before .enum-told .given .1) (c .before .before .before .before .before .before .before .before .before .before .before .before .before .before .before .before .before .before .before .before .before .before .before .event .given .1) (at-byte _ _ _ _ _)
-    (completes-settles _ _ _ _ _ _ _ _ _ _ _ _ _ (long (c .before .before .before .before .before .before .before .before .before .before .before .before .before .before .before .before .before .before .before .before .before .before .before .before .before .before .before .before .before .before .before .before .before .before .before)) (accepts _ _ _ _ _ _ _ _ (sym (c .before .before .before .before .before .before .before .before .before .before .before .before .before .before .before .before .before .before .before .before .before .before .before .before .before .before .before .verdict .ensures) ∙ c .before .before .before .before .before .before .before .before .before .before .before .before .before .before .before .before .before .before .before .before .before .before .before .before .before .enum-told .given .1)) (sym (c .before .before .before .before .before .before .before .before .before .before .before .before .before .before .before .before .before .before .before .before .before .way-in .ensures) ∙ c .before .before .before .before .before .before .before .before .before .before .before .before .before .before .before .before .before .before .before .w2 .given .1) (c .before .before .before .before .before .before .before .before .before .before .before .before .before .before .before .before .before .byte2 .ensures)
-    (c .before .before .before .before .before .before .before .before .before .before .before .frame-does .ensures) (c .before .before .before .send .ensures) (c .gap2 .ensures))
+returns-5 c = same-event _ _ _ _ _ _ _ (c .before .before .before .before .before .before .long-step2 .ensures) (c .before .before .before .before .before .before .before .before .before .before .before .before .before .event .given .1)
 
 pub step-spec : {M : Type 1} → statement M
 step-spec =
@@ -57,32 +47,24 @@ step-spec =
     (λ c. search needs)
     (λ c κs. search needs)
     (λ c. search needs)
-    (λ c. search needs)
-    (λ c. search needs)
-    (λ c κs. search needs)
-    (λ c. search needs)
-    (λ c κs. search needs)
-    (λ c κs. search needs)
-    (λ c. search needs)
-    (λ c κs. search needs)
-    (λ c. search needs)
-    (λ c κs. search needs)
-    (λ c. search needs)
-    (λ c κs. search needs)
-    (λ c. search needs)
-    (λ c κs. search needs)
-    (λ c. search needs)
-    (λ c. search needs)
-    part-frame-does-end
-    (λ c κs. search needs)
-    (λ c κs. search needs)
-    (λ c κs. search needs)
     returns
+    (λ c. search needs)
+    (λ c. search needs)
+    (λ c κs. search needs)
     returns-2
-    returns-3
+    (λ c. search needs)
+    (λ c κs. search needs)
+    (λ c. search needs)
+    (λ c. search needs)
+    (λ c. search needs)
+    (λ c. search needs)
+    (λ c. search needs)
+    (λ c κs. search needs)
+    element-write-next
+    add-next
     returns-4
-    returns-5
+    (λ c κs. search needs)
     (λ c. search needs)
     (λ c. search needs)
     (λ c. search needs)
-    returns-6)
+    returns-5)
