@@ -1,6 +1,6 @@
 // How numbers and a part cross the door as bytes, read and written here alone: low byte first. The states' layouts stand in `door` and `dock_door`.
 ghost use mathlib.Core.Path.{_≡_};
-ghost use Prim.Native.Nat.{_≤_};
+ghost use Prim.Native.Nat.{_*_, _+_, _≤_};
 ghost use lib.ListN.{length};
 ghost use Rattle.layout.specs.Layout.{little, namesSize, numberAt, partOf, partWith};
 use part::Part;
@@ -11,22 +11,46 @@ fn wide(b: u8) -> u32
     b as u32
 }
 
+fn two(a: u8, b: u8) -> u16
+    ensures { λ r. ⌜ r ≡ a + 256 * b ⌝ }
+{
+    let low = wide(a);
+    let high = wide(b);
+    (low + 256 * high) as u16
+}
+
+fn four(a: u8, b: u8, c: u8, d: u8) -> u32
+    ensures { λ r. ⌜ r ≡ a + 256 * b + 65536 * c + 16777216 * d ⌝ }
+{
+    let low = wide(a);
+    let second = wide(b);
+    let third = wide(c);
+    let high = wide(d);
+    low + 256 * second + 65536 * third + 16777216 * high
+}
+
+// The first bytes as a number. Where they are all there they are read at once, without a test for each.
 fn first2(bytes: &[u8]) -> u16
     ensures { λ r. ⌜ r ≡ numberAt 2 0 (now (bytes .entry)) ⌝ }
 {
-    let low = wide(lent::byte_at(bytes, 0));
-    let high = wide(lent::byte_at(bytes, 1));
-    (low + 256 * high) as u16
+    if 2 <= bytes.len() {
+        return two(bytes[0], bytes[1]);
+    }
+    two(lent::byte_at(bytes, 0), lent::byte_at(bytes, 1))
 }
 
 fn first4(bytes: &[u8]) -> u32
     ensures { λ r. ⌜ r ≡ numberAt 4 0 (now (bytes .entry)) ⌝ }
 {
-    let a = wide(lent::byte_at(bytes, 0));
-    let b = wide(lent::byte_at(bytes, 1));
-    let c = wide(lent::byte_at(bytes, 2));
-    let d = wide(lent::byte_at(bytes, 3));
-    a + 256 * b + 65536 * c + 16777216 * d
+    if 4 <= bytes.len() {
+        return four(bytes[0], bytes[1], bytes[2], bytes[3]);
+    }
+    four(
+        lent::byte_at(bytes, 0),
+        lent::byte_at(bytes, 1),
+        lent::byte_at(bytes, 2),
+        lent::byte_at(bytes, 3),
+    )
 }
 
 fn first8(bytes: &[u8]) -> usize
