@@ -81,7 +81,7 @@ goodDock j d = goodStage j (d .stage) and leb (d .retries) (j .retries) and leb 
 unfoldable pub due : Dock → Bool
 due d = not (isOver (d .stage)) and not (d .awaited)
 
--- A frame more would be over the bound.
+-- A frame more would be over the bound: then asking for it is refused with 9 too, beyond the table's letter, since "at most 3 + 12(B + R) frames" are sent.
 unfoldable pub spent : Job → Dock → Bool
 spent j d = due d and leb (bound j) (d .frames)
 
