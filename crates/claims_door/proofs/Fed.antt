@@ -83,19 +83,21 @@ unfolding fedBy
 fed-kept (Barred r) p bs state m room c s h = record { noneTaken = refl; kept = record { stateStays = refl; flashStays = refl; roomStays = refl } }
 fed-kept Accepted p bs state m room c s h = absurd (h (feed-fine p bs (before (chipIn state) m room) (s refl) c refl))
 
--- Every stretch, an empty one too, whatever bytes are handed in as the state.
+-- Every stretch, an empty one too, whatever part and whatever bytes are handed in.
 pub refused-feed-keeps : (codes extras clock : ℕ) (names bs state : List ℕ) (m : Flash) (room : List ℕ) → Below 256 state → Below 256 bs
-    → (fedThrough codes extras clock names bs state m room .told .refusal ≡ 0 → ⊥) → FeedKept (fedThrough codes extras clock names bs state m room) state m room
+    → (fedThrough (partOf codes extras clock names) bs state m room .told .refusal ≡ 0 → ⊥)
+    → FeedKept (fedThrough (partOf codes extras clock names) bs state m room) state m room
 unfolding fedThrough
 refused-feed-keeps codes extras clock names bs state m room b c h =
+    let p = partOf codes extras clock names in
     let x = length (m .codeFlash) in
     let y = length (m .dataFlash) in
     let z = length room in
-    fed-kept (accepting codes extras clock names state x y z) (partOf codes extras clock names) bs state m room c (λ e. stands codes extras clock names state m room b (accepted-admits codes extras clock names state x y z e .long) (chip-accepts codes extras clock names state x y z e)) h
+    fed-kept (accepting p state x y z) p bs state m room c (λ e. stands codes extras clock names state m room b (accepted-admits p state x y z e .long) (chip-accepts p state x y z e)) h
 
 -- A replay that is refused before its first record plays none and keeps everything.
-pub refused-replay-keeps : (codes extras clock : ℕ) (names capture state : List ℕ) (m : Flash) (room output : List ℕ) (r : Refusal)
-    → accepting codes extras clock names state (length (m .codeFlash)) (length (m .dataFlash)) (length room) ≡ Barred r
-    → replayedThrough codes extras clock names capture state m room output ≡ replayTold (number r) 0 0 0 state m room output
+pub refused-replay-keeps : (p : Part) (capture state : List ℕ) (m : Flash) (room output : List ℕ) (r : Refusal)
+    → accepting p state (length (m .codeFlash)) (length (m .dataFlash)) (length room) ≡ Barred r
+    → replayedThrough p capture state m room output ≡ replayTold (number r) 0 0 0 state m room output
 unfolding replayedThrough replayedBy
-refused-replay-keeps codes extras clock names capture state m room output r e = rw e
+refused-replay-keeps p capture state m room output r e = rw e

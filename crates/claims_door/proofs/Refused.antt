@@ -15,7 +15,6 @@ use Rattle.door.specs.Layout.{chipIn, isState, layoutOf}
 use Rattle.effect.specs.Effect.{Flash}
 use Rattle.frame.proofs.Laws.Sum.{Below}
 use Rattle.frame.specs.Collector.{heard}
-use Rattle.layout.specs.Layout.{partOf}
 use Rattle.part.specs.declared.Part.{Part}
 use Rattle.part.specs.declared.refusal.Verdict.{Verdict}
 use Rattle.part.specs.declared.refusal.Verdict.the-variants.{Accepted, Barred}
@@ -36,9 +35,11 @@ admits-kept Accepted p v state m room b e h =
     let c = chipIn state in
     asked (verdictOf p (c .core) (c .collector .len) (getD (c .collector .bytes) 0 0) (getD (c .collector .bytes) 1 0) (length (m .codeFlash)) (length (m .dataFlash)) (length room)) p (reactTo v p (c .core) (heard (c .collector)) m) state m room b (e refl) h
 
--- Every event's call, whatever bytes are handed in as the state.
-pub refused-keeps : (codes extras clock : ℕ) (names : List ℕ) (v : Event) (state : List ℕ) (m : Flash) (room : List ℕ) → Below 256 state
-    → (steppedThrough codes extras clock names v state m room .refusal ≡ 0 → ⊥) → Kept (steppedThrough codes extras clock names v state m room) state m room
+-- Every event's call, whatever part and whatever bytes are handed in.
+pub refused-keeps : (p : Part) (v : Event) (state : List ℕ) (m : Flash) (room : List ℕ) → Below 256 state → (steppedThrough p v state m room .refusal ≡ 0 → ⊥)
+    → Kept (steppedThrough p v state m room) state m room
 unfolding steppedThrough
-refused-keeps codes extras clock names v state m room b h =
-    admits-kept (admission codes extras clock names state (length (m .codeFlash)) (length (m .dataFlash))) (partOf codes extras clock names) v state m room b (λ e. admitted codes extras clock names state (length (m .codeFlash)) (length (m .dataFlash)) e .held) h
+refused-keeps p v state m room b h =
+    let x = length (m .codeFlash) in
+    let y = length (m .dataFlash) in
+    admits-kept (admission p state x y) p v state m room b (λ e. admitted p state x y e .held) h

@@ -14,7 +14,7 @@ use Rattle.door.specs.Calls.{acceptance, accepting, admission}
 use Rattle.door.specs.Layout.{awaitedOf, chipIn, headOf, isState, layoutOf, phaseNumber, stateSize}
 use Rattle.effect.specs.declared.Awaited.{Awaited}
 use Rattle.layout.proofs.Laws.{little-long}
-use Rattle.layout.specs.Layout.{little, partOf}
+use Rattle.layout.specs.Layout.{little}
 use Rattle.lent.proofs.Laws.{Written, written-full, written-put, written-start}
 use Rattle.lent.specs.Lent.{left, putOf}
 use Rattle.lent.specs.declared.Room.{Room}
@@ -62,10 +62,9 @@ unfolding if_then_else_
 not-barred true r v e = absurd (let z : _≡_ {A = ℕ} 0 1 = cc in omega arith)
 not-barred false r v e = (refl, e)
 
-pub admitted : (codes extras clock : ℕ) (names state : List ℕ) (code extra : ℕ) → admission codes extras clock names state code extra ≡ Accepted → Admits state
+pub admitted : (p : Part) (state : List ℕ) (code extra : ℕ) → admission p state code extra ≡ Accepted → Admits state
 unfolding admission firstOf isState
-admitted codes extras clock names state code extra e =
-    let p = partOf codes extras clock names in
+admitted p state code extra e =
     let b = not-barred (not (described p)) BadPart _ e in
     let c = not-barred (not (eqb code (size p CodeFlash))) CodeLength _ (b .1) in
     let d = not-barred (not (eqb extra (size p DataFlash))) DataLength _ (c .1) in
@@ -78,11 +77,11 @@ unfolding acceptance
 settling (Barred r) p state code extra room e = e
 settling Accepted p state code extra room e = refl
 
-pub accepted-admits : (codes extras clock : ℕ) (names state : List ℕ) (code extra room : ℕ) → accepting codes extras clock names state code extra room ≡ Accepted
+pub accepted-admits : (p : Part) (state : List ℕ) (code extra room : ℕ) → accepting p state code extra room ≡ Accepted
     → Admits state
 unfolding accepting
-accepted-admits codes extras clock names state code extra room e =
-    admitted codes extras clock names state code extra (settling (admission codes extras clock names state code extra) (partOf codes extras clock names) state code extra room e)
+accepted-admits p state code extra room e =
+    admitted p state code extra (settling (admission p state code extra) p state code extra room e)
 
 -- And the chip itself accepts the state that is read.
 judged : (v : Verdict) (p : Part) (state : List ℕ) (code extra room : ℕ) → acceptance v p state code extra room ≡ Accepted
@@ -91,8 +90,8 @@ unfolding acceptance
 judged (Barred r) p state code extra room e = absurd (let z : _≡_ {A = ℕ} 0 1 = cc in omega arith)
 judged Accepted p state code extra room e = e
 
-pub chip-accepts : (codes extras clock : ℕ) (names state : List ℕ) (code extra room : ℕ) → accepting codes extras clock names state code extra room ≡ Accepted
-    → verdictOn (partOf codes extras clock names) (chipIn state) code extra room ≡ Accepted
+pub chip-accepts : (p : Part) (state : List ℕ) (code extra room : ℕ) → accepting p state code extra room ≡ Accepted
+    → verdictOn p (chipIn state) code extra room ≡ Accepted
 unfolding accepting
-chip-accepts codes extras clock names state code extra room e =
-    judged (admission codes extras clock names state code extra) (partOf codes extras clock names) state code extra room e
+chip-accepts p state code extra room e =
+    judged (admission p state code extra) p state code extra room e

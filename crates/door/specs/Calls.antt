@@ -12,7 +12,6 @@ use Rattle.chip.specs.declared.Chip.{Chip}
 use Rattle.chip.specs.declared.Event.{Event}
 use Rattle.door.specs.Layout.{chipIn, isState, layoutOf, stateSize}
 use Rattle.effect.specs.Effect.{Flash}
-use Rattle.layout.specs.Layout.{partOf}
 use Rattle.part.specs.Part.{described, size}
 use Rattle.part.specs.Refusal.{_when_, firstOf, number}
 use Rattle.part.specs.declared.Area.the-variants.{CodeFlash, DataFlash}
@@ -25,10 +24,9 @@ use Rattle.records.specs.declared.Ended.{Ended}
 use Rattle.records.specs.declared.Ended.the-variants.{AtBadRecord, Halted, Whole}
 use Rattle.words.specs.Words.{if_then_else_}
 
--- "Order for the chip: 1, 2, 3, 9, 4": what bars a call before the chip is asked. Names that are not sixteen bytes describe no part; bytes that are no state are 9.
-unfoldable pub admission : ℕ → ℕ → ℕ → List ℕ → List ℕ → ℕ → ℕ → Verdict
-admission codes extras clock names state code extra =
-    let p = partOf codes extras clock names in
+-- "Order for the chip: 1, 2, 3, 9, 4": what bars a call before the chip is asked. Bytes that are no state are 9.
+unfoldable pub admission : Part → List ℕ → ℕ → ℕ → Verdict
+admission p state code extra =
     firstOf
     (BadPart when not (described p)
     ∷ CodeLength when not (eqb code (size p CodeFlash))
@@ -41,9 +39,8 @@ unfoldable pub acceptance : Verdict → Part → List ℕ → ℕ → ℕ → �
 acceptance (Barred r) p state code extra room = Barred r
 acceptance Accepted p state code extra room = verdictOn p (chipIn state) code extra room
 
-unfoldable pub accepting : ℕ → ℕ → ℕ → List ℕ → List ℕ → ℕ → ℕ → ℕ → Verdict
-accepting codes extras clock names state code extra room =
-    acceptance (admission codes extras clock names state code extra) (partOf codes extras clock names) state code extra room
+unfoldable pub accepting : Part → List ℕ → ℕ → ℕ → ℕ → Verdict
+accepting p state code extra room = acceptance (admission p state code extra) p state code extra room
 
 -- What an answer is in numbers: the refusal's, 0 where there is none; and the bytes and the frames of the reply.
 unfoldable pub refusalNumber : Answer → ℕ
@@ -70,9 +67,9 @@ unfoldable pub madeBy : Answer → Chip → List ℕ → Made
 madeBy (Refused r) c state = made (number r) state
 madeBy (Replied bytes frames) c state = if eqb (length state) stateSize then made 0 (layoutOf c) else made (number BadState) state
 
-unfoldable pub freshThrough : ℕ → ℕ → ℕ → List ℕ → List ℕ → Made
-freshThrough codes extras clock names state =
-    let f = freshOf (partOf codes extras clock names) in
+unfoldable pub freshThrough : Part → List ℕ → Made
+freshThrough p state =
+    let f = freshOf p in
     madeBy (f .answer) (f .chip) state
 
 -- One event.
@@ -93,9 +90,9 @@ steppedBy Accepted p v state m room =
     let o = stepOf p (chipIn state) v m room in
     stepTold (refusalNumber (o .answer)) (bytesTold (o .answer)) (framesTold (o .answer)) (layoutOf (o .chip)) (o .memory) (o .room)
 
-unfoldable pub steppedThrough : ℕ → ℕ → ℕ → List ℕ → Event → List ℕ → Flash → List ℕ → StepTold
-steppedThrough codes extras clock names v state m room =
-    steppedBy (admission codes extras clock names state (length (m .codeFlash)) (length (m .dataFlash))) (partOf codes extras clock names) v state m room
+unfoldable pub steppedThrough : Part → Event → List ℕ → Flash → List ℕ → StepTold
+steppedThrough p v state m room =
+    steppedBy (admission p state (length (m .codeFlash)) (length (m .dataFlash))) p v state m room
 
 -- A stretch of bytes, up to the first that is answered, and how many were taken.
 pub record FeedTold : Type 0 where
@@ -112,9 +109,9 @@ fedBy Accepted p bs state m room =
     let o = f .left in
     feedTold (refusalNumber (o .answer)) (f .taken) (bytesTold (o .answer)) (framesTold (o .answer)) (layoutOf (o .chip)) (o .memory) (o .room)
 
-unfoldable pub fedThrough : ℕ → ℕ → ℕ → List ℕ → List ℕ → List ℕ → Flash → List ℕ → FeedTold
-fedThrough codes extras clock names bs state m room =
-    fedBy (accepting codes extras clock names state (length (m .codeFlash)) (length (m .dataFlash)) (length room)) (partOf codes extras clock names) bs state m room
+unfoldable pub fedThrough : Part → List ℕ → List ℕ → Flash → List ℕ → FeedTold
+fedThrough p bs state m room =
+    fedBy (accepting p state (length (m .codeFlash)) (length (m .dataFlash)) (length room)) p bs state m room
 
 -- A capture's records: 0 where all were played, 16 where one is not good, else the refusal's number.
 unfoldable pub endNumber : Ended → ℕ
@@ -136,6 +133,6 @@ replayedBy Accepted p capture state m room output =
     let x = replayOf p capture (chipIn state) m room output in
     replayTold (endNumber (x .ended)) (x .records) (x .bytes) (x .frames) (layoutOf (x .chip)) (x .memory) (x .room) (x .output)
 
-unfoldable pub replayedThrough : ℕ → ℕ → ℕ → List ℕ → List ℕ → List ℕ → Flash → List ℕ → List ℕ → ReplayTold
-replayedThrough codes extras clock names capture state m room output =
-    replayedBy (accepting codes extras clock names state (length (m .codeFlash)) (length (m .dataFlash)) (length room)) (partOf codes extras clock names) capture state m room output
+unfoldable pub replayedThrough : Part → List ℕ → List ℕ → Flash → List ℕ → List ℕ → ReplayTold
+replayedThrough p capture state m room output =
+    replayedBy (accepting p state (length (m .codeFlash)) (length (m .dataFlash)) (length room)) p capture state m room output

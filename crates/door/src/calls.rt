@@ -1,30 +1,26 @@
 // The calls for C and Rust. Each takes a part as three numbers and sixteen bytes and a chip's state as 293 lent bytes, and answers a refusal number, 0 where it
 // was not refused; what else it tells goes into lent numbers. Document 01, "Refusal numbers" and "Replay".
 ghost use mathlib.Core.Path.{_≡_};
+ghost use lib.ListN.{length};
 ghost use Rattle.chip.specs.declared.Event.the-variants.{Byte, Gap, PowerOn};
 ghost use Rattle.effect.specs.Effect.{flash};
-ghost use Rattle.door.specs.Calls.{accepting, admission, bytesTold, endNumber, fedThrough, framesTold, freshThrough, made, refusalNumber, replayedThrough, steppedThrough, feedTold, replayTold, stepTold};
+ghost use Rattle.layout.specs.Layout.{partOf};
+ghost use Rattle.part.specs.declared.refusal.Verdict.the-variants.{Accepted};
+ghost use Rattle.door.specs.Layout.{stateSize};
+ghost use Rattle.door.specs.Calls.{accepting, admission, bytesTold, endNumber, fedThrough, framesTold, freshThrough, made, refusalNumber, replayedBy, replayedThrough, steppedThrough, feedTold, replayTold, stepTold};
 use chip::Answer;
 use chip::Event;
 use chip::events;
 use part::Area;
+use part::Part;
 use part::refusal::Refusal;
 use part::refusal::Verdict;
 use records::Ended;
 
 // What bars a call before the chip is asked: the description, the lengths of flash, and bytes that are no state, in the paper's order.
-fn admit(
-    code_blocks: u32,
-    data_blocks: u32,
-    clock: u32,
-    names: &[u8],
-    state: &[u8],
-    code: usize,
-    data: usize,
-) -> Verdict
-    ensures { λ r. ⌜ r ≡ admission «code_blocks» «data_blocks» clock (now (names .entry)) (now (state .entry)) code «data» ⌝ }
+fn admit(part: Part, state: &[u8], code: usize, data: usize) -> Verdict
+    ensures { λ r. ⌜ r ≡ admission part (now (state .entry)) code «data» ⌝ }
 {
-    let part = layout::part_of(code_blocks, data_blocks, clock, names);
     if part.is_described() {
         if code == part.size(Area::CodeFlash) {
             if data == part.size(Area::DataFlash) {
@@ -41,23 +37,13 @@ fn admit(
 }
 
 // The same, and then the chip's own verdict: before the first of several events.
-fn accept(
-    code_blocks: u32,
-    data_blocks: u32,
-    clock: u32,
-    names: &[u8],
-    state: &[u8],
-    code: usize,
-    data: usize,
-    room: usize,
-) -> Verdict
-    ensures { λ r. ⌜ r ≡ accepting «code_blocks» «data_blocks» clock (now (names .entry)) (now (state .entry)) code «data» room ⌝ }
+fn accept(part: Part, state: &[u8], code: usize, data: usize, room: usize) -> Verdict
+    ensures { λ r. ⌜ r ≡ accepting part (now (state .entry)) code «data» room ⌝ }
 {
-    let v = admit(code_blocks, data_blocks, clock, names, state, code, data);
+    let v = admit(part, state, code, data);
     match v {
         Verdict::Barred(refusal) => Verdict::Barred(refusal),
         Verdict::Accepted => {
-            let part = layout::part_of(code_blocks, data_blocks, clock, names);
             let chip = super::chip_in(state);
             events::verdict_on(part, chip, code, data, room)
         }
@@ -119,7 +105,7 @@ pub extern "C" fn zc_fresh(
     names: &[u8],
     state: &mut [u8],
 ) -> u32
-    ensures { λ r. ⌜ made r (now (state .exit)) ≡ freshThrough «code_blocks» «data_blocks» clock (now (names .entry)) (now (state .entry)) ⌝ }
+    ensures { λ r. ⌜ made r (now (state .exit)) ≡ freshThrough (partOf «code_blocks» «data_blocks» clock (now (names .entry))) (now (state .entry)) ⌝ }
 {
     let part = layout::part_of(code_blocks, data_blocks, clock, names);
     let step = events::fresh(part);
@@ -152,17 +138,10 @@ fn step(
     bytes: &mut usize,
     frames: &mut usize,
 ) -> u32
-    ensures { λ r. ⌜ stepTold r (now (bytes .exit)) (now (frames .exit)) (now (state .exit)) (flash (now (code .exit)) (now («data» .exit))) (now (room .exit)) ≡ steppedThrough «code_blocks» «data_blocks» clock (now (names .entry)) event (now (state .entry)) (flash (now (code .entry)) (now («data» .entry))) (now (room .entry)) ⌝ }
+    ensures { λ r. ⌜ stepTold r (now (bytes .exit)) (now (frames .exit)) (now (state .exit)) (flash (now (code .exit)) (now («data» .exit))) (now (room .exit)) ≡ steppedThrough (partOf «code_blocks» «data_blocks» clock (now (names .entry))) event (now (state .entry)) (flash (now (code .entry)) (now («data» .entry))) (now (room .entry)) ⌝ }
 {
-    let v = admit(
-        code_blocks,
-        data_blocks,
-        clock,
-        names,
-        state,
-        code.len(),
-        data.len(),
-    );
+    let part = layout::part_of(code_blocks, data_blocks, clock, names);
+    let v = admit(part, state, code.len(), data.len());
     match v {
         Verdict::Barred(refusal) => {
             *bytes = 0;
@@ -170,7 +149,6 @@ fn step(
             refusal.number() as u32
         }
         Verdict::Accepted => {
-            let part = layout::part_of(code_blocks, data_blocks, clock, names);
             let chip = super::chip_in(state);
             let s = events::step(part, chip, event, code, data, room);
             let answer = s.answer;
@@ -197,7 +175,7 @@ pub extern "C" fn zc_byte(
     bytes: &mut usize,
     frames: &mut usize,
 ) -> u32
-    ensures { λ r. ⌜ stepTold r (now (bytes .exit)) (now (frames .exit)) (now (state .exit)) (flash (now (code .exit)) (now («data» .exit))) (now (room .exit)) ≡ steppedThrough «code_blocks» «data_blocks» clock (now (names .entry)) (Byte b) (now (state .entry)) (flash (now (code .entry)) (now («data» .entry))) (now (room .entry)) ⌝ }
+    ensures { λ r. ⌜ stepTold r (now (bytes .exit)) (now (frames .exit)) (now (state .exit)) (flash (now (code .exit)) (now («data» .exit))) (now (room .exit)) ≡ steppedThrough (partOf «code_blocks» «data_blocks» clock (now (names .entry))) (Byte b) (now (state .entry)) (flash (now (code .entry)) (now («data» .entry))) (now (room .entry)) ⌝ }
 {
     step(
         code_blocks,
@@ -228,7 +206,7 @@ pub extern "C" fn zc_gap(
     bytes: &mut usize,
     frames: &mut usize,
 ) -> u32
-    ensures { λ r. ⌜ stepTold r (now (bytes .exit)) (now (frames .exit)) (now (state .exit)) (flash (now (code .exit)) (now («data» .exit))) (now (room .exit)) ≡ steppedThrough «code_blocks» «data_blocks» clock (now (names .entry)) Gap (now (state .entry)) (flash (now (code .entry)) (now («data» .entry))) (now (room .entry)) ⌝ }
+    ensures { λ r. ⌜ stepTold r (now (bytes .exit)) (now (frames .exit)) (now (state .exit)) (flash (now (code .exit)) (now («data» .exit))) (now (room .exit)) ≡ steppedThrough (partOf «code_blocks» «data_blocks» clock (now (names .entry))) Gap (now (state .entry)) (flash (now (code .entry)) (now («data» .entry))) (now (room .entry)) ⌝ }
 {
     step(
         code_blocks,
@@ -259,7 +237,7 @@ pub extern "C" fn zc_power_on(
     bytes: &mut usize,
     frames: &mut usize,
 ) -> u32
-    ensures { λ r. ⌜ stepTold r (now (bytes .exit)) (now (frames .exit)) (now (state .exit)) (flash (now (code .exit)) (now («data» .exit))) (now (room .exit)) ≡ steppedThrough «code_blocks» «data_blocks» clock (now (names .entry)) PowerOn (now (state .entry)) (flash (now (code .entry)) (now («data» .entry))) (now (room .entry)) ⌝ }
+    ensures { λ r. ⌜ stepTold r (now (bytes .exit)) (now (frames .exit)) (now (state .exit)) (flash (now (code .exit)) (now («data» .exit))) (now (room .exit)) ≡ steppedThrough (partOf «code_blocks» «data_blocks» clock (now (names .entry))) PowerOn (now (state .entry)) (flash (now (code .entry)) (now («data» .entry))) (now (room .entry)) ⌝ }
 {
     step(
         code_blocks,
@@ -292,18 +270,10 @@ pub extern "C" fn zc_feed(
     bytes: &mut usize,
     frames: &mut usize,
 ) -> u32
-    ensures { λ r. ⌜ feedTold r (now (taken .exit)) (now (bytes .exit)) (now (frames .exit)) (now (state .exit)) (flash (now (code .exit)) (now («data» .exit))) (now (room .exit)) ≡ fedThrough «code_blocks» «data_blocks» clock (now (names .entry)) (now (fed .entry)) (now (state .entry)) (flash (now (code .entry)) (now («data» .entry))) (now (room .entry)) ⌝ }
+    ensures { λ r. ⌜ feedTold r (now (taken .exit)) (now (bytes .exit)) (now (frames .exit)) (now (state .exit)) (flash (now (code .exit)) (now («data» .exit))) (now (room .exit)) ≡ fedThrough (partOf «code_blocks» «data_blocks» clock (now (names .entry))) (now (fed .entry)) (now (state .entry)) (flash (now (code .entry)) (now («data» .entry))) (now (room .entry)) ⌝ }
 {
-    let v = accept(
-        code_blocks,
-        data_blocks,
-        clock,
-        names,
-        state,
-        code.len(),
-        data.len(),
-        room.len(),
-    );
+    let part = layout::part_of(code_blocks, data_blocks, clock, names);
+    let v = accept(part, state, code.len(), data.len(), room.len());
     match v {
         Verdict::Barred(refusal) => {
             *taken = 0;
@@ -312,7 +282,6 @@ pub extern "C" fn zc_feed(
             refusal.number() as u32
         }
         Verdict::Accepted => {
-            let part = layout::part_of(code_blocks, data_blocks, clock, names);
             let chip = super::chip_in(state);
             let f = events::feed(part, chip, fed, code, data, room);
             let answer = f.answer;
@@ -323,6 +292,32 @@ pub extern "C" fn zc_feed(
             refusal_number(answer)
         }
     }
+}
+
+// The records of a call that is accepted.
+fn play(
+    part: Part,
+    state: &mut [u8],
+    capture: &[u8],
+    code: &mut [u8],
+    data: &mut [u8],
+    room: &mut [u8],
+    output: &mut [u8],
+    played: &mut usize,
+    bytes: &mut usize,
+    frames: &mut usize,
+) -> u32
+    requires { ⌜ length (now state) ≡ stateSize ⌝ }
+    ensures { λ r. ⌜ replayTold r (now (played .exit)) (now (bytes .exit)) (now (frames .exit)) (now (state .exit)) (flash (now (code .exit)) (now («data» .exit))) (now (room .exit)) (now (output .exit)) ≡ replayedBy Accepted part (now (capture .entry)) (now (state .entry)) (flash (now (code .entry)) (now («data» .entry))) (now (room .entry)) (now (output .entry)) ⌝ }
+{
+    let chip = super::chip_in(state);
+    let x = records::replay(part, chip, capture, code, data, room, output);
+    let ended = x.ended;
+    super::lay(x.chip, state);
+    *played = x.records;
+    *bytes = x.bytes;
+    *frames = x.frames;
+    end_number(ended)
 }
 
 // Capture records one after the other: how many were played, and how many bytes and frames of replies stand in the output, end to end.
@@ -342,18 +337,10 @@ pub extern "C" fn zc_replay(
     bytes: &mut usize,
     frames: &mut usize,
 ) -> u32
-    ensures { λ r. ⌜ replayTold r (now (played .exit)) (now (bytes .exit)) (now (frames .exit)) (now (state .exit)) (flash (now (code .exit)) (now («data» .exit))) (now (room .exit)) (now (output .exit)) ≡ replayedThrough «code_blocks» «data_blocks» clock (now (names .entry)) (now (capture .entry)) (now (state .entry)) (flash (now (code .entry)) (now («data» .entry))) (now (room .entry)) (now (output .entry)) ⌝ }
+    ensures { λ r. ⌜ replayTold r (now (played .exit)) (now (bytes .exit)) (now (frames .exit)) (now (state .exit)) (flash (now (code .exit)) (now («data» .exit))) (now (room .exit)) (now (output .exit)) ≡ replayedThrough (partOf «code_blocks» «data_blocks» clock (now (names .entry))) (now (capture .entry)) (now (state .entry)) (flash (now (code .entry)) (now («data» .entry))) (now (room .entry)) (now (output .entry)) ⌝ }
 {
-    let v = accept(
-        code_blocks,
-        data_blocks,
-        clock,
-        names,
-        state,
-        code.len(),
-        data.len(),
-        room.len(),
-    );
+    let part = layout::part_of(code_blocks, data_blocks, clock, names);
+    let v = accept(part, state, code.len(), data.len(), room.len());
     match v {
         Verdict::Barred(refusal) => {
             *played = 0;
@@ -362,15 +349,18 @@ pub extern "C" fn zc_replay(
             refusal.number() as u32
         }
         Verdict::Accepted => {
-            let part = layout::part_of(code_blocks, data_blocks, clock, names);
-            let chip = super::chip_in(state);
-            let x = records::replay(part, chip, capture, code, data, room, output);
-            let ended = x.ended;
-            super::lay(x.chip, state);
-            *played = x.records;
-            *bytes = x.bytes;
-            *frames = x.frames;
-            end_number(ended)
+            play(
+                part,
+                state,
+                capture,
+                code,
+                data,
+                room,
+                output,
+                played,
+                bytes,
+                frames,
+            )
         }
     }
 }

@@ -8,7 +8,7 @@ use Rattle.door.proofs.calls.accept.Statement.{statement}
 use Rattle.door.proofs.calls.accept.Tie as tie
 
 chip-in-requires : tie.Need-chip-in-requires
-chip-in-requires c κs = admitted _ _ _ _ _ _ _ (sym (c .before .before .before .admit .ensures) ∙ c .before .enum-told .given .1) .long
+chip-in-requires c κs = admitted _ _ _ _ (sym (c .before .before .admit .ensures) ∙ c .enum-told .given .1) .long
 
 returns : tie.Need-returns
 unfolding accepting acceptance
@@ -16,7 +16,7 @@ returns c = simp (← c .before .before .before .admit .ensures, c .before .v .g
 
 returns-2 : tie.Need-returns-2
 unfolding accepting acceptance
-returns-2 c = simp (← c .before .before .before .before .before .admit .ensures, c .before .before .before .enum-told .given .1, ← c .before .before .part-of .ensures, ← c .before .chip-in .ensures, ← c .verdict-on .ensures)
+returns-2 c = simp (← c .before .before .before .before .admit .ensures, c .before .before .enum-told .given .1, ← c .before .chip-in .ensures, ← c .verdict-on .ensures)
 
 pub accept-spec : {M : Type 1} → statement M
 accept-spec =
@@ -25,7 +25,6 @@ accept-spec =
     (λ c κs. search needs)
     (λ c. search needs)
     (λ c. search needs)
-    (λ c κs. search needs)
     chip-in-requires
     (λ c κs. search needs)
     returns

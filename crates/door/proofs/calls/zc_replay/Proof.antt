@@ -1,4 +1,4 @@
--- `door::calls::zc_replay` meets its contract: as `step`, by `records::replay`.
+-- `door::calls::zc_replay` meets its contract: barred, it changes nothing; accepted, its records are played.
 -- Assumes nothing.
 use mathlib.Core.Path.{_∙_, sym}
 use borrow.Author.Needs.{needs}
@@ -7,34 +7,28 @@ use Rattle.door.specs.Calls.{replayedBy, replayedThrough}
 use Rattle.door.proofs.calls.zc_replay.Statement.{statement}
 use Rattle.door.proofs.calls.zc_replay.Tie as tie
 
-chip-in-requires : tie.Need-chip-in-requires
-chip-in-requires c κs = accepted-admits _ _ _ _ _ _ _ _ (sym (c .before .before .before .before .accept .ensures) ∙ c .before .before .enum-told .given .1) .long
-
-lay-requires : tie.Need-lay-requires
-lay-requires c κs = accepted-admits _ _ _ _ _ _ _ _ (sym (c .before .before .before .before .before .before .before .before .before .before .before .before .before .before .before .before .before .before .before .accept .ensures) ∙ c .before .before .before .before .before .before .before .before .before .before .before .before .before .before .before .before .before .enum-told .given .1) .long
+play-requires : tie.Need-play-requires
+play-requires c κs = accepted-admits _ _ _ _ _ (sym (c .before .before .before .before .before .before .before .before .before .before .accept .ensures) ∙ c .before .before .before .before .before .before .before .before .enum-told .given .1) .long
 
 returns : tie.Need-returns
 unfolding replayedThrough replayedBy
-returns c = simp (← c .before .before .before .before .accept .ensures, c .before .before .v .given .1, ← c .number .ensures)
+returns c = simp (← c .before .before .before .before .before .before .part-of .ensures, ← c .before .before .before .before .accept .ensures, c .before .before .v .given .1, ← c .number .ensures)
 
 returns-2 : tie.Need-returns-2
-unfolding replayedThrough replayedBy
-returns-2 c = simp (← c .before .before .before .before .before .before .before .before .before .before .before .before .before .before .before .before .before .before .before .before .before .before .before .accept .ensures, c .before .before .before .before .before .before .before .before .before .before .before .before .before .before .before .before .before .before .before .before .before .enum-told .given .1, ← c .before .before .before .before .before .before .before .before .before .before .before .before .before .before .before .before .before .before .before .before .part-of .ensures, ← c .before .before .before .before .before .before .before .before .before .before .before .before .before .before .before .before .before .before .chip-in .ensures, ← c .before .before .before .before .before .before .before .before .before .before .before .before .before .replay .ensures, ← c .before .before .before .lay .ensures, ← c .end-number .ensures)
+unfolding replayedThrough
+returns-2 c = simp (← c .before .before .before .before .before .before .before .before .before .before .before .before .before .before .before .before .before .before .before .before .before .before .before .part-of .ensures, ← c .before .before .before .before .before .before .before .before .before .before .before .before .before .before .before .before .before .before .before .before .before .accept .ensures, c .before .before .before .before .before .before .before .before .before .before .before .before .before .before .before .before .before .before .before .enum-told .given .1, ← c .before .before .before .before .before .before .before .before .before .before .play .ensures)
 
 pub zc-replay-spec : {M : Type 1} → statement M
 zc-replay-spec =
     tie.close
     (tie.spec
     (λ c κs. search needs)
-    (λ c. search needs)
     (λ c κs. search needs)
     (λ c. search needs)
+    (λ c κs. search needs)
     (λ c. search needs)
-    (λ c κs. search needs)
-    chip-in-requires
-    (λ c κs. search needs)
-    lay-requires
-    (λ c κs. search needs)
+    (λ c. search needs)
+    play-requires
     (λ c. search needs)
     returns
     (λ c. search needs)
