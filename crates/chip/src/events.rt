@@ -9,7 +9,7 @@ ghost use Rattle.effect.specs.Effect.{flash, effect};
 ghost use Rattle.frame.specs.Frame.{counted};
 ghost use Rattle.chip.specs.Run.{before, fed, feedOf};
 ghost use Rattle.chip.specs.inner.Ways.{completesAt, lackingOf, plainOf, stretchedBy, wayOn, wayOf};
-ghost use Rattle.chip.specs.Step.{sameArea, goodPlaces, goodAwaited, goodPhase, goodBegun, goodCollected, goodCore, goodState, verdictOf, verdictOn, modeByte, poweredOn, frameDoes, outcome, stepOf, freshOf};
+ghost use Rattle.chip.specs.Step.{sameArea, goodPlaces, goodAwaited, goodPhase, goodBegun, goodCollected, goodCore, goodState, verdictOf, modeByte, poweredOn, frameDoes, outcome, stepOf, freshOf};
 use super::Answer;
 use super::Chip;
 use super::Event;
@@ -179,7 +179,8 @@ fn is_good_state(part: Part, core: Core, count: usize, head: u8, len: u8) -> boo
     false
 }
 
-fn verdict(
+// The verdict on a chip, by its record, the count, first byte and LEN byte of what is collected, and the lengths of what is lent.
+pub fn verdict(
     part: Part,
     core: Core,
     count: usize,
@@ -207,24 +208,6 @@ fn verdict(
         return Verdict::Barred(Refusal::CodeLength);
     }
     Verdict::Barred(Refusal::BadPart)
-}
-
-// The verdict on a chip, given the lengths of what would be lent with an event.
-pub fn verdict_on(part: Part, chip: Chip, code: usize, data: usize, room: usize) -> Verdict
-    ensures { λ r. ⌜ r ≡ verdictOn part chip code «data» room ⌝ }
-{
-    let core = chip.core;
-    let collector = chip.collector;
-    verdict(
-        part,
-        core,
-        collector.len,
-        collector.bytes[0],
-        collector.bytes[1],
-        code,
-        data,
-        room,
-    )
 }
 
 fn mode_byte(core: Core, b: u8) -> Core

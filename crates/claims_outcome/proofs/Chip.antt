@@ -14,8 +14,8 @@ use Rattle.chip.proofs.events.fresh.Reads as events-fresh
 use Rattle.chip.proofs.events.fresh.Kinds as events-fresh-kinds
 use Rattle.chip.proofs.events.feed.Reads as events-feed
 use Rattle.chip.proofs.events.feed.Kinds as events-feed-kinds
-use Rattle.chip.proofs.events.verdict_on.Reads as verdict-on
-use Rattle.chip.proofs.events.verdict_on.Kinds as verdict-on-kinds
+use Rattle.chip.proofs.events.verdict.Reads as verdict
+use Rattle.chip.proofs.events.verdict.Kinds as verdict-kinds
 
 pub events-step-once : (κs : Lfts 3) (a : Dens κs events-step-kinds.ps) → OneOutcome {R = resT events-step-kinds.r κs .Denot} {X = AtExit (endedOf 3 events-step-kinds.ps events-step-kinds.r) κs} (events-step.Post κs a) (λ r x. outcome r (flash (now (x .1 .1 .1 .0)) (now (x .1 .1 .1 .1 .0))) (now (x .1 .1 .1 .1 .1 .0)))
 events-step-once κs a = one-outcome (events-step.Post κs a) (λ r x. outcome r (flash (now (x .1 .1 .1 .0)) (now (x .1 .1 .1 .1 .0))) (now (x .1 .1 .1 .1 .1 .0))) _ (λ r x p. p)
@@ -26,5 +26,5 @@ events-fresh-once κs a = one-outcome (events-fresh.Post κs a) (λ r x. r) _ (�
 pub events-feed-once : (κs : Lfts 4) (a : Dens κs events-feed-kinds.ps) → OneOutcome {R = resT events-feed-kinds.r κs .Denot} {X = AtExit (endedOf 4 events-feed-kinds.ps events-feed-kinds.r) κs} (events-feed.Post κs a) (λ r x. fed r (flash (now (x .1 .1 .1 .0)) (now (x .1 .1 .1 .1 .0))) (now (x .1 .1 .1 .1 .1 .0)))
 events-feed-once κs a = one-outcome (events-feed.Post κs a) (λ r x. fed r (flash (now (x .1 .1 .1 .0)) (now (x .1 .1 .1 .1 .0))) (now (x .1 .1 .1 .1 .1 .0))) _ (λ r x p. p)
 
-pub verdict-on-once : (κs : Lfts 0) (a : Dens κs verdict-on-kinds.ps) → OneOutcome {R = resT verdict-on-kinds.r κs .Denot} {X = AtExit (endedOf 0 verdict-on-kinds.ps verdict-on-kinds.r) κs} (verdict-on.Post κs a) (λ r x. r)
-verdict-on-once κs a = one-outcome (verdict-on.Post κs a) (λ r x. r) _ (λ r x p. p)
+pub verdict-once : (κs : Lfts 0) (a : Dens κs verdict-kinds.ps) → OneOutcome {R = resT verdict-kinds.r κs .Denot} {X = AtExit (endedOf 0 verdict-kinds.ps verdict-kinds.r) κs} (verdict.Post κs a) (λ r x. r)
+verdict-once κs a = one-outcome (verdict.Post κs a) (λ r x. r) _ (λ r x p. p)

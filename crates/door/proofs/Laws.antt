@@ -1,20 +1,22 @@
--- Laws about the layout: the five pieces of a state; and what an admitted call may rely on.
+-- Laws about the layout: the five pieces of a state; what an admitted call may rely on; and what a verdict on it reads.
 -- Assumes nothing.
 use mathlib.Core.Bool.{Bool, false, not, true}
 use mathlib.Core.List.{List, _++_}
 use mathlib.Core.Path.{_∙_, _≡_, ap, refl}
-use Prim.Native.Nat.{ℕ}
+use Prim.Native.Nat.{_+_, _<_, ℕ}
 use native.Mathlib.Omega.{arith}
 use lib.Dec.{eqb}
-use lib.ListN.{length, length-append}
+use lib.ListN.{drop, getD, length, length-append, take}
+use lib.Seq.{getD-drop, getD-take}
 use borrow.Author.Tests.{eqb-true, not-false}
-use Rattle.chip.specs.Step.{verdictOn}
+use Rattle.chip.specs.Step.{verdictOf, verdictOn}
 use Rattle.chip.specs.declared.Chip.{Chip}
 use Rattle.door.specs.Calls.{acceptance, accepting, admission}
-use Rattle.door.specs.Layout.{awaitedOf, chipIn, headOf, isState, layoutOf, phaseNumber, stateSize}
+use Rattle.door.specs.Layout.{awaitedOf, chipIn, collectorIn, coreIn, headOf, isState, layoutOf, phaseNumber, stateSize}
 use Rattle.effect.specs.declared.Awaited.{Awaited}
+use Rattle.effect.specs.declared.Core.{Core}
 use Rattle.layout.proofs.Laws.{little-long}
-use Rattle.layout.specs.Layout.{little}
+use Rattle.layout.specs.Layout.{little, numberAt}
 use Rattle.lent.proofs.Laws.{Written, written-full, written-put, written-start}
 use Rattle.lent.specs.Lent.{left, putOf}
 use Rattle.lent.specs.declared.Room.{Room}
@@ -95,3 +97,13 @@ pub chip-accepts : (p : Part) (state : List ℕ) (code extra room : ℕ) → acc
 unfolding accepting
 chip-accepts p state code extra room e =
     judged (admission p state code extra) p state code extra room e
+
+-- The verdict on the chip that is read needs only its record, the count, and two of the collected bytes.
+first-collected : (bs : List ℕ) (i : ℕ) → i < 260 → getD (take 260 (drop 33 bs)) i 0 ≡ getD bs (33 + i) 0
+first-collected bs i h = getD-take 260 (drop 33 bs) i 0 h ∙ getD-drop 33 bs i 0
+
+pub verdict-read : (p : Part) (k : Core) (count head len : ℕ) (state : List ℕ) (code extra room : ℕ) (v : Verdict) → v ≡ verdictOf p k count head len code extra room
+    → k ≡ coreIn state → count ≡ numberAt 8 25 state → head ≡ getD state 33 0 → len ≡ getD state 34 0 → v ≡ verdictOn p (chipIn state) code extra room
+unfolding chipIn collectorIn
+verdict-read p k count head len state code extra room v e f g h i =
+    rw (e, f, g, h, i, first-collected state 0 (omega arith), first-collected state 1 (omega arith))

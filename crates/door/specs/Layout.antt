@@ -6,6 +6,7 @@ use lib.Dec.{eqb}
 use lib.ListN.{drop, getD, length, take}
 use Rattle.chip.specs.declared.Chip.{Chip}
 use Rattle.effect.specs.declared.Awaited.{Awaited}
+use Rattle.effect.specs.declared.Core.{Core}
 use Rattle.effect.specs.declared.Phase.{Phase}
 use Rattle.effect.specs.declared.Phase.the-variants.{Awaiting, ModeByte, Ready, Setup}
 use Rattle.frame.specs.declared.collector.Collector.{Collector}
@@ -61,9 +62,8 @@ optionsHeld bs = record { flags = getD bs 0 0; boot = getD bs 1 0; start = numbe
 unfoldable pub collectorIn : List ℕ → Collector
 collectorIn bs = record { bytes = take 260 (drop 33 bs); len = numberAt 8 25 bs }
 
+abbrev pub coreIn : List ℕ → Core
+coreIn bs = record { options = optionsHeld bs; rate = getD bs 6 0; phase = phaseIn (getD bs 7 0) (awaitedIn bs) }
+
 unfoldable pub chipIn : List ℕ → Chip
-chipIn bs =
-    record {
-      core = record { options = optionsHeld bs; rate = getD bs 6 0; phase = phaseIn (getD bs 7 0) (awaitedIn bs) };
-      collector = collectorIn bs;
-    }
+chipIn bs = record { core = coreIn bs; collector = collectorIn bs }

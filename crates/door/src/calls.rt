@@ -2,11 +2,12 @@
 // was not refused; what else it tells goes into lent numbers. Document 01, "Refusal numbers" and "Replay".
 ghost use mathlib.Core.Path.{_≡_};
 ghost use lib.ListN.{length};
+ghost use Rattle.chip.specs.Step.{verdictOn};
 ghost use Rattle.chip.specs.declared.Event.the-variants.{Byte, Gap, PowerOn};
 ghost use Rattle.effect.specs.Effect.{flash};
 ghost use Rattle.layout.specs.Layout.{partOf};
 ghost use Rattle.part.specs.declared.refusal.Verdict.the-variants.{Accepted};
-ghost use Rattle.door.specs.Layout.{stateSize};
+ghost use Rattle.door.specs.Layout.{chipIn, stateSize};
 ghost use Rattle.door.specs.Calls.{accepting, admission, bytesTold, endNumber, fedThrough, framesTold, freshThrough, made, refusalNumber, replayedBy, replayedThrough, steppedThrough, feedTold, replayTold, stepTold};
 use chip::Answer;
 use chip::Event;
@@ -36,6 +37,16 @@ fn admit(part: Part, state: &[u8], code: usize, data: usize) -> Verdict
     Verdict::Barred(Refusal::BadPart)
 }
 
+// The chip's verdict on the state read, without its collected bytes.
+fn verdict_in(part: Part, state: &[u8], code: usize, data: usize, room: usize) -> Verdict
+    requires { ⌜ length (now state) ≡ stateSize ⌝ }
+    ensures { λ r. ⌜ r ≡ verdictOn part (chipIn (now (state .entry))) code «data» room ⌝ }
+{
+    let core = super::core_in(state);
+    let count = layout::number8(state, 25);
+    events::verdict(part, core, count, state[33], state[34], code, data, room)
+}
+
 // The same, and then the chip's own verdict: before the first of several events.
 fn accept(part: Part, state: &[u8], code: usize, data: usize, room: usize) -> Verdict
     ensures { λ r. ⌜ r ≡ accepting part (now (state .entry)) code «data» room ⌝ }
@@ -43,10 +54,7 @@ fn accept(part: Part, state: &[u8], code: usize, data: usize, room: usize) -> Ve
     let v = admit(part, state, code, data);
     match v {
         Verdict::Barred(refusal) => Verdict::Barred(refusal),
-        Verdict::Accepted => {
-            let chip = super::chip_in(state);
-            events::verdict_on(part, chip, code, data, room)
-        }
+        Verdict::Accepted => { verdict_in(part, state, code, data, room) }
     }
 }
 

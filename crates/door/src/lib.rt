@@ -2,7 +2,7 @@
 ghost use mathlib.Core.Path.{_≡_};
 ghost use lib.ListN.{drop, length, take};
 ghost use Rattle.lent.specs.Lent.{allAre};
-ghost use Rattle.door.specs.Layout.{awaitedIn, awaitedOf, chipIn, collectorIn, optionsHeld, headOf, isState, layoutOf, phaseIn, phaseNumber, stateSize};
+ghost use Rattle.door.specs.Layout.{awaitedIn, awaitedOf, chipIn, collectorIn, coreIn, optionsHeld, headOf, isState, layoutOf, phaseIn, phaseNumber, stateSize};
 use chip::Chip;
 use effect::Awaited;
 use effect::Core;
@@ -91,22 +91,27 @@ fn collector_in(state: &[u8]) -> Collector
     Collector { bytes, len }
 }
 
-fn chip_in(state: &[u8]) -> Chip
+fn core_in(state: &[u8]) -> Core
     requires { ⌜ length (now state) ≡ stateSize ⌝ }
-    ensures { λ r. ⌜ r ≡ chipIn (now (state .entry)) ⌝ }
+    ensures { λ r. ⌜ r ≡ coreIn (now (state .entry)) ⌝ }
 {
     let options = options_in(state);
     let awaited = awaited_in(state);
     let phase = phase_in(state[7], awaited);
-    let collector = collector_in(state);
-    Chip {
-        core: Core {
-            options,
-            rate: state[6],
-            phase,
-        },
-        collector,
+    Core {
+        options,
+        rate: state[6],
+        phase,
     }
+}
+
+fn chip_in(state: &[u8]) -> Chip
+    requires { ⌜ length (now state) ≡ stateSize ⌝ }
+    ensures { λ r. ⌜ r ≡ chipIn (now (state .entry)) ⌝ }
+{
+    let core = core_in(state);
+    let collector = collector_in(state);
+    Chip { core, collector }
 }
 
 fn phase_number(phase: Phase) -> u8

@@ -1,4 +1,4 @@
--- `door::chip_in` meets its contract: each field is read by the function that its definition names.
+-- `door::chip_in` meets its contract.
 -- Assumes nothing.
 use borrow.Author.Needs.{needs}
 use Rattle.door.specs.Layout.{chipIn}
@@ -7,16 +7,7 @@ use Rattle.door.proofs.chip_in.Tie as tie
 
 returns : tie.Need-returns
 unfolding chipIn
-returns c = simp (← c .before .before .before .before .before .options-in .ensures, ← c .before .before .before .before .awaited-in .ensures, ← c .before .before .phase-in .ensures, ← c .before .collector-in .ensures)
+returns c = simp (← c .before .core-in .ensures, ← c .collector-in .ensures)
 
 pub chip-in-spec : {M : Type 1} → statement M
-chip-in-spec =
-    tie.close
-    (tie.spec
-    (λ c κs. search needs)
-    (λ c κs. search needs)
-    (λ c. search needs)
-    (λ c κs. search needs)
-    (λ c κs. search needs)
-    (λ c. search needs)
-    returns)
+chip-in-spec = tie.close (tie.spec (λ c κs. search needs) (λ c κs. search needs) returns)

@@ -7,8 +7,8 @@ use Rattle.door.specs.Calls.{acceptance, accepting}
 use Rattle.door.proofs.calls.accept.Statement.{statement}
 use Rattle.door.proofs.calls.accept.Tie as tie
 
-chip-in-requires : tie.Need-chip-in-requires
-chip-in-requires c κs = admitted _ _ _ _ (sym (c .before .before .admit .ensures) ∙ c .enum-told .given .1) .long
+verdict-in-requires : tie.Need-verdict-in-requires
+verdict-in-requires c κs = admitted _ _ _ _ (sym (c .before .before .admit .ensures) ∙ c .enum-told .given .1) .long
 
 returns : tie.Need-returns
 unfolding accepting acceptance
@@ -16,16 +16,9 @@ returns c = simp (← c .before .before .before .admit .ensures, c .before .v .g
 
 returns-2 : tie.Need-returns-2
 unfolding accepting acceptance
-returns-2 c = simp (← c .before .before .before .before .admit .ensures, c .before .before .enum-told .given .1, ← c .before .chip-in .ensures, ← c .verdict-on .ensures)
+returns-2 c = simp (← c .before .before .before .admit .ensures, c .before .enum-told .given .1, ← c .verdict-in .ensures)
 
 pub accept-spec : {M : Type 1} → statement M
 accept-spec =
     tie.close
-    (tie.spec
-    (λ c κs. search needs)
-    (λ c. search needs)
-    (λ c. search needs)
-    chip-in-requires
-    (λ c κs. search needs)
-    returns
-    returns-2)
+    (tie.spec (λ c κs. search needs) (λ c. search needs) (λ c. search needs) verdict-in-requires returns returns-2)
