@@ -1,7 +1,7 @@
 // One step of the chip: refusals first, then what is heard, then the work of a complete frame, then the reply in the room.
 // Document 01, "Frames" ("Collecting"), "Phases" and "Refusal numbers".
 ghost use mathlib.Core.Path.{_≡_};
-ghost use Prim.Native.Nat.{_≤_, _<_, _^_, _+_, _%_};
+ghost use Prim.Native.Nat.{_≤_, _<_, _+_, _%_};
 ghost use lib.Dec.{eqb};
 ghost use lib.ListN.{getD, length};
 ghost use Rattle.words.specs.Words.{_or_};

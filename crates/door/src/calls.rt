@@ -43,7 +43,7 @@ fn verdict_in(part: Part, state: &[u8], code: usize, data: usize, room: usize) -
     ensures { λ r. ⌜ r ≡ verdictOn part (chipIn (now (state .entry))) code «data» room ⌝ }
 {
     let core = super::core_in(state);
-    let count = layout::number8(state, 25);
+    let count = super::number8(state, 25);
     events::verdict(part, core, count, state[33], state[34], code, data, room)
 }
 

@@ -1,6 +1,8 @@
 // How a chip's state crosses the door as bytes: one layout, read and written here alone. The calls for C and Rust stand in `calls`.
 ghost use mathlib.Core.Path.{_≡_};
+ghost use Prim.Native.Nat.{_+_, _≤_};
 ghost use lib.ListN.{drop, length, take};
+ghost use Rattle.layout.specs.Layout.{numberAt};
 ghost use Rattle.lent.specs.Lent.{allAre};
 ghost use Rattle.door.specs.Layout.{awaitedIn, awaitedOf, chipIn, collectorIn, coreIn, optionsHeld, headOf, isState, layoutOf, phaseIn, phaseNumber, stateSize};
 use chip::Chip;
@@ -11,6 +13,30 @@ use frame::collector::Collector;
 use options::Options;
 
 pub mod calls;
+
+// The bytes of a state are known to be there: they are read without a test for each.
+fn number2(bytes: &[u8], at: usize) -> u16
+    requires { ⌜ at + 2 ≤ length (now bytes) ⌝ }
+    ensures { λ r. ⌜ r ≡ numberAt 2 at (now (bytes .entry)) ⌝ }
+{
+    layout::two(bytes[at], bytes[at + 1])
+}
+
+fn number4(bytes: &[u8], at: usize) -> u32
+    requires { ⌜ at + 4 ≤ length (now bytes) ⌝ }
+    ensures { λ r. ⌜ r ≡ numberAt 4 at (now (bytes .entry)) ⌝ }
+{
+    layout::four(bytes[at], bytes[at + 1], bytes[at + 2], bytes[at + 3])
+}
+
+fn number8(bytes: &[u8], at: usize) -> usize
+    requires { ⌜ at + 8 ≤ length (now bytes) ⌝ }
+    ensures { λ r. ⌜ r ≡ numberAt 8 at (now (bytes .entry)) ⌝ }
+{
+    let low = number4(bytes, at);
+    let high = number4(bytes, at + 4);
+    (low as usize) + 4294967296 * (high as usize)
+}
 
 // Whether nothing is said to be awaited.
 fn is_nothing_awaited(state: &[u8]) -> bool
@@ -58,8 +84,8 @@ fn awaited_in(state: &[u8]) -> Awaited
     requires { ⌜ length (now state) ≡ stateSize ⌝ }
     ensures { λ r. ⌜ r ≡ awaitedIn (now (state .entry)) ⌝ }
 {
-    let next = layout::number8(state, 9);
-    let last = layout::number8(state, 17);
+    let next = number8(state, 9);
+    let last = number8(state, 17);
     Awaited {
         command: state[8],
         next,
@@ -71,8 +97,8 @@ fn options_in(state: &[u8]) -> Options
     requires { ⌜ length (now state) ≡ stateSize ⌝ }
     ensures { λ r. ⌜ r ≡ optionsHeld (now (state .entry)) ⌝ }
 {
-    let start = layout::number2(state, 2);
-    let end = layout::number2(state, 4);
+    let start = number2(state, 2);
+    let end = number2(state, 4);
     Options {
         flags: state[0],
         boot: state[1],
@@ -85,7 +111,7 @@ fn collector_in(state: &[u8]) -> Collector
     requires { ⌜ length (now state) ≡ stateSize ⌝ }
     ensures { λ r. ⌜ r ≡ collectorIn (now (state .entry)) ⌝ }
 {
-    let len = layout::number8(state, 25);
+    let len = number8(state, 25);
     let mut bytes = [0u8; 260];
     lent::put(&mut bytes, 0, &state[33..293]);
     Collector { bytes, len }

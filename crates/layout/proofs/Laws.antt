@@ -17,18 +17,27 @@ use Rattle.layout.specs.Layout.{little, namesSize, numberAt, partOf, par
 use Rattle.words.specs.Words.{if_then_else_}
 
 -- Numbers of two, four and eight bytes, as the code adds them up.
-pub number-two : (a b : ℕ) (bs : List ℕ) → a ≡ getD bs 0 0 → b ≡ getD bs 1 0 → a + 256 * b ≡ numberAt 2 0 bs
-unfolding numberAt
-number-two a b bs e f = omega (arith, e, f)
+same-place : (bs : List ℕ) {i j : ℕ} → i ≡ j → getD bs i 0 ≡ getD bs j 0
+same-place bs e = ap (λ (i : ℕ). getD bs i 0) e
 
-pub number-four : (a b c d : ℕ) (bs : List ℕ) → a ≡ getD bs 0 0 → b ≡ getD bs 1 0 → c ≡ getD bs 2 0 → d ≡ getD bs 3 0
-    → a + 256 * b + 65536 * c + 16777216 * d ≡ numberAt 4 0 bs
+pub number-two : (a b at : ℕ) (bs : List ℕ) → a ≡ getD bs at 0 → b ≡ getD bs (at + 1) 0 → a + 256 * b ≡ numberAt 2 at bs
 unfolding numberAt
-number-four a b c d bs e f g h = omega (arith, e, f, g, h)
+number-two a b at bs e f = omega (arith, e, f)
 
-pub number-halves : (low high : ℕ) (bs : List ℕ) → low ≡ numberAt 4 0 bs → high ≡ numberAt 4 4 bs → low + 4294967296 * high ≡ numberAt 8 0 bs
+pub number-four : (a b c d at : ℕ) (bs : List ℕ) → a ≡ getD bs at 0 → b ≡ getD bs (at + 1) 0 → c ≡ getD bs (at + 2) 0 → d ≡ getD bs (at + 3) 0
+    → a + 256 * b + 65536 * c + 16777216 * d ≡ numberAt 4 at bs
 unfolding numberAt
-number-halves low high bs e f = omega (arith, e, f)
+number-four a b c d at bs e f g h =
+    let i : getD bs (at + 2) 0 ≡ getD bs (at + 1 + 1) 0 = same-place bs (omega arith) in
+    let j : getD bs (at + 3) 0 ≡ getD bs (at + 1 + 1 + 1) 0 = same-place bs (omega arith) in
+    omega (arith, e, f, g, h, i, j)
+
+pub number-halves : (low high at : ℕ) (bs : List ℕ) → low ≡ numberAt 4 at bs → high ≡ numberAt 4 (at + 4) bs → low + 4294967296 * high ≡ numberAt 8 at bs
+unfolding numberAt
+number-halves low high at bs e f =
+    let i : at + 4 ≡ at + 1 + 1 + 1 + 1 = omega arith in
+    let g : high ≡ numberAt 4 (at + 1 + 1 + 1 + 1) bs = f ∙ ap (λ (j : ℕ). numberAt 4 j bs) i in
+    omega (arith, e, g)
 
 -- From a place on, the number is the first one of the rest.
 dropped : (k at i : ℕ) (bs : List ℕ) → numberAt k i (drop at bs) ≡ numberAt k (at + i) bs

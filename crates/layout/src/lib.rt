@@ -11,7 +11,8 @@ fn wide(b: u8) -> u32
     b as u32
 }
 
-fn two(a: u8, b: u8) -> u16
+// Two or four bytes as a number, the lowest first.
+pub fn two(a: u8, b: u8) -> u16
     ensures { λ r. ⌜ r ≡ a + 256 * b ⌝ }
 {
     let low = wide(a);
@@ -19,7 +20,7 @@ fn two(a: u8, b: u8) -> u16
     (low + 256 * high) as u16
 }
 
-fn four(a: u8, b: u8, c: u8, d: u8) -> u32
+pub fn four(a: u8, b: u8, c: u8, d: u8) -> u32
     ensures { λ r. ⌜ r ≡ a + 256 * b + 65536 * c + 16777216 * d ⌝ }
 {
     let low = wide(a);
@@ -29,22 +30,9 @@ fn four(a: u8, b: u8, c: u8, d: u8) -> u32
     low + 256 * second + 65536 * third + 16777216 * high
 }
 
-// The first bytes as a number. Where they are all there they are read at once, without a test for each.
-fn first2(bytes: &[u8]) -> u16
-    ensures { λ r. ⌜ r ≡ numberAt 2 0 (now (bytes .entry)) ⌝ }
-{
-    if 2 <= bytes.len() {
-        return two(bytes[0], bytes[1]);
-    }
-    two(lent::byte_at(bytes, 0), lent::byte_at(bytes, 1))
-}
-
 fn first4(bytes: &[u8]) -> u32
     ensures { λ r. ⌜ r ≡ numberAt 4 0 (now (bytes .entry)) ⌝ }
 {
-    if 4 <= bytes.len() {
-        return four(bytes[0], bytes[1], bytes[2], bytes[3]);
-    }
     four(
         lent::byte_at(bytes, 0),
         lent::byte_at(bytes, 1),
@@ -53,38 +41,12 @@ fn first4(bytes: &[u8]) -> u32
     )
 }
 
-fn first8(bytes: &[u8]) -> usize
-    ensures { λ r. ⌜ r ≡ numberAt 8 0 (now (bytes .entry)) ⌝ }
-{
-    let low = number4(bytes, 0);
-    let high = number4(bytes, 4);
-    (low as usize) + 4294967296 * (high as usize)
-}
-
-// The number that two, four or eight bytes from a place on are; bytes that are not there count as 0.
-pub fn number2(bytes: &[u8], at: usize) -> u16
-    ensures { λ r. ⌜ r ≡ numberAt 2 at (now (bytes .entry)) ⌝ }
-{
-    if at < bytes.len() {
-        return first2(&bytes[at..]);
-    }
-    0
-}
-
+// The number that four bytes from a place on are; bytes that are not there count as 0.
 pub fn number4(bytes: &[u8], at: usize) -> u32
     ensures { λ r. ⌜ r ≡ numberAt 4 at (now (bytes .entry)) ⌝ }
 {
     if at < bytes.len() {
         return first4(&bytes[at..]);
-    }
-    0
-}
-
-pub fn number8(bytes: &[u8], at: usize) -> usize
-    ensures { λ r. ⌜ r ≡ numberAt 8 at (now (bytes .entry)) ⌝ }
-{
-    if at < bytes.len() {
-        return first8(&bytes[at..]);
     }
     0
 }
