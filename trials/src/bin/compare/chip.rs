@@ -408,7 +408,12 @@ impl Trio<'_> {
             1 => Event::PowerOn,
             _ => Event::Byte(choice.pick(&[0x01, 0x02, 0x3A, 0x00])),
         };
+        // A stretch or a capture is refused before its first event, and so where there is none, or the first record is bad, or there is no output.
         let bytes = [choice.byte(), choice.byte(), choice.byte()];
+        let stretch = &bytes[..choice.below(bytes.len() + 1)];
+        let capture: &[u8] =
+            choice.pick(&[&[][..], &[0; RECORD][..], &[2; RECORD][..], &[0; 3][..]]);
+        let mut output = vec![self.fill; choice.pick(&[0, OUTPUT - 1, OUTPUT])];
         let many = choice.chance(50);
         let expected = self.expected(
             &part,
@@ -431,23 +436,22 @@ impl Trio<'_> {
         let (call, told) = match event {
             Event::Byte(_) if many => {
                 let (taken, told) = door::feed(
-                    &described, &mut state, &bytes, &mut code, &mut data, &mut room,
+                    &described, &mut state, stretch, &mut code, &mut data, &mut room,
                 );
                 untaken = taken == 0;
                 (3, told)
             }
             Event::Gap if many => {
-                let mut output = [self.fill; OUTPUT];
                 let (played, told) = door::replay(
                     &described,
                     &mut state,
-                    &[0; RECORD],
+                    capture,
                     &mut code,
                     &mut data,
                     &mut room,
                     &mut output,
                 );
-                untaken = played == 0 && output == [self.fill; OUTPUT];
+                untaken = played == 0 && output.iter().all(|byte| *byte == self.fill);
                 (4, told)
             }
             Event::Byte(byte) => (
