@@ -19,3 +19,4 @@ pub mod Flow
 pub mod Dock
 pub mod Door
 pub mod DockDoor
+pub mod Pace

@@ -149,24 +149,96 @@ fn twin_bytes(fed: &[u8]) -> Said {
     from_twin(player, said)
 }
 
-fn twin_by_value(fed: &[u8]) -> Said {
-    let (mut player, mut room, mut said) = (Player::fresh(), [0; 32], Vec::new());
+/// A fresh chip through all the bytes, each handed in and back by value, with nothing kept of what is said but by `hear`.
+fn twin_values(fed: &[u8], mut hear: impl FnMut(&[u8])) -> Player {
+    let Player {
+        part,
+        mut chip,
+        mut code,
+        mut data,
+    } = Player::fresh();
+    let mut room = [0; 32];
     for &byte in fed {
-        let chip = player.chip.clone();
-        let (answer, chip) = step_by_value(
-            &player.part,
-            chip,
-            Event::Byte(byte),
-            &mut player.code,
-            &mut player.data,
-            &mut room,
-        );
-        player.chip = chip;
+        let event = Event::Byte(byte);
+        let (answer, next) = step_by_value(&part, chip, event, &mut code, &mut data, &mut room);
+        chip = next;
         if let Answer::Replied { bytes, .. } = answer {
-            said.extend_from_slice(&room[..bytes]);
+            hear(&room[..bytes]);
         }
     }
+    Player {
+        part,
+        chip,
+        code,
+        data,
+    }
+}
+
+fn twin_by_value(fed: &[u8]) -> Said {
+    let mut said = Vec::new();
+    let player = twin_values(fed, |bytes| said.extend_from_slice(bytes));
     from_twin(player, said)
+}
+
+#[link(name = "pace", kind = "static")]
+extern "C" {
+    fn zp_steps(
+        code_blocks: u32,
+        data_blocks: u32,
+        clock: u32,
+        names: *const u8,
+        names_len: usize,
+        bytes: *const u8,
+        bytes_len: usize,
+        code: *mut u8,
+        code_len: usize,
+        data: *mut u8,
+        data_len: usize,
+        room: *mut u8,
+        room_len: usize,
+    ) -> usize;
+}
+
+/// The proved step in a loop of its own, without the door. Of the chip it tells the count of collected bytes alone.
+fn pace_steps(fed: &[u8]) -> Said {
+    let part = replay_part();
+    let names = trials::chip::names(&part);
+    let Player {
+        mut code, mut data, ..
+    } = Player::fresh();
+    let mut room = [0; 32];
+    let count = unsafe {
+        zp_steps(
+            part.code_blocks,
+            part.data_blocks,
+            part.clock,
+            names.as_ptr(),
+            names.len(),
+            fed.as_ptr(),
+            fed.len(),
+            code.as_mut_ptr(),
+            code.len(),
+            data.as_mut_ptr(),
+            data.len(),
+            room.as_mut_ptr(),
+            room.len(),
+        )
+    };
+    counted(count, code, data)
+}
+
+fn twin_steps(fed: &[u8]) -> Said {
+    let player = twin_values(fed, |_| ());
+    counted(player.chip.count, player.code, player.data)
+}
+
+fn counted(count: usize, code: Vec<u8>, data: Vec<u8>) -> Said {
+    Said {
+        bytes: count.to_le_bytes().to_vec(),
+        state: Vec::new(),
+        code,
+        data,
+    }
 }
 
 fn door_bytes(fed: &[u8]) -> Said {
@@ -369,7 +441,16 @@ fn main() {
         ""
     );
     least(
-        "a byte at a time, twin by value",
+        "the step itself (zp_steps), twin by value",
+        n,
+        "byte",
+        pace_steps,
+        twin_steps,
+        &bytes,
+        RUNS,
+    );
+    least(
+        "a byte at a time (zc_byte), twin by value",
         n,
         "byte",
         door_bytes,
