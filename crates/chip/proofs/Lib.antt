@@ -1,5 +1,4 @@
 pub mod Feeding
-pub mod Laws
 pub mod Settling
 pub mod Saying
 pub mod Stretching

@@ -11,23 +11,25 @@ use Rattle.chip.proofs.Settling.{accepts}
 use Rattle.chip.specs.Run.{Feeding, before, fedOn, feedFrom, feedOf, feeding, onward}
 use Rattle.chip.specs.Step.{Outcome, Reaction, settled, stepOf}
 use Rattle.chip.specs.declared.Answer.{Answer}
-use Rattle.chip.specs.declared.Answer.the-variants.{Refused, Replied}
-use Rattle.chip.specs.declared.Chip.{Chip}
+use Rattle.chip.specs.declared.Answer.the-variants.{Replied}
+use Rattle.chip.specs.declared.Answer.the-variants as Answer
+use Rattle.chip_state.specs.declared.Chip.{Chip}
 use Rattle.chip.specs.declared.Event.{Event}
 use Rattle.chip.specs.declared.Event.the-variants.{Byte}
-use Rattle.effect.specs.Effect.{Flash}
+use Rattle.chip_core.specs.Effect.{Flash}
 use Rattle.frame.proofs.Laws.Wire.{framed-long}
 use Rattle.frame.specs.declared.Footer.the-variants.{Last}
 use Rattle.frame.specs.declared.Header.the-variants.{Data}
-use Rattle.options.specs.declared.Options.{Options}
+use Rattle.chip_options.specs.declared.Options.{Options}
 use Rattle.part.specs.declared.Part.{Part}
 use Rattle.part.specs.declared.refusal.Refusal.{Refusal}
 use Rattle.part.specs.declared.refusal.Verdict.{Verdict}
-use Rattle.part.specs.declared.refusal.Verdict.the-variants.{Accepted, Barred}
-use Rattle.reply.proofs.Laws.{reply-long, send-keeps, send-lands}
-use Rattle.reply.specs.Reply.{framesOf, payloads, sendOf}
-use Rattle.reply.specs.declared.Reply.{Reply}
-use Rattle.reply.specs.declared.Reply.the-variants.{LastStored, Pair, Rate, Security, Signature, Silence, Status, Sum}
+use Rattle.part.specs.declared.refusal.Verdict.the-variants.{Accepted}
+use Rattle.part.specs.declared.refusal.Verdict.the-variants as Verdict
+use Rattle.chip_reply.proofs.Laws.{reply-long, send-keeps, send-lands}
+use Rattle.chip_reply.specs.Reply.{framesOf, payloads, sendOf}
+use Rattle.chip_reply.specs.declared.Reply.{Reply}
+use Rattle.chip_reply.specs.declared.Reply.the-variants.{LastStored, Pair, Rate, Security, Signature, Silence, Status, Sum}
 use Rattle.words.specs.Words.{if_then_else_}
 
 -- "The description also holds device code (3 bytes), name (10), firmware version (3)." The types of the code's arrays give these lengths.
@@ -77,7 +79,7 @@ said-fits rs room l f h =
       framed = λ n k e. omega (arith, same-count _ _ n k e .0, same-count _ _ n k e .1, frames-long rs);
     }
 
-refused-fits : (r : Refusal) (room : ℕ) → Fitting (Refused r) room
+refused-fits : (r : Refusal) (room : ℕ) → Fitting (Answer.Refused r) room
 refused-fits r room =
     record {
       long = λ n k e. absurd (let z : _≡_ {A = ℕ} 0 1 = cc in omega arith);
@@ -90,7 +92,7 @@ refused-fits r room =
 settled-fits : (v : Verdict) (p : Part) (x : Reaction) (c : Chip) (m : Flash) (room : List ℕ) → Arrays p → (v ≡ Accepted → 32 ≤ length room)
     → Fitting (settled v p x c m room .answer) (length (settled v p x c m room .room))
 unfolding settled
-settled-fits (Barred r) p x c m room a h = refused-fits r (length room)
+settled-fits (Verdict.Refused r) p x c m room a h = refused-fits r (length room)
 settled-fits Accepted p x c m room a h =
     let rs = payloads p (x .does .core .options) (x .does .reply) in
     let l : length (framesOf rs) ≤ 31 = reply-long p (x .does .core .options) (x .does .reply) (a .deviceLong) (a .nameLong) (a .versionLong) in
@@ -106,7 +108,7 @@ step-fits p c v m room a = settled-fits _ p _ c m room a (λ e. accepts p (c .co
 fed-on-fits : (a : Answer) (n : ℕ) (x : Outcome) (rest : Feeding) → Fitting (x .answer) (length (x .room)) → Fitting (rest .left .answer) (length (rest .left .room))
     → Fitting (fedOn a n x rest .left .answer) (length (fedOn a n x rest .left .room))
 unfolding fedOn if_then_else_
-fed-on-fits (Refused r) n x rest f g = f
+fed-on-fits (Answer.Refused r) n x rest f g = f
 fed-on-fits (Replied b k) n x rest f g = go (eqb k 0)
   where
     go : (t : Bool) → Fitting ((if t then rest else feeding (n + 1) x) .left .answer) (length ((if t then rest else feeding (n + 1) x) .left .room))

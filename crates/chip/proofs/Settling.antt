@@ -10,18 +10,20 @@ use lib.Dec.{eqb, leb, ltb}
 use lib.ListN.{List·getD-append, getD, length, length-append, take}
 use lib.Seq.{getD-take}
 use borrow.Author.Tests.{eqb-true, le-leb, lt-leb, ltb-false, ltb-true, not-false, not-true}
-use Rattle.chip.specs.Step.{Outcome, Reaction, byteIn, frameDoes, goodBegun, goodCollected, goodState, heardByte, modeByte, outcome, poweredOn, reactTo, reaction, replied, settled, silent, stepOf, verdictOf}
-use Rattle.chip.specs.declared.Answer.the-variants.{Refused, Replied}
-use Rattle.chip.specs.declared.Chip.{Chip}
+use Rattle.chip.specs.Step.{Outcome, Reaction, byteIn, frameDoes, heardByte, modeByte, outcome, poweredOn, reactTo, reaction, replied, settled, silent, stepOf}
+use Rattle.chip_state.specs.Refusals.{goodBegun, goodCollected, goodState, verdictOf}
+use Rattle.chip.specs.declared.Answer.the-variants.{Replied}
+use Rattle.chip.specs.declared.Answer.the-variants as Answer
+use Rattle.chip_state.specs.declared.Chip.{Chip}
 use Rattle.chip.specs.declared.Event.{Event}
 use Rattle.chip.specs.declared.Event.the-variants.{Byte, Gap, PowerOn}
 use Rattle.chip.specs.declared.events.Way.the-variants.{Completes, Hears, Mode}
 use Rattle.chip.specs.inner.Ways.{completesAt, wayOf, wayOn}
-use Rattle.effect.specs.Effect.{Effect, Flash, effect}
-use Rattle.effect.specs.declared.Core.{Core}
-use Rattle.effect.specs.declared.Done.{Done}
-use Rattle.effect.specs.declared.Phase.{Phase}
-use Rattle.effect.specs.declared.Phase.the-variants.{Awaiting, ModeByte, Ready, Setup}
+use Rattle.chip_core.specs.Effect.{Effect, Flash, effect}
+use Rattle.chip_core.specs.declared.Core.{Core}
+use Rattle.chip_core.specs.declared.Done.{Done}
+use Rattle.chip_core.specs.declared.Phase.{Phase}
+use Rattle.chip_core.specs.declared.Phase.the-variants.{Awaiting, ModeByte, Ready, Setup}
 use Rattle.frame.proofs.Laws.Collector.{complete-within, hear-more, heard-byte, holding-heard, length-heard}
 use Rattle.frame.proofs.Laws.Frame.{full-not, full-short, full-yes}
 use Rattle.frame.specs.Collector.{byteOf, dropped, hear, heard, holding}
@@ -36,14 +38,15 @@ use Rattle.part.specs.declared.Part.{Part}
 use Rattle.part.specs.declared.refusal.Refusal.{Refusal}
 use Rattle.part.specs.declared.refusal.Refusal.the-variants.{BadPart, BadState, CodeLength, DataLength, ShortRoom}
 use Rattle.part.specs.declared.refusal.Verdict.{Verdict}
-use Rattle.part.specs.declared.refusal.Verdict.the-variants.{Accepted, Barred}
-use Rattle.reply.proofs.Laws.{send-none}
-use Rattle.reply.specs.Reply.{Said, payloads, said, sendOf}
-use Rattle.reply.specs.declared.Sent.{Sent}
+use Rattle.part.specs.declared.refusal.Verdict.the-variants.{Accepted}
+use Rattle.part.specs.declared.refusal.Verdict.the-variants as Verdict
+use Rattle.chip_reply.proofs.Laws.{send-none}
+use Rattle.chip_reply.specs.Reply.{Said, payloads, said, sendOf}
+use Rattle.chip_reply.specs.declared.Sent.{Sent}
 use Rattle.words.proofs.Laws.{and-both, and-left, and-right}
 use Rattle.words.specs.Words.{_and_, _or_, if_then_else_}
 
-not-barred : (t : Bool) (r : Refusal) (v : Verdict) → (if t then Barred r else v) ≡ Accepted → (t ≡ false) × (v ≡ Accepted)
+not-barred : (t : Bool) (r : Refusal) (v : Verdict) → (if t then Verdict.Refused r else v) ≡ Accepted → (t ≡ false) × (v ≡ Accepted)
 unfolding if_then_else_
 not-barred true r v e = absurd (let z : _≡_ {A = ℕ} 0 1 = cc in omega arith)
 not-barred false r v e = (refl, e)
@@ -349,8 +352,8 @@ step-accepted o x p c v w m room a e f g =
     rw a (g ∙ ap (λ (y : Reaction). settled Accepted p y c m room) (f ∙ ap (λ (q : Event). reactTo q p (c .core) (heard (c .collector)) m) (sym e)))
 
 pub step-barred : (p : Part) (c : Chip) (v : Event) (m : Flash) (room : List ℕ) (r : Refusal)
-    → verdictOf p (c .core) (c .collector .len) (getD (c .collector .bytes) 0 0) (getD (c .collector .bytes) 1 0) (length (m .codeFlash)) (length (m .dataFlash)) (length room) ≡ Barred r
-    → outcome (record { answer = Refused r; chip = c }) m room ≡ stepOf p c v m room
+    → verdictOf p (c .core) (c .collector .len) (getD (c .collector .bytes) 0 0) (getD (c .collector .bytes) 1 0) (length (m .codeFlash)) (length (m .dataFlash)) (length room) ≡ Verdict.Refused r
+    → outcome (record { answer = Answer.Refused r; chip = c }) m room ≡ stepOf p c v m room
 unfolding stepOf settled
 step-barred p c v m room r a = rw a
 

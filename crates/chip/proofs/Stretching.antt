@@ -13,16 +13,17 @@ use borrow.Author.Tests.{eqb-true, le-leb, le-ltb, leb-true, lt-leb, lt-ltb, ltb
 use Rattle.chip.proofs.Feeding.{FedFrom, fed-turn}
 use Rattle.chip.proofs.Settling.{accepts, at-byte, hears-settles, same-event, state-collected, step-accepted}
 use Rattle.chip.specs.Run.{Feeding, before, feedFrom}
-use Rattle.chip.specs.Step.{Outcome, byteIn, goodBegun, goodCollected, goodState, stepOf, verdictOf}
-use Rattle.chip.specs.declared.Chip.{Chip}
+use Rattle.chip.specs.Step.{Outcome, byteIn, stepOf}
+use Rattle.chip_state.specs.Refusals.{goodBegun, goodCollected, goodState, verdictOf}
+use Rattle.chip_state.specs.declared.Chip.{Chip}
 use Rattle.chip.specs.declared.Event.{Event}
 use Rattle.chip.specs.declared.Event.the-variants.{Byte}
 use Rattle.chip.specs.declared.events.Way.the-variants.{Hears}
 use Rattle.chip.specs.inner.Ways.{completesAt, lackingOf, plainOf, stretchOf, stretchedBy, wayOf, wayOn}
-use Rattle.effect.specs.Effect.{Flash}
-use Rattle.effect.specs.declared.Core.{Core}
-use Rattle.effect.specs.declared.Phase.{Phase}
-use Rattle.effect.specs.declared.Phase.the-variants.{Awaiting, ModeByte, Ready, Setup}
+use Rattle.chip_core.specs.Effect.{Flash}
+use Rattle.chip_core.specs.declared.Core.{Core}
+use Rattle.chip_core.specs.declared.Phase.{Phase}
+use Rattle.chip_core.specs.declared.Phase.the-variants.{Awaiting, ModeByte, Ready, Setup}
 use Rattle.frame.proofs.Laws.Collector.{byte-added, complete-within, lacking}
 use Rattle.frame.proofs.Laws.Frame.{full-not}
 use Rattle.frame.specs.Collector.{byteOf, heard}
@@ -40,7 +41,7 @@ use Rattle.part.specs.declared.Area.the-variants.{CodeFlash, DataFlash}
 use Rattle.part.specs.declared.Part.{Part}
 use Rattle.part.specs.declared.refusal.Refusal.the-variants.{BadPart, BadState, CodeLength, DataLength, ShortRoom}
 use Rattle.part.specs.declared.refusal.Verdict.{Verdict}
-use Rattle.part.specs.declared.refusal.Verdict.the-variants.{Accepted, Barred}
+use Rattle.part.specs.declared.refusal.Verdict.the-variants.{Accepted, Refused}
 use Rattle.words.proofs.Laws.{and-both, and-left, and-right, or-right}
 use Rattle.words.specs.Words.{_and_, _or_, if_then_else_}
 
@@ -63,7 +64,7 @@ lacks count len rest n e h = go (leb 2 count) refl (ltb rest (counted len + 3 - 
 pub stretch-accepted : (v : Verdict) (n k : ℕ) → k ≡ stretchOf v n → 0 < k → (v ≡ Accepted) × (k ≡ n)
 unfolding stretchOf
 stretch-accepted Accepted n k e h = (refl, e)
-stretch-accepted (Barred r) n k e h = absurd (omega arith)
+stretch-accepted (Refused r) n k e h = absurd (omega arith)
 
 -- What a stretch that is not empty may rely on.
 pub record Plain (p : Part) (c : Chip) (code extra room rest n : ℕ) : Type 0 where

@@ -6,11 +6,11 @@ use lib.ListN.{take}
 use Rattle.chip.specs.Step.{Outcome, stepOf}
 use Rattle.chip.specs.declared.Answer.{Answer}
 use Rattle.chip.specs.declared.Answer.the-variants.{Refused, Replied}
-use Rattle.chip.specs.declared.Chip.{Chip}
+use Rattle.chip_state.specs.declared.Chip.{Chip}
 use Rattle.chip.specs.declared.Event.{Event}
 use Rattle.chip.specs.declared.Event.the-variants.{Byte}
 use Rattle.chip.specs.declared.Fed.{Fed}
-use Rattle.effect.specs.Effect.{Flash}
+use Rattle.chip_core.specs.Effect.{Flash}
 use Rattle.part.specs.declared.Part.{Part}
 use Rattle.words.specs.Words.{if_then_else_}
 

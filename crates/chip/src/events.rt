@@ -1,214 +1,27 @@
 // One step of the chip: refusals first, then what is heard, then the work of a complete frame, then the reply in the room.
 // Document 01, "Frames" ("Collecting"), "Phases" and "Refusal numbers".
 ghost use mathlib.Core.Path.{_≡_};
-ghost use Prim.Native.Nat.{_≤_, _<_, _+_, _%_};
-ghost use lib.Dec.{eqb};
+ghost use Prim.Native.Nat.{_≤_, _<_, _+_};
 ghost use lib.ListN.{getD, length};
-ghost use Rattle.words.specs.Words.{_or_};
-ghost use Rattle.effect.specs.Effect.{flash, effect};
+ghost use Rattle.chip_core.specs.Effect.{flash, effect};
 ghost use Rattle.frame.specs.Frame.{counted};
 ghost use Rattle.chip.specs.Run.{before, fed, feedOf};
 ghost use Rattle.chip.specs.inner.Ways.{completesAt, lackingOf, plainOf, stretchedBy, wayOn, wayOf};
-ghost use Rattle.chip.specs.Step.{sameArea, goodPlaces, goodAwaited, goodPhase, goodBegun, goodCollected, goodCore, goodState, verdictOf, modeByte, poweredOn, frameDoes, outcome, stepOf, freshOf};
+ghost use Rattle.chip.specs.Step.{modeByte, poweredOn, frameDoes, outcome, stepOf, freshOf};
 use super::Answer;
-use super::Chip;
 use super::Event;
 use super::Fed;
 use super::Step;
-use effect::Awaited;
-use effect::Core;
-use effect::Done;
-use effect::Phase;
+use chip_core::Core;
+use chip_core::Done;
+use chip_core::Phase;
+use chip_options::Options;
+use chip_state::Chip;
 use frame::Header;
 use frame::collector::Collector;
-use options::Options;
-use part::Area;
 use part::Part;
-use part::Place;
 use part::refusal::Refusal;
 use part::refusal::Verdict;
-
-fn same_area(a: Area, b: Area) -> bool
-    ensures { λ r. ⌜ r ≡ sameArea a b ⌝ }
-{
-    match a {
-        Area::CodeFlash => match b {
-            Area::CodeFlash => true,
-            Area::DataFlash => false,
-        },
-        Area::DataFlash => match b {
-            Area::CodeFlash => false,
-            Area::DataFlash => true,
-        },
-    }
-}
-
-fn is_block_end(offset: usize, size: usize) -> bool
-    requires { ⌜ 0 < size ⌝ }
-    ensures { λ r. ⌜ r ≡ eqb ((offset + 1) % size) 0 ⌝ }
-{
-    offset % size == size - 1
-}
-
-fn has_pages(command: u8) -> bool
-    ensures { λ r. ⌜ r ≡ (eqb command 0x40 or eqb command 0x13) ⌝ }
-{
-    if command == 0x40 {
-        return true;
-    }
-    command == 0x13
-}
-
-// The places of the next and the last address of phase 4.
-fn are_good_places(part: Part, next: Place, last: Place) -> bool
-    ensures { λ r. ⌜ r ≡ goodPlaces part next last ⌝ }
-{
-    match next {
-        Place::In {
-            area: a,
-            offset: x,
-            block: i,
-            page: g,
-        } => match last {
-            Place::In {
-                area: b,
-                offset: y,
-                block: j,
-                page: h,
-            } => {
-                if same_area(a, b) {
-                    if x % part::page_size() == 0 {
-                        return is_block_end(y, part.block_size(b));
-                    }
-                    return false;
-                }
-                false
-            }
-            Place::Outside => false,
-        },
-        Place::Outside => match last {
-            Place::In {
-                area: b,
-                offset: y,
-                block: j,
-                page: h,
-            } => false,
-            Place::Outside => false,
-        },
-    }
-}
-
-fn is_good_awaited(part: Part, w: Awaited) -> bool
-    ensures { λ r. ⌜ r ≡ goodAwaited part w ⌝ }
-{
-    let command = w.command;
-    if command == 0xA0 {
-        return true;
-    }
-    if has_pages(command) {
-        if w.next <= w.last {
-            return are_good_places(part, part.place(w.next), part.place(w.last));
-        }
-        return false;
-    }
-    false
-}
-
-fn is_good_phase(part: Part, phase: Phase) -> bool
-    ensures { λ r. ⌜ r ≡ goodPhase part phase ⌝ }
-{
-    match phase {
-        Phase::ModeByte => true,
-        Phase::Setup => true,
-        Phase::Ready => true,
-        Phase::Awaiting(w) => is_good_awaited(part, w),
-    }
-}
-
-// What is collected, by its count, its first byte and its LEN byte.
-fn is_good_begun(header: Header, count: usize, head: u8, len: u8) -> bool
-    ensures { λ r. ⌜ r ≡ goodBegun header count head len ⌝ }
-{
-    if count == 0 {
-        return true;
-    }
-    if count < 260 {
-        if head == header.byte() {
-            if frame::is_full(count, len) {
-                return false;
-            }
-            return true;
-        }
-        return false;
-    }
-    false
-}
-
-fn is_good_collected(phase: Phase, count: usize, head: u8, len: u8) -> bool
-    ensures { λ r. ⌜ r ≡ goodCollected phase count head len ⌝ }
-{
-    match phase {
-        Phase::ModeByte => count == 0,
-        Phase::Setup => is_good_begun(Header::Command, count, head, len),
-        Phase::Ready => is_good_begun(Header::Command, count, head, len),
-        Phase::Awaiting(w) => is_good_begun(Header::Data, count, head, len),
-    }
-}
-
-fn is_good_core(part: Part, core: Core) -> bool
-    ensures { λ r. ⌜ r ≡ goodCore part core ⌝ }
-{
-    if core.rate <= 0x03 {
-        let options = core.options;
-        if options.is_good(part) {
-            let phase = core.phase;
-            return is_good_phase(part, phase);
-        }
-        return false;
-    }
-    false
-}
-
-fn is_good_state(part: Part, core: Core, count: usize, head: u8, len: u8) -> bool
-    ensures { λ r. ⌜ r ≡ goodState part core count head len ⌝ }
-{
-    let phase = core.phase;
-    if is_good_collected(phase, count, head, len) {
-        return is_good_core(part, core);
-    }
-    false
-}
-
-// The verdict on a chip, by its record, the count, first byte and LEN byte of what is collected, and the lengths of what is lent.
-pub fn verdict(
-    part: Part,
-    core: Core,
-    count: usize,
-    head: u8,
-    len: u8,
-    code: usize,
-    extra: usize,
-    room: usize,
-) -> Verdict
-    ensures { λ r. ⌜ r ≡ verdictOf part core count head len code extra room ⌝ }
-{
-    if part.is_described() {
-        if code == part.size(Area::CodeFlash) {
-            if extra == part.size(Area::DataFlash) {
-                if is_good_state(part, core, count, head, len) {
-                    if room < 32 {
-                        return Verdict::Barred(Refusal::ShortRoom);
-                    }
-                    return Verdict::Accepted;
-                }
-                return Verdict::Barred(Refusal::BadState);
-            }
-            return Verdict::Barred(Refusal::DataLength);
-        }
-        return Verdict::Barred(Refusal::CodeLength);
-    }
-    Verdict::Barred(Refusal::BadPart)
-}
 
 fn mode_byte(core: Core, b: u8) -> Core
     ensures { λ r. ⌜ r ≡ modeByte core b ⌝ }
@@ -265,10 +78,10 @@ fn frame_does(part: Part, core: Core, bytes: &[u8], code: &mut [u8], data: &mut 
 {
     let phase = core.phase;
     match phase {
-        Phase::ModeByte => commands::command(part, core, bytes, code, data),
-        Phase::Setup => commands::command(part, core, bytes, code, data),
-        Phase::Ready => commands::command(part, core, bytes, code, data),
-        Phase::Awaiting(w) => pages::page(part, core, w, bytes, code, data),
+        Phase::ModeByte => chip_commands::command(part, core, bytes, code, data),
+        Phase::Setup => chip_commands::command(part, core, bytes, code, data),
+        Phase::Ready => chip_commands::command(part, core, bytes, code, data),
+        Phase::Awaiting(w) => chip_pages::page(part, core, w, bytes, code, data),
     }
 }
 
@@ -298,7 +111,7 @@ fn long_step(
     let collector = chip.collector;
     let count = collector.len;
     let len = collector.bytes[1];
-    let v = verdict(
+    let v = chip_state::verdict(
         part,
         core,
         count,
@@ -309,7 +122,7 @@ fn long_step(
         room.len(),
     );
     match v {
-        Verdict::Barred(refusal) => Step {
+        Verdict::Refused(refusal) => Step {
             answer: Answer::Refused(refusal),
             chip,
         },
@@ -366,7 +179,7 @@ fn long_step(
                         let after = done.core;
                         let options = after.options;
                         let reply = done.reply;
-                        let sent = reply::send(part, options, reply, room);
+                        let sent = chip_reply::send(part, options, reply, room);
                         Step {
                             answer: Answer::Replied {
                                 bytes: sent.bytes,
@@ -446,7 +259,7 @@ pub fn step(
     let collector = chip.collector;
     let at = collector.len;
     let len = collector.bytes[1];
-    let v = verdict(
+    let v = chip_state::verdict(
         part,
         core,
         at,
@@ -457,7 +270,7 @@ pub fn step(
         room.len(),
     );
     match v {
-        Verdict::Barred(refusal) => {
+        Verdict::Refused(refusal) => {
             return Step {
                 answer: Answer::Refused(refusal),
                 chip,
@@ -517,10 +330,10 @@ fn plain(part: Part, chip: Chip, code: usize, data: usize, room: usize, rest: us
         return 0;
     }
     let core = chip.core;
-    let v = verdict(part, core, count, collector.bytes[0], len, code, data, room);
+    let v = chip_state::verdict(part, core, count, collector.bytes[0], len, code, data, room);
     match v {
         Verdict::Accepted => n,
-        Verdict::Barred(refusal) => 0,
+        Verdict::Refused(refusal) => 0,
     }
 }
 

@@ -1,14 +1,8 @@
 // The software chip: document 01, "Frames" ("Collecting"), "Phases" and "Refusal numbers". What it is, and one step that takes a byte, a gap or power-on.
 pub mod events;
 
-use effect::Core;
-use frame::collector::Collector;
+use chip_state::Chip;
 use part::refusal::Refusal;
-
-pub struct Chip {
-    pub core: Core,
-    pub collector: Collector,
-}
 
 pub enum Event {
     Byte(u8),

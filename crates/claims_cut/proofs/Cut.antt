@@ -11,7 +11,8 @@ use lib.Dec.{eqb}
 use lib.ListN.{drop, getD, length, length-drop, length-replicate, replicate}
 use lib.Seq.{length-take-le}
 use borrow.Author.Tests.{eqb-true, not-false}
-use Rattle.chip.specs.Step.{Reaction, byteIn, frameDoes, goodAwaited, goodPhase, goodState, heardByte, reactTo}
+use Rattle.chip.specs.Step.{Reaction, byteIn, frameDoes, heardByte, reactTo}
+use Rattle.chip_state.specs.Refusals.{goodAwaited, goodPhase, goodState}
 use Rattle.chip.specs.declared.Event.{Event}
 use Rattle.chip.specs.declared.Event.the-variants.{Byte, Gap, PowerOn}
 use Rattle.claims_cut.proofs.Put.{put-becomes}
@@ -20,17 +21,18 @@ use Rattle.claims_good.proofs.Awaited.{Pages, good-walk}
 use Rattle.claims_good.proofs.Core.{core-is}
 use Rattle.claims_good.proofs.Rooms.{leaves, reactionOf}
 use Rattle.claims_good.proofs.Verdict.{Conditions, conditions}
-use Rattle.effect.specs.Commands.{blockErase, commandDoes, erasedIn, work}
-use Rattle.effect.specs.Effect.{Effect, Flash, bytesIn, effect}
-use Rattle.effect.specs.Pages.{dataDoes, footerOf, goodData, lengthOf, pageIn, pageStored, payloadOf, programPage}
-use Rattle.effect.specs.declared.Asked.{Asked}
-use Rattle.effect.specs.declared.Asked.the-variants.{BlankCheck, BlockErase, Checksum, Programming, RateSet, Reset, SecurityGet, SecurityRelease, SecuritySet, SignatureGet, Unfit, Unknown, Verify}
-use Rattle.effect.specs.declared.Awaited.{Awaited}
-use Rattle.effect.specs.declared.Core.{Core}
-use Rattle.effect.specs.declared.Done.{Done}
-use Rattle.effect.specs.declared.Phase.{Phase}
-use Rattle.effect.specs.declared.Phase.the-variants.{Awaiting, ModeByte, Ready, Setup}
-use Rattle.flash.specs.Flash.{eraseOf, erased}
+use Rattle.chip_work.specs.Work.{blockErase, erasedIn}
+use Rattle.chip_commands.specs.Commands.{commandDoes, work}
+use Rattle.chip_core.specs.Effect.{Effect, Flash, bytesIn, effect}
+use Rattle.chip_pages.specs.Pages.{dataDoes, footerOf, goodData, lengthOf, pageIn, pageStored, payloadOf, programPage}
+use Rattle.chip_commands.specs.declared.Asked.{Asked}
+use Rattle.chip_commands.specs.declared.Asked.the-variants.{BlankCheck, BlockErase, Checksum, Programming, RateSet, Reset, SecurityGet, SecurityRelease, SecuritySet, SignatureGet, Unfit, Unknown, Verify}
+use Rattle.chip_core.specs.declared.Awaited.{Awaited}
+use Rattle.chip_core.specs.declared.Core.{Core}
+use Rattle.chip_core.specs.declared.Done.{Done}
+use Rattle.chip_core.specs.declared.Phase.{Phase}
+use Rattle.chip_core.specs.declared.Phase.the-variants.{Awaiting, ModeByte, Ready, Setup}
+use Rattle.chip_flash.specs.Flash.{eraseOf, erased}
 use Rattle.frame.specs.Collector.{heard}
 use Rattle.frame.specs.Judgement.{fitting, isGood, judgeOf}
 use Rattle.frame.specs.declared.judgement.Judgement.{Judgement}

@@ -8,7 +8,7 @@ use lib.ListN.{List·getD-append, drop, getD, length, length-append, take}
 use lib.Seq.{drop-at, getD-append-add, getD-drop, getD-take, length-take-le, take-append-seam}
 use denote.Ref.{now}
 use Rattle.claims_cut.specs.Cut.{Becomes}
-use Rattle.effect.specs.Effect.{Flash, bytesIn, withBytes}
+use Rattle.chip_core.specs.Effect.{Flash, bytesIn, withBytes}
 use Rattle.frame.specs.Framing.{inside}
 use Rattle.lent.proofs.Laws.{put-lands}
 use Rattle.lent.specs.Lent.{Left, putAt, putOf}

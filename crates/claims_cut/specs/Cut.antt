@@ -9,8 +9,8 @@ use Rattle.chip.specs.Step.{Outcome, poweredOn}
 use Rattle.chip.specs.declared.Event.{Event}
 use Rattle.chip.specs.declared.Event.the-variants.{PowerOn}
 use Rattle.claims_good.specs.Good.{Proper, Stands}
-use Rattle.effect.specs.Effect.{Flash, bytesIn}
-use Rattle.flash.specs.Flash.{blank, erased}
+use Rattle.chip_core.specs.Effect.{Flash, bytesIn}
+use Rattle.chip_flash.specs.Flash.{blank, erased}
 use Rattle.part.specs.Part.{blockSize, pageSize}
 use Rattle.part.specs.declared.Area.{Area}
 use Rattle.part.specs.declared.Area.the-variants.{CodeFlash, DataFlash}

@@ -10,20 +10,21 @@ use lib.ListN.{length}
 use Rattle.claims_dock.proofs.Budget.{Kept, heard-kept, needs, start-good, start-needs}
 use Rattle.claims_dock.specs.Examples.{at}
 use Rattle.dock.specs.Calls.{askOf, asked, asking, freshDock, hearOf, moved, sending, standing, startOf, starting, stepped, turning}
-use Rattle.dock.specs.declared.Report.the-variants.{Denied}
-use Rattle.flow.proofs.Laws.{heard-within}
-use Rattle.flow.specs.Flow.{Heard, afterHeard, exchanges, flow, frameAt, framesIn, setupFrom, spentIn}
-use Rattle.job.proofs.Laws.{GoodDock, accepts, asked-is, dock-yes, told-is}
-use Rattle.job.specs.Job.{blocksOf, bound, isOver, perBlock, setup}
-use Rattle.job.specs.Refusals.{callVerdict, goodDock, goodStage}
-use Rattle.job.specs.declared.Dock.{Dock}
-use Rattle.job.specs.declared.Job.{Job}
-use Rattle.job.specs.declared.Stage.{Stage}
-use Rattle.job.specs.declared.refusals.Call.the-variants.{Asks, Begins, Tells}
+use Rattle.dock.specs.declared.Report.the-variants as Report
+use Rattle.dock_flow.proofs.Laws.{heard-within}
+use Rattle.dock_flow.specs.Flow.{Heard, afterHeard, exchanges, flow, frameAt, framesIn, setupFrom, spentIn}
+use Rattle.dock_job.proofs.Laws.{GoodDock, accepts, asked-is, dock-yes, told-is}
+use Rattle.dock_job.specs.Job.{blocksOf, bound, isOver, perBlock, setup}
+use Rattle.dock_job.specs.Refusals.{callVerdict, goodDock, goodStage}
+use Rattle.dock_job.specs.declared.Dock.{Dock}
+use Rattle.dock_job.specs.declared.Job.{Job}
+use Rattle.dock_job.specs.declared.Stage.{Stage}
+use Rattle.dock_job.specs.declared.refusals.Call.the-variants.{Asks, Begins, Tells}
 use Rattle.part.specs.Part.{blockSize}
 use Rattle.part.specs.declared.refusal.Refusal.{Refusal}
 use Rattle.part.specs.declared.refusal.Verdict.{Verdict}
-use Rattle.part.specs.declared.refusal.Verdict.the-variants.{Accepted, Barred}
+use Rattle.part.specs.declared.refusal.Verdict.the-variants.{Accepted}
+use Rattle.part.specs.declared.refusal.Verdict.the-variants as Verdict
 use Rattle.words.specs.Words.{if_then_else_}
 
 -- "at most 3 + 12(B + R) frames": the bound, with the setup's three commands and four pages to a block.
@@ -82,7 +83,7 @@ unfolding startOf starting freshDock
 start-keeps j image = go (callVerdict j (length image) Begins)
   where
     go : (v : Verdict) → goodDock j (starting v (freshDock j) .dock) ≡ true
-    go (Barred r) = dock-yes (record { at-stage = start-good j; few-used = omega arith; few-sent = omega arith })
+    go (Verdict.Refused r) = dock-yes (record { at-stage = start-good j; few-used = omega arith; few-sent = omega arith })
     go Accepted = dock-yes (record { at-stage = start-good j; few-used = omega arith; few-sent = omega arith })
 
 pub ask-keeps : (j : Job) (image : List ℕ) (d : Dock) (room : List ℕ) → callVerdict j (length image) (Asks d (length room)) ≡ Accepted
@@ -103,13 +104,13 @@ hear-keeps j image d h e =
     rw e (dock-yes g)
 
 -- A refused call leaves the dock and the room as they were.
-pub ask-denied : (j : Job) (image : List ℕ) (d : Dock) (room : List ℕ) (r : Refusal) → callVerdict j (length image) (Asks d (length room)) ≡ Barred r
-    → askOf j image d room ≡ asking (stepped (Denied r) d) room
+pub ask-denied : (j : Job) (image : List ℕ) (d : Dock) (room : List ℕ) (r : Refusal) → callVerdict j (length image) (Asks d (length room)) ≡ Verdict.Refused r
+    → askOf j image d room ≡ asking (stepped (Report.Refused r) d) room
 unfolding askOf asked
 ask-denied j image d room r e = rw e
 
-pub hear-denied : (j : Job) (image : List ℕ) (d : Dock) (h : Heard) (r : Refusal) → callVerdict j (length image) (Tells d) ≡ Barred r
-    → hearOf j image d h ≡ stepped (Denied r) d
+pub hear-denied : (j : Job) (image : List ℕ) (d : Dock) (h : Heard) (r : Refusal) → callVerdict j (length image) (Tells d) ≡ Verdict.Refused r
+    → hearOf j image d h ≡ stepped (Report.Refused r) d
 unfolding hearOf turning
 hear-denied j image d h r e = rw e
 

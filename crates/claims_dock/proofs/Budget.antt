@@ -9,26 +9,26 @@ use native.Mathlib.Omega.{arith}
 use lib.Dec.{eqb, ltb}
 use lib.ListN.{length}
 use borrow.Author.Tests.{ltb-true}
-use Rattle.answer.specs.Answer.{readAnswer}
-use Rattle.answer.specs.declared.Decoded.{Decoded}
-use Rattle.answer.specs.declared.Decoded.the-variants.{Garbled, Said}
+use Rattle.dock_answer.specs.Answer.{readAnswer}
+use Rattle.dock_answer.specs.declared.Decoded.{Decoded}
+use Rattle.dock_answer.specs.declared.Decoded.the-variants.{Garbled, Said}
 use Rattle.claims_dock.specs.Examples.{at}
-use Rattle.flow.proofs.Laws.{not-last}
-use Rattle.flow.specs.Flow.{Heard, afterAnswer, afterHeard, afterSetup, afterStatus, afterWork, answered, blockAt, blockFrom, erasing, failing, fails, formAt, isBlankCheck, lastPage, leads, next, pageAt, pageOfWork, restart, retried, saysNotBlank, setupCommand, setupFrom, silence}
-use Rattle.flow.specs.declared.Turned.{Turned}
-use Rattle.job.proofs.Laws.{block-yes, page-is, page-yes, pages-some, place-is, verified-is}
-use Rattle.job.specs.Job.{blocksOf, bound, isOver, pagesOf, perBlock, setup}
-use Rattle.job.specs.Refusals.{goodBlock, goodEnding, goodFailure, goodNamedBlock, goodNamedPage, goodPage, goodStage, goodWork}
-use Rattle.job.specs.declared.Cause.{Cause}
-use Rattle.job.specs.declared.Cause.the-variants.{Mismatch, TimedOut, UnexpectedStatus, Unreadable}
-use Rattle.job.specs.declared.Ending.the-variants.{Failed, Finished}
-use Rattle.job.specs.declared.Job.{Job}
-use Rattle.job.specs.declared.Setup.{Setup}
-use Rattle.job.specs.declared.Setup.the-variants.{BaudRate, ResetChip, SiliconSignature}
-use Rattle.job.specs.declared.Stage.{Stage}
-use Rattle.job.specs.declared.Stage.the-variants.{InBlock, Over, SetUp}
-use Rattle.job.specs.declared.Work.{Work}
-use Rattle.job.specs.declared.Work.the-variants.{Blank, Erase, Program, ProgramPage, VerifyBlock, VerifyPage}
+use Rattle.dock_flow.proofs.Laws.{not-last}
+use Rattle.dock_flow.specs.Flow.{Heard, afterAnswer, afterHeard, afterSetup, afterStatus, afterWork, answered, blockAt, blockFrom, erasing, failing, fails, formAt, isBlankCheck, lastPage, leads, next, pageAt, pageOfWork, restart, retried, saysNotBlank, setupCommand, setupFrom, silence}
+use Rattle.dock_flow.specs.declared.Turned.{Turned}
+use Rattle.dock_job.proofs.Laws.{block-yes, page-is, page-yes, pages-some, place-is, verified-is}
+use Rattle.dock_job.specs.Job.{blocksOf, bound, isOver, pagesOf, perBlock, setup}
+use Rattle.dock_job.specs.Refusals.{goodBlock, goodEnding, goodFailure, goodNamedBlock, goodNamedPage, goodPage, goodStage, goodWork}
+use Rattle.dock_job.specs.declared.Cause.{Cause}
+use Rattle.dock_job.specs.declared.Cause.the-variants.{Mismatch, TimedOut, UnexpectedStatus, Unreadable}
+use Rattle.dock_job.specs.declared.Ending.the-variants.{Failed, Finished}
+use Rattle.dock_job.specs.declared.Job.{Job}
+use Rattle.dock_job.specs.declared.Setup.{Setup}
+use Rattle.dock_job.specs.declared.Setup.the-variants.{BaudRate, ResetChip, SiliconSignature}
+use Rattle.dock_job.specs.declared.Stage.{Stage}
+use Rattle.dock_job.specs.declared.Stage.the-variants.{InBlock, Over, SetUp}
+use Rattle.dock_job.specs.declared.Work.{Work}
+use Rattle.dock_job.specs.declared.Work.the-variants.{Blank, Erase, Program, ProgramPage, VerifyBlock, VerifyPage}
 use Rattle.words.proofs.Laws.{and-both, and-left, if-both}
 use Rattle.words.specs.Words.{_and_, _or_, if_then_else_}
 

@@ -3,17 +3,17 @@
 use mathlib.Core.List.{map}
 use mathlib.Core.Path.{_≡_, refl}
 use lib.ListN.{length}
-use Rattle.answer.specs.Answer.{carriedBy, deciding, exactly, matching, rateMatches, readAnswer, readable, shape, signatureMatches, statuses}
-use Rattle.claims_dock.specs.Examples.{Frame, Place, Refused, frames, places, refusals, theImage, theJob, worst}
-use Rattle.flow.specs.Flow.{afterAnswer, afterHeard, afterSetup, afterStatus, afterWork, blockAt, blockFrom, commandAt, erasing, exchanges, flow, formAt, frameAt, framesIn, isBlankCheck, lastPage, next, pageAt, pageFooter, pageOfWork, placeAfter, restart, retried, saysNotBlank, setupForm, setupFrame, setupFrom, spentIn, workCommand, workForm, workFrame}
+use Rattle.dock_answer.specs.Answer.{carriedBy, deciding, exactly, matching, rateMatches, readAnswer, readable, shape, signatureMatches, statuses}
+use Rattle.claims_dock.specs.Examples.{Frame, Place, RefusalRow, frames, places, refusals, theImage, theJob, worst}
+use Rattle.dock_flow.specs.Flow.{afterAnswer, afterHeard, afterSetup, afterStatus, afterWork, blockAt, blockFrom, commandAt, erasing, exchanges, flow, formAt, frameAt, framesIn, isBlankCheck, lastPage, next, pageAt, pageFooter, pageOfWork, placeAfter, restart, retried, saysNotBlank, setupForm, setupFrame, setupFrom, spentIn, workCommand, workForm, workFrame}
 use Rattle.frame.specs.Frame.{counted, framed, isFrame}
 use Rattle.frame.specs.Judgement.{judgeOf, summed}
 use Rattle.frame.specs.Sum.{less, lessAll, sumOf}
 use Rattle.frame.specs.Wire.{readOf}
-use Rattle.job.specs.Job.{areaIn, blocksIn, bound, isOver, setup}
-use Rattle.job.specs.Refusals.{badJob, badState, callVerdict, due, goodBlock, goodDock, goodEnding, goodFailure, goodNamedBlock, goodNamedPage, goodPage, goodStage, goodWork, isBad, outOfTurn, shortRoom, spent}
-use Rattle.job.specs.declared.Ending.the-variants.{Finished}
-use Rattle.job.specs.declared.Stage.the-variants.{Over}
+use Rattle.dock_job.specs.Job.{areaIn, blocksIn, bound, isOver, setup}
+use Rattle.dock_job.specs.Refusals.{badJob, badState, callVerdict, due, goodBlock, goodDock, goodEnding, goodFailure, goodNamedBlock, goodNamedPage, goodPage, goodStage, goodWork, isBad, outOfTurn, shortRoom, spent}
+use Rattle.dock_job.specs.declared.Ending.the-variants.{Finished}
+use Rattle.dock_job.specs.declared.Stage.the-variants.{Over}
 use Rattle.lent.specs.Lent.{same}
 use Rattle.part.specs.Part.{blockOf, blockSize, described, endsBlock, lastOf, liesIn, rangeOf, startsBlock, stretch, wholeBlocks}
 use Rattle.part.specs.Rate.{acceptsRate, modeOf}
@@ -34,6 +34,6 @@ pub bound-reached : (length (flow theJob theImage worst .sent) ≡ 39) × (flow 
 unfolding worst flow exchanges placeAfter framesIn spentIn afterHeard afterAnswer afterStatus retried next afterSetup setupFrom setup afterWork blockFrom restart erasing saysNotBlank isBlankCheck commandAt workCommand pageAt pageOfWork blockAt formAt setupForm workForm lastPage frameAt setupFrame workFrame pageFooter readAnswer readable exactly carriedBy shape statuses deciding matching rateMatches signatureMatches same signature lastOf blockSize rangeOf wholeBlocks liesIn startsBlock endsBlock stretch blockOf modeOf readOf framed counted isFrame judgeOf summed sumOf lessAll less blocksIn areaIn isOver bound _and_ _or_ if_then_else_
 bound-reached = (refl, refl, refl, refl)
 
-pub refusals-expected : map (λ (x : Refused). x .gives) refusals ≡ map (λ (x : Refused). x .expected) refusals
+pub refusals-expected : map (λ (x : RefusalRow). x .gives) refusals ≡ map (λ (x : RefusalRow). x .expected) refusals
 unfolding refusals callVerdict firstOf badJob isBad goodBlock goodPage goodNamedBlock goodNamedPage goodFailure goodEnding goodWork goodStage goodDock due spent badState shortRoom outOfTurn bound setup isOver blocksIn areaIn acceptsRate described _from_to_ blockSize rangeOf wholeBlocks liesIn startsBlock endsBlock stretch blockOf _and_ _or_ if_then_else_
 refusals-expected = refl

@@ -13,19 +13,21 @@ use Rattle.claims_dock.proofs.Budget.{Kept, heard-kept, needs, needs-so
 use Rattle.claims_dock.specs.Examples.{frames}
 use Rattle.claims_dock.specs.Stepping.{Course, asFlow, handedOut, stepping}
 use Rattle.dock.specs.Calls.{Asking, askOf, asked, asking, freshDock, hearOf, placing, sending, startOf, starting, stepped, turning}
-use Rattle.dock.specs.declared.Report.the-variants.{Denied, Put}
+use Rattle.dock.specs.declared.Report.the-variants.{Put}
+use Rattle.dock.specs.declared.Report.the-variants as Report
 use Rattle.dock.specs.declared.Stepped.{Stepped}
-use Rattle.flow.specs.Flow.{Exchange, Flow, Heard, afterHeard, exchanges, flow, frameAt, framesIn, placeAfter, setupFrom, spentIn}
+use Rattle.dock_flow.specs.Flow.{Exchange, Flow, Heard, afterHeard, exchanges, flow, frameAt, framesIn, placeAfter, setupFrom, spentIn}
 use Rattle.frame.proofs.Laws.Sum.{none}
-use Rattle.job.proofs.Laws.{Accepts, GoodDock, accepts, ask-accepted, asked-is, tell-accepted, told-is}
-use Rattle.job.specs.Job.{bound, isOver, perBlock, setup}
-use Rattle.job.specs.Refusals.{callVerdict, goodStage}
-use Rattle.job.specs.declared.Dock.{Dock}
-use Rattle.job.specs.declared.Job.{Job}
-use Rattle.job.specs.declared.Stage.{Stage}
-use Rattle.job.specs.declared.refusals.Call.the-variants.{Asks, Begins, Tells}
+use Rattle.dock_job.proofs.Laws.{Accepts, GoodDock, accepts, ask-accepted, asked-is, tell-accepted, told-is}
+use Rattle.dock_job.specs.Job.{bound, isOver, perBlock, setup}
+use Rattle.dock_job.specs.Refusals.{callVerdict, goodStage}
+use Rattle.dock_job.specs.declared.Dock.{Dock}
+use Rattle.dock_job.specs.declared.Job.{Job}
+use Rattle.dock_job.specs.declared.Stage.{Stage}
+use Rattle.dock_job.specs.declared.refusals.Call.the-variants.{Asks, Begins, Tells}
 use Rattle.part.specs.declared.refusal.Verdict.{Verdict}
-use Rattle.part.specs.declared.refusal.Verdict.the-variants.{Accepted, Barred}
+use Rattle.part.specs.declared.refusal.Verdict.the-variants.{Accepted}
+use Rattle.part.specs.declared.refusal.Verdict.the-variants as Verdict
 use Rattle.words.specs.Words.{if_then_else_}
 
 -- A step of the course, through one equation for each of its two calls.
@@ -60,9 +62,9 @@ over-still j image room d (h ∷ hs) o =
         → stepping j image room d hs ≡ record { sent = []; dock = d } → stepping j image room d (h ∷ hs) ≡ record { sent = []; dock = d }
     go Accepted e w f rest =
         absurd (true≢false (sym o ∙ asked-is j d (length image) (length room) (accepts j (length image) (Asks d (length room)) e) .going))
-    go (Barred r) e Accepted f rest = absurd (true≢false (sym o ∙ told-is j d (length image) (accepts j (length image) (Tells d) f) .going))
-    go (Barred r) e (Barred s) f rest =
-        step-by j image room d h hs (asking (stepped (Denied r) d) room) (stepped (Denied s) d) (ask-denied j image d room r e) (hear-denied j image d h s f)
+    go (Verdict.Refused r) e Accepted f rest = absurd (true≢false (sym o ∙ told-is j d (length image) (accepts j (length image) (Tells d) f) .going))
+    go (Verdict.Refused r) e (Verdict.Refused s) f rest =
+        step-by j image room d h hs (asking (stepped (Report.Refused r) d) room) (stepped (Report.Refused s) d) (ask-denied j image d room r e) (hear-denied j image d h s f)
         ∙ ap (λ (c : Course). record { sent = c .sent; dock = c .dock }) rest
 
 none-over : (j : Job) (image : List ℕ) (used : ℕ) (st : Stage) (hs : List Heard) → isOver st ≡ true → exchanges j image used st hs ≡ []

@@ -3,28 +3,28 @@ use mathlib.Core.Bool.{Bool, false, true}
 use mathlib.Core.List.{List, [], _++_, _∷_}
 use Prim.Native.Nat.{ℕ}
 use lib.ListN.{replicate}
-use Rattle.flow.specs.Flow.{Heard, answered, flow, frameAt, silence}
+use Rattle.dock_flow.specs.Flow.{Heard, answered, flow, frameAt, silence}
 use Rattle.frame.specs.Frame.{dataFrame}
 use Rattle.frame.specs.declared.Footer.the-variants.{Last, More}
-use Rattle.job.specs.Refusals.{callVerdict}
-use Rattle.job.specs.declared.Cause.{Cause}
-use Rattle.job.specs.declared.Cause.the-variants.{Mismatch, TimedOut, UnexpectedStatus, Unreadable}
-use Rattle.job.specs.declared.Dock.{Dock}
-use Rattle.job.specs.declared.Ending.the-variants.{Failed, Finished}
-use Rattle.job.specs.declared.Job.{Job}
-use Rattle.job.specs.declared.Named.{Named}
-use Rattle.job.specs.declared.Named.the-variants.{It, Unnamed}
-use Rattle.job.specs.declared.Setup.the-variants.{BaudRate, ResetChip, SiliconSignature}
-use Rattle.job.specs.declared.Stage.{Stage}
-use Rattle.job.specs.declared.Stage.the-variants.{InBlock, Over, SetUp}
-use Rattle.job.specs.declared.Work.the-variants.{Blank, Erase, Program, ProgramPage, VerifyBlock, VerifyPage}
-use Rattle.job.specs.declared.refusals.Call.{Call}
-use Rattle.job.specs.declared.refusals.Call.the-variants.{Asks, Begins, Tells}
+use Rattle.dock_job.specs.Refusals.{callVerdict}
+use Rattle.dock_job.specs.declared.Cause.{Cause}
+use Rattle.dock_job.specs.declared.Cause.the-variants.{Mismatch, TimedOut, UnexpectedStatus, Unreadable}
+use Rattle.dock_job.specs.declared.Dock.{Dock}
+use Rattle.dock_job.specs.declared.Ending.the-variants.{Failed, Finished}
+use Rattle.dock_job.specs.declared.Job.{Job}
+use Rattle.dock_job.specs.declared.Named.{Named}
+use Rattle.dock_job.specs.declared.Named.the-variants.{It, Unnamed}
+use Rattle.dock_job.specs.declared.Setup.the-variants.{BaudRate, ResetChip, SiliconSignature}
+use Rattle.dock_job.specs.declared.Stage.{Stage}
+use Rattle.dock_job.specs.declared.Stage.the-variants.{InBlock, Over, SetUp}
+use Rattle.dock_job.specs.declared.Work.the-variants.{Blank, Erase, Program, ProgramPage, VerifyBlock, VerifyPage}
+use Rattle.dock_job.specs.declared.refusals.Call.{Call}
+use Rattle.dock_job.specs.declared.refusals.Call.the-variants.{Asks, Begins, Tells}
 use Rattle.part.specs.Refusal.{number}
 use Rattle.part.specs.Signature.{signature}
 use Rattle.part.specs.declared.Part.{Part}
 use Rattle.part.specs.declared.refusal.Verdict.{Verdict}
-use Rattle.part.specs.declared.refusal.Verdict.the-variants.{Accepted, Barred}
+use Rattle.part.specs.declared.refusal.Verdict.the-variants.{Accepted, Refused}
 
 -- The part of document 01, "Replay"; device code, name and version as in 000, table 3-2.
 abbrev pub thePart : Part
@@ -158,13 +158,13 @@ places =
 -- The number of a verdict, 0 where the call is accepted; beside the number that it should be.
 abbrev pub numberOf : Verdict → ℕ
 numberOf Accepted = 0
-numberOf (Barred r) = number r
+numberOf (Refused r) = number r
 
-pub record Refused : Type 0 where
+pub record RefusalRow : Type 0 where
   pub gives : ℕ
   pub expected : ℕ
 
-abbrev pub call : Job → ℕ → Call → ℕ → Refused
+abbrev pub call : Job → ℕ → Call → ℕ → RefusalRow
 call j image c n = record { gives = numberOf (callVerdict j image c); expected = n }
 
 abbrev pub dockAt : Stage → Bool → ℕ → ℕ → Dock
@@ -173,7 +173,7 @@ dockAt st awaited retries frames = record { stage = st; awaited = awaited; retri
 abbrev pub jobWith : ℕ → ℕ → ℕ → ℕ → ℕ → Job
 jobWith start end rate supply retries = record { part = thePart; start = start; end = end; rate = rate; supply = supply; retries = retries }
 
-unfoldable pub refusals : List Refused
+unfoldable pub refusals : List RefusalRow
 refusals =
     -- 1: rate and supply; before 5
     call theJob 2048 Begins 0

@@ -6,10 +6,10 @@ use lib.ListN.{length, take}
 use Rattle.claims_dock.specs.Examples.{frames}
 use Rattle.dock.specs.Calls.{askOf, hearOf}
 use Rattle.dock.specs.declared.Report.{Report}
-use Rattle.dock.specs.declared.Report.the-variants.{Denied, Due, Ended, Put}
-use Rattle.flow.specs.Flow.{Flow, Heard}
-use Rattle.job.specs.declared.Dock.{Dock}
-use Rattle.job.specs.declared.Job.{Job}
+use Rattle.dock.specs.declared.Report.the-variants.{Due, Ended, Put, Refused}
+use Rattle.dock_flow.specs.Flow.{Flow, Heard}
+use Rattle.dock_job.specs.declared.Dock.{Dock}
+use Rattle.dock_job.specs.declared.Job.{Job}
 
 -- The frames handed out, in order, and the dock after the last call.
 pub record Course : Type 0 where
@@ -21,7 +21,7 @@ unfoldable pub handedOut : Report → List ℕ → List (List ℕ)
 handedOut Due room = []
 handedOut (Put n) room = take n room ∷ []
 handedOut (Ended a) room = []
-handedOut (Denied r) room = []
+handedOut (Refused r) room = []
 
 -- One frame asked for, and one thing told.
 unfoldable pub stepping : Job → List ℕ → List ℕ → Dock → List Heard → Course

@@ -9,16 +9,16 @@ use native.Mathlib.Omega.{arith}
 use lib.ListN.{drop, getD, length, length-drop, take}
 use lib.Seq.{drop-cons, getD-drop, getD-take, length-take-le, take-add, take-all}
 use borrow.Author.Tests.{eqb-true, leb-true, ne-eqb}
-use Rattle.chip.specs.declared.Chip.{Chip}
+use Rattle.chip_state.specs.declared.Chip.{Chip}
 use Rattle.claims_door.specs.Held.{Held}
-use Rattle.door.specs.Layout.{awaitedIn, awaitedOf, chipIn, collectorIn, headOf, isState, layoutOf, optionsHeld, phaseIn, phaseNumber}
-use Rattle.effect.specs.declared.Awaited.{Awaited}
-use Rattle.effect.specs.declared.Phase.{Phase}
-use Rattle.effect.specs.declared.Phase.the-variants.{Awaiting, ModeByte, Ready, Setup}
+use Rattle.chip_door.specs.Layout.{awaitedIn, awaitedOf, chipIn, collectorIn, headOf, isState, layoutOf, optionsHeld, phaseIn, phaseNumber}
+use Rattle.chip_core.specs.declared.Awaited.{Awaited}
+use Rattle.chip_core.specs.declared.Phase.{Phase}
+use Rattle.chip_core.specs.declared.Phase.the-variants.{Awaiting, ModeByte, Ready, Setup}
 use Rattle.frame.proofs.Laws.Sum.{Below, below-at}
-use Rattle.layout.specs.Layout.{little, numberAt}
+use Rattle.numbers.specs.Numbers.{little, numberAt}
 use Rattle.lent.specs.Lent.{allAre}
-use Rattle.options.specs.declared.Options.{Options}
+use Rattle.chip_options.specs.declared.Options.{Options}
 use Rattle.words.proofs.Laws.{and-left, and-right, or-right}
 use Rattle.words.specs.Words.{_and_, _from_to_, _or_, if_then_else_}
 

@@ -10,18 +10,18 @@ use Rattle.claims_door.proofs.Back.{together, together-is}
 use Rattle.claims_door.specs.Docked.{HeldDock}
 use Rattle.dock_door.specs.Layout.{bit, causeIn, causeNumber, dockIn, dockSize, endingIn, flat, flatEnding, flatIn, flatOf, flatWork, isDock, isNamed, layoutOf, layoutWith, named, namedIn, setupIn, stageIn, workIn}
 use Rattle.dock_door.specs.declared.Flat.{Flat}
-use Rattle.job.specs.declared.Cause.{Cause}
-use Rattle.job.specs.declared.Cause.the-variants.{Mismatch, TimedOut, UnexpectedStatus, Unreadable}
-use Rattle.job.specs.declared.Dock.{Dock}
-use Rattle.job.specs.declared.Ending.the-variants.{Failed, Finished}
-use Rattle.job.specs.declared.Failure.{Failure}
-use Rattle.job.specs.declared.Named.{Named}
-use Rattle.job.specs.declared.Named.the-variants.{It, Unnamed}
-use Rattle.job.specs.declared.Setup.the-variants.{BaudRate, ResetChip, SiliconSignature}
-use Rattle.job.specs.declared.Stage.{Stage}
-use Rattle.job.specs.declared.Stage.the-variants.{InBlock, Over, SetUp}
-use Rattle.job.specs.declared.Work.the-variants.{Blank, Erase, Program, ProgramPage, VerifyBlock, VerifyPage}
-use Rattle.layout.specs.Layout.{little, numberAt}
+use Rattle.dock_job.specs.declared.Cause.{Cause}
+use Rattle.dock_job.specs.declared.Cause.the-variants.{Mismatch, TimedOut, UnexpectedStatus, Unreadable}
+use Rattle.dock_job.specs.declared.Dock.{Dock}
+use Rattle.dock_job.specs.declared.Ending.the-variants.{Failed, Finished}
+use Rattle.dock_job.specs.declared.Failure.{Failure}
+use Rattle.dock_job.specs.declared.Named.{Named}
+use Rattle.dock_job.specs.declared.Named.the-variants.{It, Unnamed}
+use Rattle.dock_job.specs.declared.Setup.the-variants.{BaudRate, ResetChip, SiliconSignature}
+use Rattle.dock_job.specs.declared.Stage.{Stage}
+use Rattle.dock_job.specs.declared.Stage.the-variants.{InBlock, Over, SetUp}
+use Rattle.dock_job.specs.declared.Work.the-variants.{Blank, Erase, Program, ProgramPage, VerifyBlock, VerifyPage}
+use Rattle.numbers.specs.Numbers.{little, numberAt}
 use Rattle.lent.proofs.Laws.{same-is, same-self}
 use Rattle.words.proofs.Laws.{and-both, and-right}
 use Rattle.words.specs.Words.{if_then_else_}

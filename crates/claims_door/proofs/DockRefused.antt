@@ -13,31 +13,31 @@ use Rattle.dock.specs.declared.Stepped.{Stepped}
 use Rattle.dock_door.proofs.Laws.{admitted}
 use Rattle.dock_door.specs.Calls.{admission, askThrough, askTold, askedBy, bytesPut, hearThrough, heardBy, refusalNumber, startThrough, startTold, startedBy, toldOf}
 use Rattle.dock_door.specs.Layout.{dockIn, dockSize, isDock, layoutOf}
-use Rattle.flow.specs.Flow.{Heard, afterHeard, frameAt}
-use Rattle.flow.specs.declared.Turned.{Turned}
-use Rattle.job.specs.Refusals.{callVerdict}
-use Rattle.job.specs.declared.Dock.{Dock}
-use Rattle.job.specs.declared.Job.{Job}
-use Rattle.job.specs.declared.Stage.{Stage}
-use Rattle.job.specs.declared.Stage.the-variants.{InBlock, Over, SetUp}
-use Rattle.job.specs.declared.refusals.Call.the-variants.{Asks, Begins, Tells}
+use Rattle.dock_flow.specs.Flow.{Heard, afterHeard, frameAt}
+use Rattle.dock_flow.specs.declared.Turned.{Turned}
+use Rattle.dock_job.specs.Refusals.{callVerdict}
+use Rattle.dock_job.specs.declared.Dock.{Dock}
+use Rattle.dock_job.specs.declared.Job.{Job}
+use Rattle.dock_job.specs.declared.Stage.{Stage}
+use Rattle.dock_job.specs.declared.Stage.the-variants.{InBlock, Over, SetUp}
+use Rattle.dock_job.specs.declared.refusals.Call.the-variants.{Asks, Begins, Tells}
 use Rattle.part.specs.Refusal.{number}
 use Rattle.part.specs.declared.refusal.Refusal.the-variants.{BadState}
 use Rattle.part.specs.declared.refusal.Verdict.{Verdict}
-use Rattle.part.specs.declared.refusal.Verdict.the-variants.{Accepted, Barred}
+use Rattle.part.specs.declared.refusal.Verdict.the-variants.{Accepted, Refused}
 use Rattle.words.specs.Words.{if_then_else_}
 
 -- The dock is asked, and refuses: it hands the dock back as it was, and that is written back as the bytes it was read from.
 asks-kept : (u : Verdict) (f : Placed) (state room : List ℕ) → isDock state ≡ true → (refusalNumber (asked u f (dockIn state) room .report) ≡ 0 → ⊥)
     → AskKept (askTold (refusalNumber (asked u f (dockIn state) room .report)) (bytesPut (asked u f (dockIn state) room .report)) (layoutOf (asked u f (dockIn state) room .dock)) (asked u f (dockIn state) room .room)) state room
 unfolding asked refusalNumber
-asks-kept (Barred r) f state room e h = record { stateStays = dock-written-back state e; roomStays = refl }
+asks-kept (Refused r) f state room e h = record { stateStays = dock-written-back state e; roomStays = refl }
 asks-kept Accepted f state room e h = absurd (h refl)
 
 asked-kept : (u : Verdict) (j : Job) (image state room : List ℕ) → (u ≡ Accepted → isDock state ≡ true) → (askedBy u j image state room .refusal ≡ 0 → ⊥)
     → AskKept (askedBy u j image state room) state room
 unfolding askedBy askOf
-asked-kept (Barred r) j image state room e h = record { stateStays = refl; roomStays = refl }
+asked-kept (Refused r) j image state room e h = record { stateStays = refl; roomStays = refl }
 asked-kept Accepted j image state room e h =
     asks-kept (callVerdict j (length image) (Asks (dockIn state) (length room))) (placing (frameAt j image (dockIn state .stage)) room) state room (e refl) h
 
@@ -55,13 +55,13 @@ unrefused (Over e) d = refl
 tells-kept : (u : Verdict) (t : Turned) (state : List ℕ) → isDock state ≡ true → (refusalNumber (turning u (dockIn state) t .report) ≡ 0 → ⊥)
     → layoutOf (turning u (dockIn state) t .dock) ≡ state
 unfolding turning
-tells-kept (Barred r) t state e h = dock-written-back state e
+tells-kept (Refused r) t state e h = dock-written-back state e
 tells-kept Accepted t state e h = absurd (h (unrefused (t .stage) (moved (dockIn state) t)))
 
 heard-kept : (u : Verdict) (j : Job) (image state : List ℕ) (x : Heard) → (u ≡ Accepted → isDock state ≡ true) → (heardBy u j image state x .refusal ≡ 0 → ⊥)
     → heardBy u j image state x .state ≡ state
 unfolding heardBy toldOf hearOf
-heard-kept (Barred r) j image state x e h = refl
+heard-kept (Refused r) j image state x e h = refl
 heard-kept Accepted j image state x e h =
     tells-kept (callVerdict j (length image) (Tells (dockIn state))) (afterHeard j (dockIn state .retries) (dockIn state .stage) x) state (e refl) h
 
@@ -79,7 +79,7 @@ fits-kept false s state h = refl
 
 starts-kept : (u : Verdict) (s : Stepped) (state : List ℕ) → (startedBy u s state .refusal ≡ 0 → ⊥) → startedBy u s state .state ≡ state
 unfolding startedBy
-starts-kept (Barred r) s state h = refl
+starts-kept (Refused r) s state h = refl
 starts-kept Accepted s state h = fits-kept (eqb (length state) dockSize) s state h
 
 -- To start.

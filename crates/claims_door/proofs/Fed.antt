@@ -10,40 +10,42 @@ use lib.Seq.{length-take-le}
 use Rattle.chip.specs.Run.{Feeding, before, fedOn, feedFrom, feedOf, onward}
 use Rattle.chip.specs.Step.{Outcome, Reaction, reactTo, settled}
 use Rattle.chip.specs.declared.Answer.{Answer}
-use Rattle.chip.specs.declared.Answer.the-variants.{Refused, Replied}
-use Rattle.chip.specs.declared.Chip.{Chip}
+use Rattle.chip.specs.declared.Answer.the-variants.{Replied}
+use Rattle.chip.specs.declared.Answer.the-variants as Answer
+use Rattle.chip_state.specs.declared.Chip.{Chip}
 use Rattle.chip.specs.declared.Event.{Event}
 use Rattle.chip.specs.declared.Event.the-variants.{Byte}
 use Rattle.claims_door.specs.Kept.{FeedKept}
 use Rattle.claims_good.proofs.Stays.{onward-is, stays}
 use Rattle.claims_good.proofs.Verdict.{accepted}
 use Rattle.claims_good.specs.Good.{Stands, aByte, verdictIn}
-use Rattle.door.proofs.Laws.{accepted-admits, chip-accepts}
-use Rattle.door.specs.Calls.{accepting, fedBy, fedThrough, refusalNumber, replayTold, replayedBy, replayedThrough}
-use Rattle.door.specs.Layout.{chipIn, collectorIn}
-use Rattle.effect.specs.Effect.{Flash}
+use Rattle.chip_door.proofs.Laws.{accepted-admits, chip-accepts}
+use Rattle.chip_door.specs.Calls.{accepting, fedBy, fedThrough, refusalNumber, replayTold, replayedBy, replayedThrough}
+use Rattle.chip_door.specs.Layout.{chipIn, collectorIn}
+use Rattle.chip_core.specs.Effect.{Flash}
 use Rattle.frame.proofs.Laws.Sum.{Below, below-drop, below-take, more}
 use Rattle.frame.specs.Collector.{heard}
 use Rattle.frame.specs.Framing.{frames}
-use Rattle.layout.proofs.Laws.{part-long}
-use Rattle.layout.specs.Layout.{partOf}
+use Rattle.part.proofs.LawsCrossing.{part-long}
+use Rattle.part.specs.Crossing.{partOf}
 use Rattle.part.specs.Refusal.{number}
 use Rattle.part.specs.declared.Part.{Part}
 use Rattle.part.specs.declared.refusal.Refusal.{Refusal}
 use Rattle.part.specs.declared.refusal.Verdict.{Verdict}
-use Rattle.part.specs.declared.refusal.Verdict.the-variants.{Accepted, Barred}
+use Rattle.part.specs.declared.refusal.Verdict.the-variants.{Accepted}
+use Rattle.part.specs.declared.refusal.Verdict.the-variants as Verdict
 use Rattle.words.proofs.Laws.{if-all}
 
 replied-not-refused : (u : Verdict) (p : Part) (x : Reaction) (c : Chip) (m : Flash) (room : List ℕ) → u ≡ Accepted → refusalNumber (settled u p x c m room .answer) ≡ 0
 unfolding settled refusalNumber
 replied-not-refused Accepted p x c m room e = refl
-replied-not-refused (Barred r) p x c m room e = absurd (let z : _≡_ {A = ℕ} 0 1 = cc in omega arith)
+replied-not-refused (Verdict.Refused r) p x c m room e = absurd (let z : _≡_ {A = ℕ} 0 1 = cc in omega arith)
 
 -- From a state that stands, bytes are not refused.
 on-unrefused : (a : Answer) (n : ℕ) (o : Outcome) (rest : Feeding) → a ≡ o .answer → refusalNumber (o .answer) ≡ 0 → refusalNumber (rest .left .answer) ≡ 0
     → refusalNumber (fedOn a n o rest .left .answer) ≡ 0
 unfolding fedOn
-on-unrefused (Refused r) n o rest e h k = h
+on-unrefused (Answer.Refused r) n o rest e h k = h
 on-unrefused (Replied bytes frames) n o rest e h k = if-all (λ (f : Feeding). refusalNumber (f .left .answer) ≡ 0) (eqb frames 0) (λ t. k) (λ t. h)
 
 feed-unrefused : (p : Part) (n : ℕ) (bs : List ℕ) (o : Outcome) → Stands p o → Below 256 bs → refusalNumber (o .answer) ≡ 0
@@ -80,7 +82,7 @@ stands codes extras clock names state m room b l e =
 fed-kept : (u : Verdict) (p : Part) (bs state : List ℕ) (m : Flash) (room : List ℕ) → Below 256 bs → (u ≡ Accepted → Stands p (before (chipIn state) m room))
     → (fedBy u p bs state m room .told .refusal ≡ 0 → ⊥) → FeedKept (fedBy u p bs state m room) state m room
 unfolding fedBy
-fed-kept (Barred r) p bs state m room c s h = record { noneTaken = refl; kept = record { stateStays = refl; flashStays = refl; roomStays = refl } }
+fed-kept (Verdict.Refused r) p bs state m room c s h = record { noneTaken = refl; kept = record { stateStays = refl; flashStays = refl; roomStays = refl } }
 fed-kept Accepted p bs state m room c s h = absurd (h (feed-fine p bs (before (chipIn state) m room) (s refl) c refl))
 
 -- Every stretch, an empty one too, whatever part and whatever bytes are handed in.
@@ -97,7 +99,7 @@ refused-feed-keeps codes extras clock names bs state m room b c h =
 
 -- A replay that is refused before its first record plays none and keeps everything.
 pub refused-replay-keeps : (p : Part) (capture state : List ℕ) (m : Flash) (room output : List ℕ) (r : Refusal)
-    → accepting p state (length (m .codeFlash)) (length (m .dataFlash)) (length room) ≡ Barred r
+    → accepting p state (length (m .codeFlash)) (length (m .dataFlash)) (length room) ≡ Verdict.Refused r
     → replayedThrough p capture state m room output ≡ replayTold (number r) 0 0 0 state m room output
 unfolding replayedThrough replayedBy
 refused-replay-keeps p capture state m room output r e = rw e

@@ -5,32 +5,33 @@ use mathlib.Core.List.{List}
 use mathlib.Core.Path.{_≡_, refl}
 use Prim.Native.Nat.{ℕ}
 use lib.ListN.{getD, length}
-use Rattle.chip.specs.Step.{Reaction, reactTo, settled, stepOf, verdictOf}
+use Rattle.chip.specs.Step.{Reaction, reactTo, settled, stepOf}
+use Rattle.chip_state.specs.Refusals.{verdictOf}
 use Rattle.chip.specs.declared.Event.{Event}
 use Rattle.claims_door.proofs.Back.{written-back}
 use Rattle.claims_door.specs.Kept.{Kept}
-use Rattle.door.proofs.Laws.{admitted}
-use Rattle.door.specs.Calls.{admission, bytesTold, framesTold, refusalNumber, stepTold, steppedBy, steppedThrough}
-use Rattle.door.specs.Layout.{chipIn, isState, layoutOf}
-use Rattle.effect.specs.Effect.{Flash}
+use Rattle.chip_door.proofs.Laws.{admitted}
+use Rattle.chip_door.specs.Calls.{admission, bytesTold, framesTold, refusalNumber, stepTold, steppedBy, steppedThrough}
+use Rattle.chip_door.specs.Layout.{chipIn, isState, layoutOf}
+use Rattle.chip_core.specs.Effect.{Flash}
 use Rattle.frame.proofs.Laws.Sum.{Below}
 use Rattle.frame.specs.Collector.{heard}
 use Rattle.part.specs.declared.Part.{Part}
 use Rattle.part.specs.declared.refusal.Verdict.{Verdict}
-use Rattle.part.specs.declared.refusal.Verdict.the-variants.{Accepted, Barred}
+use Rattle.part.specs.declared.refusal.Verdict.the-variants.{Accepted, Refused}
 
 -- The chip is asked, and refuses: it hands the chip back as it was, and that is written back as the bytes it was read from.
 asked : (u : Verdict) (p : Part) (x : Reaction) (state : List ℕ) (m : Flash) (room : List ℕ) → Below 256 state → isState state ≡ true
     → (refusalNumber (settled u p x (chipIn state) m room .answer) ≡ 0 → ⊥)
     → Kept (stepTold (refusalNumber (settled u p x (chipIn state) m room .answer)) (bytesTold (settled u p x (chipIn state) m room .answer)) (framesTold (settled u p x (chipIn state) m room .answer)) (layoutOf (settled u p x (chipIn state) m room .chip)) (settled u p x (chipIn state) m room .memory) (settled u p x (chipIn state) m room .room)) state m room
 unfolding settled refusalNumber
-asked (Barred r) p x state m room b e h = record { stateStays = written-back state b e; flashStays = refl; roomStays = refl }
+asked (Refused r) p x state m room b e h = record { stateStays = written-back state b e; flashStays = refl; roomStays = refl }
 asked Accepted p x state m room b e h = absurd (h refl)
 
 admits-kept : (u : Verdict) (p : Part) (v : Event) (state : List ℕ) (m : Flash) (room : List ℕ) → Below 256 state → (u ≡ Accepted → isState state ≡ true)
     → (steppedBy u p v state m room .refusal ≡ 0 → ⊥) → Kept (steppedBy u p v state m room) state m room
 unfolding steppedBy stepOf
-admits-kept (Barred r) p v state m room b e h = record { stateStays = refl; flashStays = refl; roomStays = refl }
+admits-kept (Refused r) p v state m room b e h = record { stateStays = refl; flashStays = refl; roomStays = refl }
 admits-kept Accepted p v state m room b e h =
     let c = chipIn state in
     asked (verdictOf p (c .core) (c .collector .len) (getD (c .collector .bytes) 0 0) (getD (c .collector .bytes) 1 0) (length (m .codeFlash)) (length (m .dataFlash)) (length room)) p (reactTo v p (c .core) (heard (c .collector)) m) state m room b (e refl) h

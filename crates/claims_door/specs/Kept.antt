@@ -2,8 +2,8 @@
 use mathlib.Core.List.{List}
 use mathlib.Core.Path.{_≡_}
 use Prim.Native.Nat.{ℕ}
-use Rattle.door.specs.Calls.{FeedTold, StepTold}
-use Rattle.effect.specs.Effect.{Flash}
+use Rattle.chip_door.specs.Calls.{FeedTold, StepTold}
+use Rattle.chip_core.specs.Effect.{Flash}
 
 -- "State and lent bytes stay."
 pub record Kept (t : StepTold) (state : List ℕ) (m : Flash) (room : List ℕ) : Type 0 where

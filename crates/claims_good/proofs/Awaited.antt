@@ -6,10 +6,10 @@ use Prim.Native.Nat.{_%_, _+_, _-_, _<_, _≤_, ℕ}
 use native.Mathlib.Omega.{arith}
 use lib.Dec.{eqb, leb}
 use borrow.Author.Tests.{eq-eqb, eqb-true, le-leb, leb-true}
-use Rattle.chip.specs.Step.{goodAwaited, goodPlaces, sameArea}
-use Rattle.effect.proofs.Laws.{not-last}
-use Rattle.effect.specs.Pages.{isLastPage}
-use Rattle.effect.specs.declared.Awaited.{Awaited}
+use Rattle.chip_state.specs.Refusals.{goodAwaited, goodPlaces, sameArea}
+use Rattle.chip_pages.proofs.Laws.{not-last}
+use Rattle.chip_pages.specs.Pages.{isLastPage}
+use Rattle.chip_core.specs.declared.Awaited.{Awaited}
 use Rattle.part.proofs.Laws.{LiesIn, Spot, block-page, in-order, lies-place, place-lies, range-good, stretch-whole}
 use Rattle.part.specs.Part.{blockSize, described, first, pageSize, placeIn, placeOf, rangeOf}
 use Rattle.part.specs.declared.Area.{Area}

@@ -9,9 +9,9 @@ use lib.Dec.{eqb, ltb}
 use lib.ListN.{getD, length, length-append, length-drop}
 use lib.Seq.{getD-take}
 use borrow.Author.Tests.{eq-eqb, eqb-false, eqb-true, lt-ltb, ltb-true}
-use Rattle.chip.specs.Step.{goodBegun, goodCollected}
-use Rattle.effect.specs.declared.Phase.{Phase}
-use Rattle.effect.specs.declared.Phase.the-variants.{Awaiting, ModeByte, Ready, Setup}
+use Rattle.chip_state.specs.Refusals.{goodBegun, goodCollected}
+use Rattle.chip_core.specs.declared.Phase.{Phase}
+use Rattle.chip_core.specs.declared.Phase.the-variants.{Awaiting, ModeByte, Ready, Setup}
 use Rattle.frame.proofs.Laws.Collector.{complete-within, heard-none, length-heard}
 use Rattle.frame.proofs.Laws.Frame.{counted-small, full-room}
 use Rattle.frame.proofs.Laws.Sum.{Below, below-append, below-at, below-drop, below-take, more, none}

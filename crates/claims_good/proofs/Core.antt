@@ -4,13 +4,13 @@ use mathlib.Core.Bool.{true}
 use mathlib.Core.Path.{_≡_, refl}
 use Prim.Native.Nat.{_≤_}
 use borrow.Author.Tests.{le-leb, leb-true}
-use Rattle.chip.specs.Step.{goodCore, goodPhase}
-use Rattle.effect.specs.Effect.{entered}
-use Rattle.effect.specs.Pages.{ready}
-use Rattle.effect.specs.declared.Core.{Core}
-use Rattle.effect.specs.declared.Phase.{Phase}
-use Rattle.effect.specs.declared.Phase.the-variants.{Ready}
-use Rattle.options.specs.Options.{goodOptions}
+use Rattle.chip_state.specs.Refusals.{goodCore, goodPhase}
+use Rattle.chip_core.specs.Effect.{entered}
+use Rattle.chip_pages.specs.Pages.{ready}
+use Rattle.chip_core.specs.declared.Core.{Core}
+use Rattle.chip_core.specs.declared.Phase.{Phase}
+use Rattle.chip_core.specs.declared.Phase.the-variants.{Ready}
+use Rattle.chip_options.specs.Options.{goodOptions}
 use Rattle.part.specs.declared.Part.{Part}
 use Rattle.words.proofs.Laws.{and-both, and-left, and-right}
 

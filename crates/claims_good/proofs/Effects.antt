@@ -7,20 +7,21 @@ use Prim.Native.Nat.{ℕ}
 use lib.Dec.{eqb}
 use lib.ListN.{length}
 use borrow.Author.Tests.{leb-true, not-false}
-use Rattle.chip.specs.Step.{goodAwaited, goodPhase}
+use Rattle.chip_state.specs.Refusals.{goodAwaited, goodPhase}
 use Rattle.claims_good.proofs.Awaited.{next-awaited, pagesOf, range-awaited, security-awaited}
 use Rattle.claims_good.proofs.Core.{GoodCore, enters, made-ready}
-use Rattle.effect.specs.Commands.{blankCheck, blockErase, checksum, commandDoes, erasedIn, programming, rateSet, securityRelease, verify, work}
-use Rattle.effect.specs.Effect.{Effect, Flash, bytesIn, effect, entered, withBytes}
-use Rattle.effect.specs.Pages.{badData, dataDoes, goodData, nextPage, pageStored, programPage, securityData, verifyPage}
-use Rattle.effect.specs.declared.Asked.{Asked}
-use Rattle.effect.specs.declared.Asked.the-variants.{BlankCheck, BlockErase, Checksum, Programming, RateSet, Reset, SecurityGet, SecurityRelease, SecuritySet, SignatureGet, Unfit, Unknown, Verify}
-use Rattle.effect.specs.declared.Awaited.{Awaited}
-use Rattle.effect.specs.declared.Core.{Core}
-use Rattle.effect.specs.declared.Done.{Done}
-use Rattle.effect.specs.declared.Phase.the-variants.{Awaiting}
-use Rattle.flash.proofs.Laws.{erase-of-long, put-long}
-use Rattle.options.proofs.Laws.{released-good}
+use Rattle.chip_work.specs.Work.{blankCheck, blockErase, checksum, erasedIn, programming, rateSet, securityRelease, verify}
+use Rattle.chip_commands.specs.Commands.{commandDoes, work}
+use Rattle.chip_core.specs.Effect.{Effect, Flash, bytesIn, effect, entered, withBytes}
+use Rattle.chip_pages.specs.Pages.{badData, dataDoes, goodData, nextPage, pageStored, programPage, securityData, verifyPage}
+use Rattle.chip_commands.specs.declared.Asked.{Asked}
+use Rattle.chip_commands.specs.declared.Asked.the-variants.{BlankCheck, BlockErase, Checksum, Programming, RateSet, Reset, SecurityGet, SecurityRelease, SecuritySet, SignatureGet, Unfit, Unknown, Verify}
+use Rattle.chip_core.specs.declared.Awaited.{Awaited}
+use Rattle.chip_core.specs.declared.Core.{Core}
+use Rattle.chip_core.specs.declared.Done.{Done}
+use Rattle.chip_core.specs.declared.Phase.the-variants.{Awaiting}
+use Rattle.chip_flash.proofs.Laws.{erase-of-long, put-long}
+use Rattle.chip_options.proofs.Laws.{released-good}
 use Rattle.part.specs.Part.{blockSize, described, rangeOf}
 use Rattle.part.specs.Rate.{acceptsRate}
 use Rattle.part.specs.declared.Area.{Area}

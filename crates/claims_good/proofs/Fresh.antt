@@ -7,18 +7,19 @@ use Prim.Native.Nat.{_≤_, suc, zero, ℕ}
 use native.Mathlib.Omega.{arith}
 use lib.ListN.{length, length-replicate, replicate}
 use Rattle.chip.specs.Run.{before}
-use Rattle.chip.specs.Step.{freshChip, goodPhase, goodState}
+use Rattle.chip.specs.Step.{freshChip}
+use Rattle.chip_state.specs.Refusals.{goodPhase, goodState}
 use Rattle.claims_good.proofs.Collected.{none-good}
 use Rattle.claims_good.proofs.Core.{GoodCore, is-core}
 use Rattle.claims_good.proofs.Verdict.{accepted}
 use Rattle.chip.proofs.Saying.{Arrays}
 use Rattle.claims_good.specs.Good.{Stands}
 use Rattle.claims_stars.specs.Table.{thePart}
-use Rattle.effect.specs.Effect.{Flash, flash}
-use Rattle.effect.specs.declared.Core.{Core}
+use Rattle.chip_core.specs.Effect.{Flash, flash}
+use Rattle.chip_core.specs.declared.Core.{Core}
 use Rattle.frame.proofs.Laws.Sum.{Below, more, none}
 use Rattle.frame.specs.Collector.{fresh}
-use Rattle.options.proofs.Laws.{fresh-good}
+use Rattle.chip_options.proofs.Laws.{fresh-good}
 use Rattle.part.specs.Part.{blockSize, described, size}
 use Rattle.part.specs.declared.Area.the-variants.{CodeFlash, DataFlash}
 use Rattle.part.specs.declared.Part.{Part}

@@ -8,20 +8,20 @@ use lib.Seq.{take-append-seam}
 use Rattle.chip.specs.Run.{answers, bytesSaid, onward, run, spokenIn}
 use Rattle.chip.specs.Step.{Outcome, Reaction, reactTo, replied, settled}
 use Rattle.chip.specs.declared.Answer.the-variants.{Replied}
-use Rattle.chip.specs.declared.Chip.{Chip}
+use Rattle.chip_state.specs.declared.Chip.{Chip}
 use Rattle.chip.specs.declared.Event.{Event}
 use Rattle.claims_good.proofs.Stays.{onward-is, stays}
 use Rattle.claims_good.proofs.Verdict.{accepted, conditions}
 use Rattle.claims_good.specs.Good.{Alike, AllAnswered, AllProper, Answered, SameChip, SameStep, Stands, Utterance, andAnswer, andEvent, noAnswer, noEvent, utterances, uttered}
-use Rattle.effect.specs.Effect.{Flash}
-use Rattle.effect.specs.declared.Core.{Core}
+use Rattle.chip_core.specs.Effect.{Flash}
+use Rattle.chip_core.specs.declared.Core.{Core}
 use Rattle.frame.proofs.Laws.Collector.{heard-holding}
 use Rattle.frame.specs.Collector.{heard, holding}
 use Rattle.frame.specs.Framing.{frames}
 use Rattle.part.specs.declared.Part.{Part}
 use Rattle.part.specs.declared.refusal.Verdict.the-variants.{Accepted}
-use Rattle.reply.proofs.Laws.{reply-long, send-lands}
-use Rattle.reply.specs.Reply.{Said, framesOf, payloads, said}
+use Rattle.chip_reply.proofs.Laws.{reply-long, send-lands}
+use Rattle.chip_reply.specs.Reply.{Said, framesOf, payloads, said}
 
 -- What a reaction says.
 unfoldable pub utteranceOf : Part → Reaction → Utterance

@@ -9,7 +9,8 @@ use lib.ListN.{getD, length}
 use borrow.Author.Tests.{eqb-true}
 use Rattle.chip.proofs.Settling.{begun, hear-long}
 use Rattle.chip.specs.Run.{onward, run}
-use Rattle.chip.specs.Step.{Outcome, Reaction, byteIn, frameDoes, goodBegun, goodCollected, goodCore, goodPhase, goodState, heardByte, modeByte, reactTo, reaction, settled, silent, stepOf}
+use Rattle.chip.specs.Step.{Outcome, Reaction, byteIn, frameDoes, heardByte, modeByte, reactTo, reaction, settled, silent, stepOf}
+use Rattle.chip_state.specs.Refusals.{goodBegun, goodCollected, goodCore, goodPhase, goodState}
 use Rattle.chip.specs.declared.Event.{Event}
 use Rattle.chip.specs.declared.Event.the-variants.{Byte, Gap, PowerOn}
 use Rattle.claims_good.proofs.Collected.{Holds, begins-good, below-hear, below-heard, good-begins, hear-begins, holds, none-good}
@@ -17,10 +18,10 @@ use Rattle.claims_good.proofs.Core.{GoodCore, core-is, enters, is-core}
 use Rattle.claims_good.proofs.Effects.{Keeps, command-keeps, data-keeps, stays-so}
 use Rattle.claims_good.proofs.Verdict.{accepted, conditions}
 use Rattle.claims_good.specs.Good.{AllProper, Proper, Stands, aByte, aGap, aPowerOn, andEvent, verdictIn}
-use Rattle.effect.specs.Effect.{Effect, Flash}
-use Rattle.effect.specs.declared.Core.{Core}
-use Rattle.effect.specs.declared.Phase.{Phase}
-use Rattle.effect.specs.declared.Phase.the-variants.{Awaiting, ModeByte, Ready, Setup}
+use Rattle.chip_core.specs.Effect.{Effect, Flash}
+use Rattle.chip_core.specs.declared.Core.{Core}
+use Rattle.chip_core.specs.declared.Phase.{Phase}
+use Rattle.chip_core.specs.declared.Phase.the-variants.{Awaiting, ModeByte, Ready, Setup}
 use Rattle.frame.proofs.Laws.Collector.{heard-holding, heard-none, length-heard}
 use Rattle.frame.proofs.Laws.Sum.{Below, none}
 use Rattle.frame.specs.Collector.{hear, heard, holding}
@@ -32,8 +33,8 @@ use Rattle.part.specs.Part.{described}
 use Rattle.part.specs.declared.Part.{Part}
 use Rattle.part.specs.declared.refusal.Verdict.{Verdict}
 use Rattle.part.specs.declared.refusal.Verdict.the-variants.{Accepted}
-use Rattle.reply.proofs.Laws.{reply-long, send-keeps}
-use Rattle.reply.specs.Reply.{payloads, sendOf}
+use Rattle.chip_reply.proofs.Laws.{reply-long, send-keeps}
+use Rattle.chip_reply.specs.Reply.{payloads, sendOf}
 use Rattle.words.proofs.Laws.{and-both, and-left, and-right, if-all}
 
 -- What a reaction leaves makes a good state again.

@@ -6,8 +6,8 @@ use Prim.Native.Nat.{_≤_, ℕ}
 use native.Mathlib.Omega.{arith}
 use lib.Dec.{eqb, ltb}
 use borrow.Author.Tests.{eq-eqb, eqb-true, le-ltb, ltb-false, not-false}
-use Rattle.chip.specs.Step.{goodState, verdictOf}
-use Rattle.effect.specs.declared.Core.{Core}
+use Rattle.chip_state.specs.Refusals.{goodState, verdictOf}
+use Rattle.chip_core.specs.declared.Core.{Core}
 use Rattle.part.specs.Part.{described, size}
 use Rattle.part.specs.Refusal.{firstOf}
 use Rattle.part.specs.declared.Area.the-variants.{CodeFlash, DataFlash}
@@ -15,15 +15,15 @@ use Rattle.part.specs.declared.Part.{Part}
 use Rattle.part.specs.declared.refusal.Refusal.{Refusal}
 use Rattle.part.specs.declared.refusal.Refusal.the-variants.{BadPart, BadState, CodeLength, DataLength, ShortRoom}
 use Rattle.part.specs.declared.refusal.Verdict.{Verdict}
-use Rattle.part.specs.declared.refusal.Verdict.the-variants.{Accepted, Barred}
+use Rattle.part.specs.declared.refusal.Verdict.the-variants.{Accepted, Refused}
 use Rattle.words.specs.Words.{if_then_else_}
 
-not-barred : (t : Bool) (r : Refusal) (v : Verdict) → (if t then Barred r else v) ≡ Accepted → (t ≡ false) × (v ≡ Accepted)
+not-barred : (t : Bool) (r : Refusal) (v : Verdict) → (if t then Refused r else v) ≡ Accepted → (t ≡ false) × (v ≡ Accepted)
 unfolding if_then_else_
 not-barred true r v e = absurd (let z : _≡_ {A = ℕ} 0 1 = cc in omega arith)
 not-barred false r v e = (refl, e)
 
-passes : (r : Refusal) {t : Bool} {v : Verdict} → t ≡ false → v ≡ Accepted → (if t then Barred r else v) ≡ Accepted
+passes : (r : Refusal) {t : Bool} {v : Verdict} → t ≡ false → v ≡ Accepted → (if t then Refused r else v) ≡ Accepted
 unfolding if_then_else_
 passes r e f = simp (e, f)
 

@@ -5,7 +5,8 @@ use Prim.Native.Nat.{_<_, _≤_, ℕ}
 use lib.ListN.{getD, length}
 use Rattle.chip.proofs.Saying.{Arrays}
 use Rattle.chip.specs.Run.{Spoken, answers, bytesSaid, spokenIn}
-use Rattle.chip.specs.Step.{Outcome, verdictOf}
+use Rattle.chip.specs.Step.{Outcome}
+use Rattle.chip_state.specs.Refusals.{verdictOf}
 use Rattle.chip.specs.declared.Answer.{Answer}
 use Rattle.chip.specs.declared.Answer.the-variants.{Replied}
 use Rattle.chip.specs.declared.Event.{Event}

@@ -11,19 +11,19 @@ use Rattle.claims_good.proofs.Rooms.{utteranceOf}
 use Rattle.claims_noise.proofs.Steps.{does}
 use Rattle.claims_noise.specs.Claims.{AwaitsFrame, Blame, blames, command, inReady, inSetup, is07h, is15h, page, saysFrame}
 use Rattle.claims_noise.specs.Noise.{aCommand, aPage, awaitedIn, goodFor}
-use Rattle.effect.specs.Commands.{askedIn, commandDoes, commandsIn, work}
-use Rattle.effect.specs.Effect.{Effect, Flash, effect, says}
-use Rattle.effect.specs.Pages.{badData, dataDoes, footerOf, goodData, lengthOf, pair, ready}
-use Rattle.effect.specs.declared.Awaited.{Awaited}
-use Rattle.effect.specs.declared.Core.{Core}
-use Rattle.effect.specs.declared.Phase.{Phase}
-use Rattle.effect.specs.declared.Phase.the-variants.{Awaiting, ModeByte, Ready, Setup}
+use Rattle.chip_commands.specs.Commands.{askedIn, commandDoes, commandsIn, work}
+use Rattle.chip_core.specs.Effect.{Effect, Flash, effect, says}
+use Rattle.chip_pages.specs.Pages.{badData, dataDoes, footerOf, goodData, lengthOf, pair, ready}
+use Rattle.chip_core.specs.declared.Awaited.{Awaited}
+use Rattle.chip_core.specs.declared.Core.{Core}
+use Rattle.chip_core.specs.declared.Phase.{Phase}
+use Rattle.chip_core.specs.declared.Phase.the-variants.{Awaiting, ModeByte, Ready, Setup}
 use Rattle.frame.specs.Judgement.{fitting, isGood, judgeOf, statusOf}
 use Rattle.frame.specs.declared.Footer.the-variants.{Last}
 use Rattle.frame.specs.declared.judgement.Judgement.{Judgement}
 use Rattle.frame.specs.declared.judgement.Judgement.the-variants.{Good, UnfitLength, WrongFooter, WrongSum}
 use Rattle.part.specs.declared.Part.{Part}
-use Rattle.reply.specs.Reply.{framesOf, payloads}
+use Rattle.chip_reply.specs.Reply.{framesOf, payloads}
 use Rattle.words.specs.Words.{if_then_else_}
 
 -- The record after it.

@@ -21,12 +21,12 @@ use Rattle.claims_noise.proofs.OneByte.{footerIn, good-judged}
 use Rattle.claims_noise.proofs.Steps.{headerIn, stepped}
 use Rattle.claims_noise.specs.Claims.{AsIf, AwaitsFrame, Carried, Line, Noise, OneFrameCarried, OnlyThis, command, commandOver, frameCame, inReady, inSetup, lastGood, leftAt, leftBy, lineAfter, noiseOnly, noneGood, page, runBy}
 use Rattle.claims_noise.specs.Noise.{Awaits, awaitedIn, dataCompleted, empty, eventOf, goodFor, headerOf, noFrame, thenAwaits}
-use Rattle.effect.specs.Effect.{Effect}
-use Rattle.effect.specs.Pages.{ready}
-use Rattle.effect.specs.declared.Awaited.{Awaited}
-use Rattle.effect.specs.declared.Core.{Core}
-use Rattle.effect.specs.declared.Phase.{Phase}
-use Rattle.effect.specs.declared.Phase.the-variants.{Awaiting}
+use Rattle.chip_core.specs.Effect.{Effect}
+use Rattle.chip_pages.specs.Pages.{ready}
+use Rattle.chip_core.specs.declared.Awaited.{Awaited}
+use Rattle.chip_core.specs.declared.Core.{Core}
+use Rattle.chip_core.specs.declared.Phase.{Phase}
+use Rattle.chip_core.specs.declared.Phase.the-variants.{Awaiting}
 use Rattle.frame.proofs.Laws.Collector.{heard-none}
 use Rattle.frame.proofs.Laws.Judgement.{good-is}
 use Rattle.frame.proofs.Laws.Sum.{Below}

@@ -7,7 +7,8 @@ use Prim.Native.Nat.{ℕ}
 use native.Mathlib.Omega.{arith}
 use lib.ListN.{length}
 use Rattle.chip.specs.Run.{run}
-use Rattle.chip.specs.Step.{Outcome, goodState, stepOf}
+use Rattle.chip.specs.Step.{Outcome, stepOf}
+use Rattle.chip_state.specs.Refusals.{goodState}
 use Rattle.claims_good.proofs.Collected.{none-good}
 use Rattle.claims_good.proofs.Core.{core-is, is-core, made-ready}
 use Rattle.claims_good.proofs.Stays.{stays}
@@ -16,12 +17,12 @@ use Rattle.claims_good.specs.Good.{Alike, Stands}
 use Rattle.claims_noise.proofs.Noise.{NoiseLeaves, as-if, leftCore, leftIn, noise-leaves, run-by}
 use Rattle.claims_noise.specs.Claims.{AsIf, AwaitsCommand, Noise, NoiseAtCommand, NoiseAtData, NoiseBranches, command, commandOver, inReady, inSetup, leftBy, page, runBy}
 use Rattle.claims_noise.specs.Noise.{dataCompleted, empty, noFrame, thenGap}
-use Rattle.effect.specs.Effect.{Flash}
-use Rattle.effect.specs.Pages.{ready}
-use Rattle.effect.specs.declared.Awaited.{Awaited}
-use Rattle.effect.specs.declared.Core.{Core}
-use Rattle.effect.specs.declared.Phase.{Phase}
-use Rattle.effect.specs.declared.Phase.the-variants.{Awaiting, Ready}
+use Rattle.chip_core.specs.Effect.{Flash}
+use Rattle.chip_pages.specs.Pages.{ready}
+use Rattle.chip_core.specs.declared.Awaited.{Awaited}
+use Rattle.chip_core.specs.declared.Core.{Core}
+use Rattle.chip_core.specs.declared.Phase.{Phase}
+use Rattle.chip_core.specs.declared.Phase.the-variants.{Awaiting, Ready}
 use Rattle.frame.proofs.Laws.Collector.{heard-none}
 use Rattle.frame.specs.Framing.{Sound, frames, idle}
 use Rattle.frame.specs.declared.Header.the-variants.{Data}

@@ -8,7 +8,8 @@ use native.Mathlib.Omega.{arith}
 use lib.Dec.{ltb}
 use lib.ListN.{getD, length-replicate, replicate, set, take}
 use borrow.Author.Tests.{ltb-true}
-use Rattle.chip.specs.Step.{byteIn, frameDoes, goodAwaited, goodBegun, goodCollected, goodCore, goodPhase, goodPlaces, goodState, heardByte, reactTo, settled, stepOf, verdictOf}
+use Rattle.chip.specs.Step.{byteIn, frameDoes, heardByte, reactTo, settled, stepOf}
+use Rattle.chip_state.specs.Refusals.{goodAwaited, goodBegun, goodCollected, goodCore, goodPhase, goodPlaces, goodState, verdictOf}
 use Rattle.chip.specs.declared.Event.the-variants.{Byte}
 use Rattle.claims_frame.proofs.Framing.{header, nothing}
 use Rattle.claims_good.proofs.Fresh.{new-stands, the-part-is}
@@ -20,10 +21,10 @@ use Rattle.claims_noise.specs.Claims.{AsIf, IsBad, Noise, OneByte, comma
 use Rattle.claims_noise.specs.Examples.{allSaid, cutPage, eraseFrame, innerReset, longNoise, pageFrame, reset, secondPage, writingChip, wrongPage}
 use Rattle.claims_noise.specs.Noise.{aCommand, allows, completesOnly, dataCompleted, empty, eventOf, goodFor, noFrame, only, permitted, thenAwaits, thenGap}
 use Rattle.claims_stars.specs.Table.{readyChip, thePart}
-use Rattle.effect.specs.Commands.{commandDoes}
-use Rattle.effect.specs.Effect.{Flash}
-use Rattle.effect.specs.Pages.{badData, dataDoes, footerOf, goodData, isLastPage, lengthOf, nextPage, pageIn, pageStored, programPage, storedReply}
-use Rattle.flash.specs.Flash.{blank}
+use Rattle.chip_commands.specs.Commands.{commandDoes}
+use Rattle.chip_core.specs.Effect.{Flash}
+use Rattle.chip_pages.specs.Pages.{badData, dataDoes, footerOf, goodData, isLastPage, lengthOf, nextPage, pageIn, pageStored, programPage, storedReply}
+use Rattle.chip_flash.specs.Flash.{blank}
 use Rattle.frame.proofs.Laws.Sum.{Below, more, none}
 use Rattle.frame.specs.Collector.{fresh, hear, heard, holding}
 use Rattle.frame.specs.Frame.{complete, counted, framed, full, isFrame}
@@ -32,11 +33,11 @@ use Rattle.frame.specs.Judgement.{fitting, judgeOf, summed}
 use Rattle.frame.specs.Sum.{less, lessAll, sumOf}
 use Rattle.frame.specs.declared.Header.the-variants.{Command}
 use Rattle.lent.specs.Lent.{allAre, putAt, putOf, same}
-use Rattle.options.proofs.Laws.{fresh-good}
-use Rattle.options.specs.Options.{fixedBits, freshOptions, goodOptions, lastBlock}
+use Rattle.chip_options.proofs.Laws.{fresh-good}
+use Rattle.chip_options.specs.Options.{fixedBits, freshOptions, goodOptions, lastBlock}
 use Rattle.part.specs.Part.{blockOf, blockSize, described, liesIn, pageOf, placeIn, placeOf}
 use Rattle.part.specs.Refusal.{firstOf}
-use Rattle.reply.specs.Reply.{framesOf, payloads, sendOf}
+use Rattle.chip_reply.specs.Reply.{framesOf, payloads, sendOf}
 use Rattle.words.proofs.Laws.{and-left, and-right}
 use Rattle.words.specs.Words.{_and_, _from_to_, _or_, if_then_else_}
 

@@ -18,8 +18,8 @@ use Rattle.claims_good.specs.Good.{AllProper, Stands, Utterance, aByte, andEven
 use Rattle.claims_noise.proofs.Steps.{Stepped, does, frameDone, headerIn, onlyHeard, stepped}
 use Rattle.claims_noise.specs.Claims.{AwaitsFrame, silence}
 use Rattle.claims_noise.specs.Noise.{eventOf}
-use Rattle.effect.specs.Effect.{Effect, Flash}
-use Rattle.effect.specs.declared.Core.{Core}
+use Rattle.chip_core.specs.Effect.{Effect, Flash}
+use Rattle.chip_core.specs.declared.Core.{Core}
 use Rattle.frame.proofs.Laws.Collector.{heard-none}
 use Rattle.frame.proofs.Laws.Frame.{counted-some}
 use Rattle.frame.proofs.Laws.Sum.{Below, more, none}
@@ -28,7 +28,7 @@ use Rattle.frame.specs.Frame.{counted, headerByte, isFrame}
 use Rattle.frame.specs.Framing.{Framed, Framing, Sound, begun, byte, completes, framing, idle, inside, quiet}
 use Rattle.frame.specs.declared.Header.{Header}
 use Rattle.part.specs.declared.Part.{Part}
-use Rattle.reply.specs.Reply.{framesOf, payloads}
+use Rattle.chip_reply.specs.Reply.{framesOf, payloads}
 use Rattle.words.proofs.Laws.{and-left, and-right}
 
 pub bytes-proper : {bs : List ℕ} → Below 256 bs → AllProper (map Byte bs)

@@ -18,10 +18,10 @@ use Rattle.claims_noise.proofs.Bad.{bad-does, badCore}
 use Rattle.claims_noise.proofs.Steps.{Stepped, frameDone, headerIn, onlyHeard, stepped}
 use Rattle.claims_noise.specs.Claims.{AsIf, AwaitsFrame, Line, Noise, command, inReady, inSetup, lineAfter, page, runBy, saysBy}
 use Rattle.claims_noise.specs.Noise.{Awaits, allows, awaitedIn, completesOnly, empty, eventOf, goodFor, noFrame, permitted, thenAwaits, thenGap}
-use Rattle.effect.specs.Pages.{ready}
-use Rattle.effect.specs.declared.Core.{Core}
-use Rattle.effect.specs.declared.Phase.{Phase}
-use Rattle.effect.specs.declared.Phase.the-variants.{Awaiting, ModeByte, Ready, Setup}
+use Rattle.chip_pages.specs.Pages.{ready}
+use Rattle.chip_core.specs.declared.Core.{Core}
+use Rattle.chip_core.specs.declared.Phase.{Phase}
+use Rattle.chip_core.specs.declared.Phase.the-variants.{Awaiting, ModeByte, Ready, Setup}
 use Rattle.frame.proofs.Laws.Collector.{heard-none}
 use Rattle.frame.specs.Collector.{heard}
 use Rattle.frame.specs.Framing.{Framing, Sound, frames, framing, idle}

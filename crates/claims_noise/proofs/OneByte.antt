@@ -20,8 +20,8 @@ use Rattle.claims_noise.proofs.Noise.{as-if, run-by, says-by}
 use Rattle.claims_noise.proofs.Steps.{headerIn}
 use Rattle.claims_noise.specs.Claims.{AwaitsFrame, OneByteChanged, afterBad, command, commandOver, inReady, inSetup, page, silence}
 use Rattle.claims_noise.specs.Noise.{Awaits, aCommand, aPage, awaitedIn, goodFor}
-use Rattle.effect.specs.declared.Phase.{Phase}
-use Rattle.effect.specs.declared.Phase.the-variants.{Awaiting, ModeByte, Ready, Setup}
+use Rattle.chip_core.specs.declared.Phase.{Phase}
+use Rattle.chip_core.specs.declared.Phase.the-variants.{Awaiting, ModeByte, Ready, Setup}
 use Rattle.frame.proofs.Laws.Collector.{heard-none}
 use Rattle.frame.proofs.Laws.Sum.{Below, more, none}
 use Rattle.frame.specs.Judgement.{fitting, isGood, judgeOf}

@@ -14,10 +14,10 @@ use Rattle.claims_good.proofs.Rooms.{leaves, reactionOf, says-reaction, utteran
 use Rattle.claims_good.specs.Good.{Stands, uttered}
 use Rattle.claims_noise.specs.Claims.{AwaitsFrame, command, inReady, inSetup, page}
 use Rattle.claims_noise.specs.Noise.{awaitedIn, eventOf, headerOf}
-use Rattle.effect.specs.Effect.{Effect, Flash}
-use Rattle.effect.specs.declared.Core.{Core}
-use Rattle.effect.specs.declared.Phase.{Phase}
-use Rattle.effect.specs.declared.Phase.the-variants.{Awaiting, Ready, Setup}
+use Rattle.chip_core.specs.Effect.{Effect, Flash}
+use Rattle.chip_core.specs.declared.Core.{Core}
+use Rattle.chip_core.specs.declared.Phase.{Phase}
+use Rattle.chip_core.specs.declared.Phase.the-variants.{Awaiting, Ready, Setup}
 use Rattle.frame.specs.Collector.{hear, heard}
 use Rattle.frame.specs.Frame.{complete}
 use Rattle.frame.specs.Framing.{Framing, Sound, byte, framing, gap}

@@ -9,16 +9,16 @@ use lib.ListN.{getD, length, replicate, set}
 use Rattle.chip.specs.Run.{spokenIn}
 use Rattle.chip.specs.Step.{Outcome}
 use Rattle.chip.specs.declared.Answer.the-variants.{Replied}
-use Rattle.chip.specs.declared.Chip.{Chip}
+use Rattle.chip_state.specs.declared.Chip.{Chip}
 use Rattle.chip.specs.declared.Event.{Event}
 use Rattle.chip.specs.declared.Event.the-variants.{Byte}
 use Rattle.claims_good.specs.Good.{Alike, AllProper, Stands, Utterance, uttered}
 use Rattle.claims_noise.specs.Noise.{Allowed, Awaits, awaitedIn, completesOnly, dataCompleted, eventOf, goodFor, headerOf, noFrame, only, thenAwaits, thenGap}
-use Rattle.effect.specs.Effect.{Flash, flash}
-use Rattle.effect.specs.Pages.{ready}
-use Rattle.effect.specs.declared.Awaited.{Awaited}
-use Rattle.effect.specs.declared.Phase.{Phase}
-use Rattle.effect.specs.declared.Phase.the-variants.{Awaiting, ModeByte, Ready, Setup}
+use Rattle.chip_core.specs.Effect.{Flash, flash}
+use Rattle.chip_pages.specs.Pages.{ready}
+use Rattle.chip_core.specs.declared.Awaited.{Awaited}
+use Rattle.chip_core.specs.declared.Phase.{Phase}
+use Rattle.chip_core.specs.declared.Phase.the-variants.{Awaiting, ModeByte, Ready, Setup}
 use Rattle.frame.proofs.Laws.Sum.{Below}
 use Rattle.frame.specs.Frame.{dataFrame, headerByte}
 use Rattle.frame.specs.Framing.{Framing, Sound, byte, frames, framing, idle}

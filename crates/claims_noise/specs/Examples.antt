@@ -6,14 +6,14 @@ use Rattle.chip.specs.Run.{before}
 use Rattle.chip.specs.Step.{Outcome}
 use Rattle.claims_good.specs.Good.{Utterance}
 use Rattle.claims_stars.specs.Table.{thePart}
-use Rattle.effect.specs.Effect.{flash}
-use Rattle.effect.specs.declared.Awaited.{Awaited}
-use Rattle.effect.specs.declared.Phase.the-variants.{Awaiting}
+use Rattle.chip_core.specs.Effect.{flash}
+use Rattle.chip_core.specs.declared.Awaited.{Awaited}
+use Rattle.chip_core.specs.declared.Phase.the-variants.{Awaiting}
 use Rattle.frame.specs.Collector.{fresh}
 use Rattle.frame.specs.Frame.{dataFrame}
 use Rattle.frame.specs.Framing.{Sound, byte, gap}
 use Rattle.frame.specs.declared.Footer.the-variants.{More}
-use Rattle.options.specs.Options.{freshOptions}
+use Rattle.chip_options.specs.Options.{freshOptions}
 
 -- Stray bytes; "Erase 0400h" with a wrong SUM; a Reset that ends with 17h; a begun command that a gap cuts off; "Erase 0400h" cut off by the noise's end.
 unfoldable pub longNoise : List Sound

@@ -5,9 +5,9 @@ use mathlib.Core.List.{List, [], _++_, _∷_, map}
 use Prim.Native.Nat.{ℕ}
 use Rattle.chip.specs.declared.Event.{Event}
 use Rattle.chip.specs.declared.Event.the-variants.{Byte, Gap}
-use Rattle.effect.specs.Pages.{footerOf, lengthOf}
-use Rattle.effect.specs.declared.Phase.{Phase}
-use Rattle.effect.specs.declared.Phase.the-variants.{Awaiting, ModeByte, Ready, Setup}
+use Rattle.chip_pages.specs.Pages.{footerOf, lengthOf}
+use Rattle.chip_core.specs.declared.Phase.{Phase}
+use Rattle.chip_core.specs.declared.Phase.the-variants.{Awaiting, ModeByte, Ready, Setup}
 use Rattle.lent.specs.Lent.{same}
 use Rattle.frame.specs.Framing.{Framing, Sound, byte, frames, framing, gap, idle}
 use Rattle.frame.specs.Judgement.{fitting, isGood, judgeOf}

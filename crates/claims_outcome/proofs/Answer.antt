@@ -4,8 +4,8 @@ use Rattle.claims_outcome.proofs.Outcome.{OneOutcome, one-outcome}
 use contract.Lifetimes.{Lfts}
 use denote.Triple.Clauses.{AtExit}
 use borrow.Fn.Kinds.{Dens, endedOf, resT}
-use Rattle.answer.proofs.read.Reads as read
-use Rattle.answer.proofs.read.Kinds as read-kinds
+use Rattle.dock_answer.proofs.read.Reads as read
+use Rattle.dock_answer.proofs.read.Kinds as read-kinds
 
 pub read-once : (κs : Lfts 1) (a : Dens κs read-kinds.ps) → OneOutcome {R = resT read-kinds.r κs .Denot} {X = AtExit (endedOf 1 read-kinds.ps read-kinds.r) κs} (read.Post κs a) (λ r x. r)
 read-once κs a = one-outcome (read.Post κs a) (λ r x. r) _ (λ r x p. p)

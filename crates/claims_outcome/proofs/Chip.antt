@@ -4,7 +4,7 @@ use denote.Ref.{now}
 use Rattle.chip.specs.Run.{fed}
 use Rattle.chip.specs.Step.{outcome}
 use Rattle.claims_outcome.proofs.Outcome.{OneOutcome, one-outcome}
-use Rattle.effect.specs.Effect.{flash}
+use Rattle.chip_core.specs.Effect.{flash}
 use contract.Lifetimes.{Lfts}
 use denote.Triple.Clauses.{AtExit}
 use borrow.Fn.Kinds.{Dens, endedOf, resT}
@@ -14,8 +14,8 @@ use Rattle.chip.proofs.events.fresh.Reads as events-fresh
 use Rattle.chip.proofs.events.fresh.Kinds as events-fresh-kinds
 use Rattle.chip.proofs.events.feed.Reads as events-feed
 use Rattle.chip.proofs.events.feed.Kinds as events-feed-kinds
-use Rattle.chip.proofs.events.verdict.Reads as verdict
-use Rattle.chip.proofs.events.verdict.Kinds as verdict-kinds
+use Rattle.chip_state.proofs.verdict.Reads as verdict
+use Rattle.chip_state.proofs.verdict.Kinds as verdict-kinds
 
 pub events-step-once : (κs : Lfts 3) (a : Dens κs events-step-kinds.ps) → OneOutcome {R = resT events-step-kinds.r κs .Denot} {X = AtExit (endedOf 3 events-step-kinds.ps events-step-kinds.r) κs} (events-step.Post κs a) (λ r x. outcome r (flash (now (x .1 .1 .1 .0)) (now (x .1 .1 .1 .1 .0))) (now (x .1 .1 .1 .1 .1 .0)))
 events-step-once κs a = one-outcome (events-step.Post κs a) (λ r x. outcome r (flash (now (x .1 .1 .1 .0)) (now (x .1 .1 .1 .1 .0))) (now (x .1 .1 .1 .1 .1 .0))) _ (λ r x p. p)

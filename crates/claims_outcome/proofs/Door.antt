@@ -2,23 +2,23 @@
 -- Assumes nothing.
 use denote.Ref.{now}
 use Rattle.claims_outcome.proofs.Outcome.{OneOutcome, one-outcome}
-use Rattle.door.specs.Calls.{feedTold, made, replayTold, stepTold}
-use Rattle.effect.specs.Effect.{flash}
+use Rattle.chip_door.specs.Calls.{feedTold, made, replayTold, stepTold}
+use Rattle.chip_core.specs.Effect.{flash}
 use contract.Lifetimes.{Lfts}
 use denote.Triple.Clauses.{AtExit}
 use borrow.Fn.Kinds.{Dens, endedOf, resT}
-use Rattle.door.proofs.calls.zc_fresh.Reads as zc-fresh
-use Rattle.door.proofs.calls.zc_fresh.Kinds as zc-fresh-kinds
-use Rattle.door.proofs.calls.zc_byte.Reads as zc-byte
-use Rattle.door.proofs.calls.zc_byte.Kinds as zc-byte-kinds
-use Rattle.door.proofs.calls.zc_gap.Reads as zc-gap
-use Rattle.door.proofs.calls.zc_gap.Kinds as zc-gap-kinds
-use Rattle.door.proofs.calls.zc_power_on.Reads as zc-power-on
-use Rattle.door.proofs.calls.zc_power_on.Kinds as zc-power-on-kinds
-use Rattle.door.proofs.calls.zc_feed.Reads as zc-feed
-use Rattle.door.proofs.calls.zc_feed.Kinds as zc-feed-kinds
-use Rattle.door.proofs.calls.zc_replay.Reads as zc-replay
-use Rattle.door.proofs.calls.zc_replay.Kinds as zc-replay-kinds
+use Rattle.chip_door.proofs.calls.zc_fresh.Reads as zc-fresh
+use Rattle.chip_door.proofs.calls.zc_fresh.Kinds as zc-fresh-kinds
+use Rattle.chip_door.proofs.calls.zc_byte.Reads as zc-byte
+use Rattle.chip_door.proofs.calls.zc_byte.Kinds as zc-byte-kinds
+use Rattle.chip_door.proofs.calls.zc_gap.Reads as zc-gap
+use Rattle.chip_door.proofs.calls.zc_gap.Kinds as zc-gap-kinds
+use Rattle.chip_door.proofs.calls.zc_power_on.Reads as zc-power-on
+use Rattle.chip_door.proofs.calls.zc_power_on.Kinds as zc-power-on-kinds
+use Rattle.chip_door.proofs.calls.zc_feed.Reads as zc-feed
+use Rattle.chip_door.proofs.calls.zc_feed.Kinds as zc-feed-kinds
+use Rattle.chip_door.proofs.calls.zc_replay.Reads as zc-replay
+use Rattle.chip_door.proofs.calls.zc_replay.Kinds as zc-replay-kinds
 
 pub zc-fresh-once : (κs : Lfts 2) (a : Dens κs zc-fresh-kinds.ps) → OneOutcome {R = resT zc-fresh-kinds.r κs .Denot} {X = AtExit (endedOf 2 zc-fresh-kinds.ps zc-fresh-kinds.r) κs} (zc-fresh.Post κs a) (λ r x. made r (now (x .1 .1 .1 .1 .0)))
 zc-fresh-once κs a = one-outcome (zc-fresh.Post κs a) (λ r x. made r (now (x .1 .1 .1 .1 .0))) _ (λ r x p. p)

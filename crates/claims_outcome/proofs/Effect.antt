@@ -2,34 +2,34 @@
 -- Assumes nothing.
 use denote.Ref.{now}
 use Rattle.claims_outcome.proofs.Outcome.{OneOutcome, one-outcome}
-use Rattle.effect.specs.Effect.{effect, flash}
+use Rattle.chip_core.specs.Effect.{effect, flash}
 use contract.Lifetimes.{Lfts}
 use denote.Triple.Clauses.{AtExit}
 use borrow.Fn.Kinds.{Dens, endedOf, resT}
-use Rattle.effect.proofs.Core.entered.Reads as Core-entered
-use Rattle.effect.proofs.Core.entered.Kinds as Core-entered-kinds
-use Rattle.effect.proofs.part_of.Reads as part-of
-use Rattle.effect.proofs.part_of.Kinds as part-of-kinds
-use Rattle.effect.proofs.is_good.Reads as is-good
-use Rattle.effect.proofs.is_good.Kinds as is-good-kinds
-use Rattle.effect.proofs.work.rate_set.Reads as work-rate-set
-use Rattle.effect.proofs.work.rate_set.Kinds as work-rate-set-kinds
-use Rattle.effect.proofs.work.block_erase.Reads as work-block-erase
-use Rattle.effect.proofs.work.block_erase.Kinds as work-block-erase-kinds
-use Rattle.effect.proofs.work.says.Reads as work-says
-use Rattle.effect.proofs.work.says.Kinds as work-says-kinds
-use Rattle.effect.proofs.work.blank_check.Reads as work-blank-check
-use Rattle.effect.proofs.work.blank_check.Kinds as work-blank-check-kinds
-use Rattle.effect.proofs.work.awaiting.Reads as work-awaiting
-use Rattle.effect.proofs.work.awaiting.Kinds as work-awaiting-kinds
-use Rattle.effect.proofs.work.programming.Reads as work-programming
-use Rattle.effect.proofs.work.programming.Kinds as work-programming-kinds
-use Rattle.effect.proofs.work.verify.Reads as work-verify
-use Rattle.effect.proofs.work.verify.Kinds as work-verify-kinds
-use Rattle.effect.proofs.work.checksum.Reads as work-checksum
-use Rattle.effect.proofs.work.checksum.Kinds as work-checksum-kinds
-use Rattle.effect.proofs.work.release.Reads as work-release
-use Rattle.effect.proofs.work.release.Kinds as work-release-kinds
+use Rattle.chip_core.proofs.Core.entered.Reads as Core-entered
+use Rattle.chip_core.proofs.Core.entered.Kinds as Core-entered-kinds
+use Rattle.lent.proofs.span.Reads as part-of
+use Rattle.lent.proofs.span.Kinds as part-of-kinds
+use Rattle.frame.proofs.judgement.Judgement.is_good.Reads as is-good
+use Rattle.frame.proofs.judgement.Judgement.is_good.Kinds as is-good-kinds
+use Rattle.chip_work.proofs.rate_set.Reads as work-rate-set
+use Rattle.chip_work.proofs.rate_set.Kinds as work-rate-set-kinds
+use Rattle.chip_work.proofs.block_erase.Reads as work-block-erase
+use Rattle.chip_work.proofs.block_erase.Kinds as work-block-erase-kinds
+use Rattle.chip_core.proofs.says.Reads as work-says
+use Rattle.chip_core.proofs.says.Kinds as work-says-kinds
+use Rattle.chip_work.proofs.blank_check.Reads as work-blank-check
+use Rattle.chip_work.proofs.blank_check.Kinds as work-blank-check-kinds
+use Rattle.chip_core.proofs.awaiting.Reads as work-awaiting
+use Rattle.chip_core.proofs.awaiting.Kinds as work-awaiting-kinds
+use Rattle.chip_work.proofs.programming.Reads as work-programming
+use Rattle.chip_work.proofs.programming.Kinds as work-programming-kinds
+use Rattle.chip_work.proofs.verify.Reads as work-verify
+use Rattle.chip_work.proofs.verify.Kinds as work-verify-kinds
+use Rattle.chip_work.proofs.checksum.Reads as work-checksum
+use Rattle.chip_work.proofs.checksum.Kinds as work-checksum-kinds
+use Rattle.chip_work.proofs.release.Reads as work-release
+use Rattle.chip_work.proofs.release.Kinds as work-release-kinds
 
 pub Core-entered-once : (κs : Lfts 0) (a : Dens κs Core-entered-kinds.ps) → OneOutcome {R = resT Core-entered-kinds.r κs .Denot} {X = AtExit (endedOf 0 Core-entered-kinds.ps Core-entered-kinds.r) κs} (Core-entered.Post κs a) (λ r x. r)
 Core-entered-once κs a = one-outcome (Core-entered.Post κs a) (λ r x. r) _ (λ r x p. p)

@@ -6,14 +6,14 @@ use Rattle.lent.specs.Lent.{left}
 use contract.Lifetimes.{Lfts}
 use denote.Triple.Clauses.{AtExit}
 use borrow.Fn.Kinds.{Dens, endedOf, resT}
-use Rattle.flash.proofs.is_blank.Reads as is-blank
-use Rattle.flash.proofs.is_blank.Kinds as is-blank-kinds
-use Rattle.flash.proofs.erase.Reads as erase
-use Rattle.flash.proofs.erase.Kinds as erase-kinds
-use Rattle.flash.proofs.store.Reads as store
-use Rattle.flash.proofs.store.Kinds as store-kinds
-use Rattle.flash.proofs.sum.Reads as sum
-use Rattle.flash.proofs.sum.Kinds as sum-kinds
+use Rattle.chip_flash.proofs.is_blank.Reads as is-blank
+use Rattle.chip_flash.proofs.is_blank.Kinds as is-blank-kinds
+use Rattle.chip_flash.proofs.erase.Reads as erase
+use Rattle.chip_flash.proofs.erase.Kinds as erase-kinds
+use Rattle.chip_flash.proofs.store.Reads as store
+use Rattle.chip_flash.proofs.store.Kinds as store-kinds
+use Rattle.chip_flash.proofs.sum.Reads as sum
+use Rattle.chip_flash.proofs.sum.Kinds as sum-kinds
 
 pub is-blank-once : (κs : Lfts 1) (a : Dens κs is-blank-kinds.ps) → OneOutcome {R = resT is-blank-kinds.r κs .Denot} {X = AtExit (endedOf 1 is-blank-kinds.ps is-blank-kinds.r) κs} (is-blank.Post κs a) (λ r x. r)
 is-blank-once κs a = one-outcome (is-blank.Post κs a) (λ r x. r) _ (λ r x p. p)

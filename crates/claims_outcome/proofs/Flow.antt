@@ -4,14 +4,14 @@ use Rattle.claims_outcome.proofs.Outcome.{OneOutcome, one-outcome}
 use contract.Lifetimes.{Lfts}
 use denote.Triple.Clauses.{AtExit}
 use borrow.Fn.Kinds.{Dens, endedOf, resT}
-use Rattle.flow.proofs.is_last_page.Reads as is-last-page
-use Rattle.flow.proofs.is_last_page.Kinds as is-last-page-kinds
-use Rattle.flow.proofs.form_at.Reads as form-at
-use Rattle.flow.proofs.form_at.Kinds as form-at-kinds
-use Rattle.flow.proofs.after_answer.Reads as after-answer
-use Rattle.flow.proofs.after_answer.Kinds as after-answer-kinds
-use Rattle.flow.proofs.after_timeout.Reads as after-timeout
-use Rattle.flow.proofs.after_timeout.Kinds as after-timeout-kinds
+use Rattle.dock_flow.proofs.is_last_page.Reads as is-last-page
+use Rattle.dock_flow.proofs.is_last_page.Kinds as is-last-page-kinds
+use Rattle.dock_flow.proofs.form_at.Reads as form-at
+use Rattle.dock_flow.proofs.form_at.Kinds as form-at-kinds
+use Rattle.dock_flow.proofs.after_answer.Reads as after-answer
+use Rattle.dock_flow.proofs.after_answer.Kinds as after-answer-kinds
+use Rattle.dock_flow.proofs.after_timeout.Reads as after-timeout
+use Rattle.dock_flow.proofs.after_timeout.Kinds as after-timeout-kinds
 
 pub is-last-page-once : (κs : Lfts 0) (a : Dens κs is-last-page-kinds.ps) → OneOutcome {R = resT is-last-page-kinds.r κs .Denot} {X = AtExit (endedOf 0 is-last-page-kinds.ps is-last-page-kinds.r) κs} (is-last-page.Post κs a) (λ r x. r)
 is-last-page-once κs a = one-outcome (is-last-page.Post κs a) (λ r x. r) _ (λ r x p. p)

@@ -4,18 +4,18 @@ use Rattle.claims_outcome.proofs.Outcome.{OneOutcome, one-outcome}
 use contract.Lifetimes.{Lfts}
 use denote.Triple.Clauses.{AtExit}
 use borrow.Fn.Kinds.{Dens, endedOf, resT}
-use Rattle.job.proofs.Job.area.Reads as Job-area
-use Rattle.job.proofs.Job.area.Kinds as Job-area-kinds
-use Rattle.job.proofs.Job.blocks.Reads as Job-blocks
-use Rattle.job.proofs.Job.blocks.Kinds as Job-blocks-kinds
-use Rattle.job.proofs.Job.block_size.Reads as Job-block-size
-use Rattle.job.proofs.Job.block_size.Kinds as Job-block-size-kinds
-use Rattle.job.proofs.Job.pages.Reads as Job-pages
-use Rattle.job.proofs.Job.pages.Kinds as Job-pages-kinds
-use Rattle.job.proofs.Stage.is_over.Reads as Stage-is-over
-use Rattle.job.proofs.Stage.is_over.Kinds as Stage-is-over-kinds
-use Rattle.job.proofs.refusals.verdict.Reads as refusals-verdict
-use Rattle.job.proofs.refusals.verdict.Kinds as refusals-verdict-kinds
+use Rattle.dock_job.proofs.Job.area.Reads as Job-area
+use Rattle.dock_job.proofs.Job.area.Kinds as Job-area-kinds
+use Rattle.dock_job.proofs.Job.blocks.Reads as Job-blocks
+use Rattle.dock_job.proofs.Job.blocks.Kinds as Job-blocks-kinds
+use Rattle.dock_job.proofs.Job.block_size.Reads as Job-block-size
+use Rattle.dock_job.proofs.Job.block_size.Kinds as Job-block-size-kinds
+use Rattle.dock_job.proofs.Job.pages.Reads as Job-pages
+use Rattle.dock_job.proofs.Job.pages.Kinds as Job-pages-kinds
+use Rattle.dock_job.proofs.Stage.is_over.Reads as Stage-is-over
+use Rattle.dock_job.proofs.Stage.is_over.Kinds as Stage-is-over-kinds
+use Rattle.dock_job.proofs.refusals.verdict.Reads as refusals-verdict
+use Rattle.dock_job.proofs.refusals.verdict.Kinds as refusals-verdict-kinds
 
 pub Job-area-once : (κs : Lfts 0) (a : Dens κs Job-area-kinds.ps) → OneOutcome {R = resT Job-area-kinds.r κs .Denot} {X = AtExit (endedOf 0 Job-area-kinds.ps Job-area-kinds.r) κs} (Job-area.Post κs a) (λ r x. r)
 Job-area-once κs a = one-outcome (Job-area.Post κs a) (λ r x. r) _ (λ r x p. p)

@@ -4,18 +4,18 @@ use Rattle.claims_outcome.proofs.Outcome.{OneOutcome, one-outcome}
 use contract.Lifetimes.{Lfts}
 use denote.Triple.Clauses.{AtExit}
 use borrow.Fn.Kinds.{Dens, endedOf, resT}
-use Rattle.layout.proofs.two.Reads as two
-use Rattle.layout.proofs.two.Kinds as two-kinds
-use Rattle.layout.proofs.four.Reads as four
-use Rattle.layout.proofs.four.Kinds as four-kinds
-use Rattle.layout.proofs.number4.Reads as number4
-use Rattle.layout.proofs.number4.Kinds as number4-kinds
-use Rattle.layout.proofs.little4.Reads as little4
-use Rattle.layout.proofs.little4.Kinds as little4-kinds
-use Rattle.layout.proofs.little8.Reads as little8
-use Rattle.layout.proofs.little8.Kinds as little8-kinds
-use Rattle.layout.proofs.part_of.Reads as part-of
-use Rattle.layout.proofs.part_of.Kinds as part-of-kinds
+use Rattle.numbers.proofs.two.Reads as two
+use Rattle.numbers.proofs.two.Kinds as two-kinds
+use Rattle.numbers.proofs.four.Reads as four
+use Rattle.numbers.proofs.four.Kinds as four-kinds
+use Rattle.numbers.proofs.number4.Reads as number4
+use Rattle.numbers.proofs.number4.Kinds as number4-kinds
+use Rattle.numbers.proofs.little4.Reads as little4
+use Rattle.numbers.proofs.little4.Kinds as little4-kinds
+use Rattle.numbers.proofs.little8.Reads as little8
+use Rattle.numbers.proofs.little8.Kinds as little8-kinds
+use Rattle.part.proofs.crossing.part_of.Reads as part-of
+use Rattle.part.proofs.crossing.part_of.Kinds as part-of-kinds
 
 pub two-once : (κs : Lfts 0) (a : Dens κs two-kinds.ps) → OneOutcome {R = resT two-kinds.r κs .Denot} {X = AtExit (endedOf 0 two-kinds.ps two-kinds.r) κs} (two.Post κs a) (λ r x. r)
 two-once κs a = one-outcome (two.Post κs a) (λ r x. r) _ (λ r x p. p)

@@ -4,24 +4,24 @@ use Rattle.claims_outcome.proofs.Outcome.{OneOutcome, one-outcome}
 use contract.Lifetimes.{Lfts}
 use denote.Triple.Clauses.{AtExit}
 use borrow.Fn.Kinds.{Dens, endedOf, resT}
-use Rattle.options.proofs.boot_allowed.Reads as boot-allowed
-use Rattle.options.proofs.boot_allowed.Kinds as boot-allowed-kinds
-use Rattle.options.proofs.erase_allowed.Reads as erase-allowed
-use Rattle.options.proofs.erase_allowed.Kinds as erase-allowed-kinds
-use Rattle.options.proofs.write_allowed.Reads as write-allowed
-use Rattle.options.proofs.write_allowed.Kinds as write-allowed-kinds
-use Rattle.options.proofs.is_raised.Reads as is-raised
-use Rattle.options.proofs.is_raised.Kinds as is-raised-kinds
-use Rattle.options.proofs.Options.fresh.Reads as Options-fresh
-use Rattle.options.proofs.Options.fresh.Kinds as Options-fresh-kinds
-use Rattle.options.proofs.Options.is_good.Reads as Options-is-good
-use Rattle.options.proofs.Options.is_good.Kinds as Options-is-good-kinds
-use Rattle.options.proofs.Options.is_fresh.Reads as Options-is-fresh
-use Rattle.options.proofs.Options.is_fresh.Kinds as Options-is-fresh-kinds
-use Rattle.options.proofs.Options.released.Reads as Options-released
-use Rattle.options.proofs.Options.released.Kinds as Options-released-kinds
-use Rattle.options.proofs.Options.security.Reads as Options-security
-use Rattle.options.proofs.Options.security.Kinds as Options-security-kinds
+use Rattle.chip_options.proofs.boot_allowed.Reads as boot-allowed
+use Rattle.chip_options.proofs.boot_allowed.Kinds as boot-allowed-kinds
+use Rattle.chip_options.proofs.erase_allowed.Reads as erase-allowed
+use Rattle.chip_options.proofs.erase_allowed.Kinds as erase-allowed-kinds
+use Rattle.chip_options.proofs.write_allowed.Reads as write-allowed
+use Rattle.chip_options.proofs.write_allowed.Kinds as write-allowed-kinds
+use Rattle.chip_options.proofs.is_raised.Reads as is-raised
+use Rattle.chip_options.proofs.is_raised.Kinds as is-raised-kinds
+use Rattle.chip_options.proofs.Options.fresh.Reads as Options-fresh
+use Rattle.chip_options.proofs.Options.fresh.Kinds as Options-fresh-kinds
+use Rattle.chip_options.proofs.Options.is_good.Reads as Options-is-good
+use Rattle.chip_options.proofs.Options.is_good.Kinds as Options-is-good-kinds
+use Rattle.chip_options.proofs.Options.is_fresh.Reads as Options-is-fresh
+use Rattle.chip_options.proofs.Options.is_fresh.Kinds as Options-is-fresh-kinds
+use Rattle.chip_options.proofs.Options.released.Reads as Options-released
+use Rattle.chip_options.proofs.Options.released.Kinds as Options-released-kinds
+use Rattle.chip_options.proofs.Options.security.Reads as Options-security
+use Rattle.chip_options.proofs.Options.security.Kinds as Options-security-kinds
 
 pub boot-allowed-once : (κs : Lfts 0) (a : Dens κs boot-allowed-kinds.ps) → OneOutcome {R = resT boot-allowed-kinds.r κs .Denot} {X = AtExit (endedOf 0 boot-allowed-kinds.ps boot-allowed-kinds.r) κs} (boot-allowed.Post κs a) (λ r x. r)
 boot-allowed-once κs a = one-outcome (boot-allowed.Post κs a) (λ r x. r) _ (λ r x p. p)

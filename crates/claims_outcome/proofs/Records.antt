@@ -2,17 +2,17 @@
 -- Assumes nothing.
 use denote.Ref.{now}
 use Rattle.claims_outcome.proofs.Outcome.{OneOutcome, one-outcome}
-use Rattle.effect.specs.Effect.{flash}
-use Rattle.records.specs.Records.{replaying, turning}
+use Rattle.chip_core.specs.Effect.{flash}
+use Rattle.replay_records.specs.Records.{replaying, turning}
 use contract.Lifetimes.{Lfts}
 use denote.Triple.Clauses.{AtExit}
 use borrow.Fn.Kinds.{Dens, endedOf, resT}
-use Rattle.records.proofs.record.Reads as «record»
-use Rattle.records.proofs.record.Kinds as record-kinds
-use Rattle.records.proofs.replay.Reads as replay
-use Rattle.records.proofs.replay.Kinds as replay-kinds
-use Rattle.records.proofs.replay_part.Reads as replay-part
-use Rattle.records.proofs.replay_part.Kinds as replay-part-kinds
+use Rattle.replay_records.proofs.record.Reads as «record»
+use Rattle.replay_records.proofs.record.Kinds as record-kinds
+use Rattle.replay_records.proofs.replay.Reads as replay
+use Rattle.replay_records.proofs.replay.Kinds as replay-kinds
+use Rattle.replay_records.proofs.replay_part.Reads as replay-part
+use Rattle.replay_records.proofs.replay_part.Kinds as replay-part-kinds
 
 pub record-once : (κs : Lfts 5) (a : Dens κs record-kinds.ps) → OneOutcome {R = resT record-kinds.r κs .Denot} {X = AtExit (endedOf 5 record-kinds.ps record-kinds.r) κs} («record».Post κs a) (λ r x. turning r (flash (now (x .1 .1 .1 .0)) (now (x .1 .1 .1 .1 .0))) (now (x .1 .1 .1 .1 .1 .0)) (now (x .1 .1 .1 .1 .1 .1 .0)))
 record-once κs a = one-outcome («record».Post κs a) (λ r x. turning r (flash (now (x .1 .1 .1 .0)) (now (x .1 .1 .1 .1 .0))) (now (x .1 .1 .1 .1 .1 .0)) (now (x .1 .1 .1 .1 .1 .1 .0))) _ (λ r x p. p)

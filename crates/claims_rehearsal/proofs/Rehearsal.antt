@@ -5,30 +5,32 @@ use mathlib.Core.Bool.{true}
 use mathlib.Core.List.{_++_}
 use mathlib.Core.Path.{_≡_, refl}
 use lib.ListN.{replicate}
-use Rattle.answer.specs.Answer.{carriedBy, deciding, exactly, matching, rateMatches, readAnswer, readable, shape, signatureMatches, statuses}
-use Rattle.chip.specs.Step.{byteIn, frameDoes, goodAwaited, goodBegun, goodCollected, goodCore, goodPhase, goodPlaces, goodState, heardByte, reactTo, settled, stepOf, verdictOf}
+use Rattle.dock_answer.specs.Answer.{carriedBy, deciding, exactly, matching, rateMatches, readAnswer, readable, shape, signatureMatches, statuses}
+use Rattle.chip.specs.Step.{byteIn, frameDoes, heardByte, reactTo, settled, stepOf}
+use Rattle.chip_state.specs.Refusals.{goodAwaited, goodBegun, goodCollected, goodCore, goodPhase, goodPlaces, goodState, verdictOf}
 use Rattle.claims_rehearsal.specs.Cable.{cable, exchange, speaks}
 use Rattle.claims_rehearsal.specs.Rehearsal.{finishedAfter, holds, mixed, oldCode, oldData, readyAt, rehearsed, rehearsedData, theChip, theDataImage, theImage}
 use Rattle.dock.specs.Calls.{askOf, asked, freshDock, hearOf, standing, startOf, starting, turning}
-use Rattle.effect.specs.Commands.{askedIn, blankCheck, blockErase, bytesOf, commandDoes, commandsIn, erasedIn, fitted, forbidden, programming, rateSet, readyCommands, setupCommands, verify, work}
-use Rattle.effect.specs.Effect.{number3}
-use Rattle.effect.specs.Pages.{badData, dataDoes, footerOf, goodData, isLastPage, lengthOf, nextPage, pageIn, pageStored, programPage, storedReply, verifyPage}
-use Rattle.flash.specs.Flash.{blank, eraseOf}
-use Rattle.flow.specs.Flow.{afterAnswer, afterHeard, afterSetup, afterStatus, afterWork, blockAt, blockFrom, commandAt, erasing, formAt, frameAt, isBlankCheck, lastPage, next, pageAt, pageFooter, pageOfWork, restart, retried, saysNotBlank, setupForm, setupFrame, setupFrom, workCommand, workForm, workFrame}
+use Rattle.chip_commands.specs.Commands.{askedIn, commandDoes, commandsIn, fitted, readyCommands, setupCommands, work}
+use Rattle.chip_work.specs.Work.{blankCheck, blockErase, bytesOf, erasedIn, forbidden, programming, rateSet, verify}
+use Rattle.chip_core.specs.Effect.{number3}
+use Rattle.chip_pages.specs.Pages.{badData, dataDoes, footerOf, goodData, isLastPage, lengthOf, nextPage, pageIn, pageStored, programPage, storedReply, verifyPage}
+use Rattle.chip_flash.specs.Flash.{blank, eraseOf}
+use Rattle.dock_flow.specs.Flow.{afterAnswer, afterHeard, afterSetup, afterStatus, afterWork, blockAt, blockFrom, commandAt, erasing, formAt, frameAt, isBlankCheck, lastPage, next, pageAt, pageFooter, pageOfWork, restart, retried, saysNotBlank, setupForm, setupFrame, setupFrom, workCommand, workForm, workFrame}
 use Rattle.frame.specs.Collector.{fresh, hear, heard, holding}
 use Rattle.frame.specs.Frame.{complete, counted, framed, full, isFrame}
 use Rattle.frame.specs.Judgement.{fitting, judgeOf, summed}
 use Rattle.frame.specs.Sum.{less, lessAll, sumOf}
 use Rattle.frame.specs.Wire.{readOf}
-use Rattle.job.specs.Job.{areaIn, blocksIn, bound, isOver, setup}
-use Rattle.job.specs.Refusals.{badJob, badState, callVerdict, due, goodBlock, goodDock, goodEnding, goodFailure, goodNamedBlock, goodNamedPage, goodPage, goodStage, goodWork, isBad, outOfTurn, shortRoom, spent}
+use Rattle.dock_job.specs.Job.{areaIn, blocksIn, bound, isOver, setup}
+use Rattle.dock_job.specs.Refusals.{badJob, badState, callVerdict, due, goodBlock, goodDock, goodEnding, goodFailure, goodNamedBlock, goodNamedPage, goodPage, goodStage, goodWork, isBad, outOfTurn, shortRoom, spent}
 use Rattle.lent.specs.Lent.{allAre, putAt, putOf, same}
-use Rattle.options.specs.Options.{fixedBits, freshOptions, goodOptions, lastBlock}
+use Rattle.chip_options.specs.Options.{fixedBits, freshOptions, goodOptions, lastBlock}
 use Rattle.part.specs.Part.{blockOf, blockSize, described, endsBlock, lastOf, liesIn, pageOf, placeIn, placeOf, rangeOf, startsBlock, stretch, wholeBlocks}
 use Rattle.part.specs.Rate.{acceptsRate, modeOf}
 use Rattle.part.specs.Refusal.{firstOf}
 use Rattle.part.specs.Signature.{signature}
-use Rattle.reply.specs.Reply.{framesOf, payloads, sendOf}
+use Rattle.chip_reply.specs.Reply.{framesOf, payloads, sendOf}
 use Rattle.words.specs.Words.{_and_, _from_to_, _or_, if_then_else_}
 
 -- Two blocks that were not blank: 3 + 2 * 12 frames. The chip is ready at the job's rate, the image in place, and all other flash as it was.

@@ -9,11 +9,11 @@ use Rattle.chip.specs.declared.Event.{Event}
 use Rattle.chip.specs.declared.Event.the-variants.{Byte, Gap}
 use Rattle.dock.specs.Calls.{askOf, hearOf}
 use Rattle.dock.specs.declared.Report.{Report}
-use Rattle.dock.specs.declared.Report.the-variants.{Denied, Due, Ended, Put}
-use Rattle.flow.specs.Flow.{answered}
-use Rattle.job.specs.Job.{isOver}
-use Rattle.job.specs.declared.Dock.{Dock}
-use Rattle.job.specs.declared.Job.{Job}
+use Rattle.dock.specs.declared.Report.the-variants.{Due, Ended, Put, Refused}
+use Rattle.dock_flow.specs.Flow.{answered}
+use Rattle.dock_job.specs.Job.{isOver}
+use Rattle.dock_job.specs.declared.Dock.{Dock}
+use Rattle.dock_job.specs.declared.Job.{Job}
 use Rattle.part.specs.declared.Part.{Part}
 use Rattle.words.specs.Words.{if_then_else_}
 
@@ -38,7 +38,7 @@ abbrev pub frameIn : Report → List ℕ → List ℕ
 frameIn Due room = []
 frameIn (Put n) room = take n room
 frameIn (Ended a) room = []
-frameIn (Denied r) room = []
+frameIn (Refused r) room = []
 
 -- One frame and its answer, in the dock's room.
 unfoldable pub exchange : Job → List ℕ → List ℕ → Ends → Ends

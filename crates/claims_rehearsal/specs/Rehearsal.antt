@@ -7,18 +7,18 @@ use Rattle.chip.specs.Run.{before}
 use Rattle.chip.specs.Step.{Outcome}
 use Rattle.claims_rehearsal.specs.Cable.{Ends, cable}
 use Rattle.dock.specs.Calls.{startOf}
-use Rattle.effect.specs.Effect.{Flash, flash}
-use Rattle.effect.specs.declared.Core.{Core}
-use Rattle.effect.specs.declared.Phase.the-variants.{Ready, Setup}
+use Rattle.chip_core.specs.Effect.{Flash, flash}
+use Rattle.chip_core.specs.declared.Core.{Core}
+use Rattle.chip_core.specs.declared.Phase.the-variants.{Ready, Setup}
 use Rattle.frame.specs.Collector.{fresh}
 use Rattle.frame.specs.Framing.{frames}
-use Rattle.job.specs.Job.{bound}
-use Rattle.job.specs.declared.Dock.{Dock}
-use Rattle.job.specs.declared.Ending.the-variants.{Finished}
-use Rattle.job.specs.declared.Job.{Job}
-use Rattle.job.specs.declared.Stage.the-variants.{Over}
+use Rattle.dock_job.specs.Job.{bound}
+use Rattle.dock_job.specs.declared.Dock.{Dock}
+use Rattle.dock_job.specs.declared.Ending.the-variants.{Finished}
+use Rattle.dock_job.specs.declared.Job.{Job}
+use Rattle.dock_job.specs.declared.Stage.the-variants.{Over}
 use Rattle.lent.specs.Lent.{same}
-use Rattle.options.specs.Options.{freshOptions}
+use Rattle.chip_options.specs.Options.{freshOptions}
 use Rattle.part.specs.declared.Part.{Part}
 use Rattle.words.specs.Words.{_and_}
 

@@ -8,30 +8,33 @@ use native.Mathlib.Omega.{arith}
 use lib.ListN.{drop, length, length-append, length-drop, take}
 use lib.Seq.{length-take-le}
 use borrow.Author.Tests.{le-ltb}
-use Rattle.capture.specs.Capture.{carried, recordOf, recordSize, recordsIn, recordsOf}
-use Rattle.capture.specs.declared.Record.{Record}
-use Rattle.capture.specs.declared.Record.the-variants.{BadRecord, BytesRecord, GapRecord}
+use Rattle.replay_capture.specs.Capture.{carried, recordOf, recordSize, recordsIn, recordsOf}
+use Rattle.replay_capture.specs.declared.Record.{Record}
+use Rattle.replay_capture.specs.declared.Record.the-variants.{BadRecord, BytesRecord, GapRecord}
 use Rattle.chip.specs.Run.{answers, before, onward, spokenIn}
 use Rattle.chip.specs.Step.{Outcome}
 use Rattle.chip.specs.declared.Answer.{Answer}
-use Rattle.chip.specs.declared.Answer.the-variants.{Refused, Replied}
-use Rattle.chip.specs.declared.Chip.{Chip}
+use Rattle.chip.specs.declared.Answer.the-variants.{Replied}
+use Rattle.chip.specs.declared.Answer.the-variants as Answer
+use Rattle.chip_state.specs.declared.Chip.{Chip}
 use Rattle.chip.specs.declared.Event.{Event}
 use Rattle.chip.specs.declared.Event.the-variants.{Byte, Gap}
 use Rattle.claims_good.proofs.Rooms.{never-refused}
 use Rattle.claims_good.proofs.Stays.{stays}
 use Rattle.claims_good.proofs.Verdict.{accepted}
 use Rattle.claims_good.specs.Good.{AllAnswered, AllProper, Answered, Proper, Stands, aByte, aGap, andAnswer, andEvent, noEvent}
-use Rattle.effect.specs.Effect.{Flash}
+use Rattle.chip_core.specs.Effect.{Flash}
 use Rattle.frame.proofs.Laws.Sum.{Below, below-drop, below-take, more, none}
 use Rattle.part.specs.declared.Part.{Part}
 use Rattle.part.specs.declared.refusal.Refusal.{Refusal}
-use Rattle.records.proofs.Laws.{goes-replied, turn-fits, turn-keeps}
-use Rattle.records.specs.Records.{Playing, Replaying, Turning, afterTurn, eventsOf, kept, nextBy, outputLeast, played, replayOf, replayedFrom, saying, starting, turnBy, turnOf, turnWith, turnedBy, whileWhole}
-use Rattle.records.specs.declared.Ended.{Ended}
-use Rattle.records.specs.declared.Ended.the-variants.{Halted, Whole}
-use Rattle.records.specs.declared.Turned.{Turned}
-use Rattle.records.specs.declared.Turned.the-variants.{NotGood, Played, Stopped}
+use Rattle.replay_records.proofs.Laws.{goes-replied, turn-fits, turn-keeps}
+use Rattle.replay_records.specs.Records.{Playing, Replaying, Turning, afterTurn, eventsOf, kept, nextBy, outputLeast, played, replayOf, replayedFrom, saying, starting, turnBy, turnOf, turnWith, turnedBy, whileWhole}
+use Rattle.replay_records.specs.declared.Ended.{Ended}
+use Rattle.replay_records.specs.declared.Ended.the-variants.{Whole}
+use Rattle.replay_records.specs.declared.Ended.the-variants as Ended
+use Rattle.replay_records.specs.declared.Turned.{Turned}
+use Rattle.replay_records.specs.declared.Turned.the-variants.{NotGood, Played}
+use Rattle.replay_records.specs.declared.Turned.the-variants as Turned
 use Rattle.words.specs.Words.{if_then_else_}
 
 -- An outcome stands whatever its last answer was.
@@ -55,7 +58,7 @@ pub record Plays (p : Part) (x : Playing) : Type 0 where
 saying-left : (a : Answer) (o : Outcome) (x : Playing) → saying a o x .left ≡ o
 unfolding saying
 saying-left (Replied n k) o x = refl
-saying-left (Refused r) o x = refl
+saying-left (Answer.Refused r) o x = refl
 
 pub plays : (p : Part) (vs : List Event) (x : Playing) → Plays p x → AllProper vs → Plays p (played p vs x)
 unfolding played
@@ -80,13 +83,13 @@ all-bytes (b ∷ bs) (more h r) = andEvent (aByte h) (all-bytes bs r)
 
 -- What a record's turn leaves, where its output suffices.
 pub record Turns (p : Part) (t : Turning) : Type 0 where
-  pub goes : (r : Refusal) → t .turned ≡ Stopped r → ⊥
+  pub goes : (r : Refusal) → t .turned ≡ Turned.Refused r → ⊥
   pub stands : Stands p (before (t .chip) (t .memory) (t .room))
 
-by-goes : (a : Answer) (n k : ℕ) (x : Playing) → a ≡ Replied n k → (r : Refusal) → turnedBy a x ≡ Stopped r → ⊥
+by-goes : (a : Answer) (n k : ℕ) (x : Playing) → a ≡ Replied n k → (r : Refusal) → turnedBy a x ≡ Turned.Refused r → ⊥
 unfolding turnedBy
 by-goes (Replied i j) n k x e r q = let z : _≡_ {A = ℕ} 0 1 = cc in omega arith
-by-goes (Refused s) n k x e r q = let z : _≡_ {A = ℕ} 0 1 = cc in omega arith
+by-goes (Answer.Refused s) n k x e r q = let z : _≡_ {A = ℕ} 0 1 = cc in omega arith
 
 kept-turns : (p : Part) (x : Playing) (output : List ℕ) → Plays p x → Turns p (kept x output)
 unfolding kept
@@ -139,9 +142,9 @@ goes-on p r rs x n k g b e =
       enough = omega (arith, o, g .enough, f .short n k e);
     }
 
-pub replayed-never-halted : (p : Part) (rs : List (List ℕ)) (x : Replaying) → AllBelow rs → Goes p rs x → (q : Refusal) → replayedFrom p rs x .ended ≡ Halted q → ⊥
+pub replayed-never-halted : (p : Part) (rs : List (List ℕ)) (x : Replaying) → AllBelow rs → Goes p rs x → (q : Refusal) → replayedFrom p rs x .ended ≡ Ended.Refused q → ⊥
 unfolding replayedFrom whileWhole nextBy
-replayed-never-halted p [] x noRecord g q h = let z : _≡_ {A = Ended} Whole (Halted q) = sym (g .whole) ∙ h in let y : _≡_ {A = ℕ} 0 1 = cc in omega arith
+replayed-never-halted p [] x noRecord g q h = let z : _≡_ {A = Ended} Whole (Ended.Refused q) = sym (g .whole) ∙ h in let y : _≡_ {A = ℕ} 0 1 = cc in omega arith
 replayed-never-halted p (r ∷ rs) x (andRecord b bs) g q h = go (t .turned) refl (λ y w. replayed-never-halted p rs y bs w q) h
   where
     t : Turning
@@ -150,11 +153,11 @@ replayed-never-halted p (r ∷ rs) x (andRecord b bs) g q h = go (t .turned) ref
     room : outputLeast ≤ length (drop (x .bytes) (x .output))
     room = let w : length (drop (x .bytes) (x .output)) ≡ length (x .output) - x .bytes = length-drop (x .bytes) (x .output) in omega (arith, w, g .enough)
 
-    go : (a : Turned) → t .turned ≡ a → ((y : Replaying) → Goes p rs y → replayedFrom p rs y .ended ≡ Halted q → ⊥)
-        → whileWhole (nextBy a t x .ended) (replayedFrom p rs (nextBy a t x)) (nextBy a t x) .ended ≡ Halted q → ⊥
+    go : (a : Turned) → t .turned ≡ a → ((y : Replaying) → Goes p rs y → replayedFrom p rs y .ended ≡ Ended.Refused q → ⊥)
+        → whileWhole (nextBy a t x .ended) (replayedFrom p rs (nextBy a t x)) (nextBy a t x) .ended ≡ Ended.Refused q → ⊥
     go (Played n k) e rest h = rest (afterTurn Whole 1 n k t x) (goes-on p r rs x n k g b e) h
     go NotGood e rest h = let z : _≡_ {A = ℕ} 0 1 = cc in omega arith
-    go (Stopped s) e rest h = turn-plays p r (x .chip) (x .memory) (x .room) (drop (x .bytes) (x .output)) (g .stands) b room .goes s e
+    go (Turned.Refused s) e rest h = turn-plays p r (x .chip) (x .memory) (x .room) (drop (x .bytes) (x .output)) (g .stands) b room .goes s e
 
 records-below : (most : ℕ) (bs : List ℕ) → Below 256 bs → AllBelow (recordsIn recordSize most bs)
 unfolding recordsIn
@@ -163,7 +166,7 @@ records-below (suc most) [] b = noRecord
 records-below (suc most) (x ∷ bs) b = andRecord (below-take 256 recordSize b) (records-below most (drop recordSize (x ∷ bs)) (below-drop 256 recordSize b))
 
 pub never-halted : (p : Part) (capture : List ℕ) (c : Chip) (m : Flash) (room output : List ℕ) → Stands p (before c m room) → Below 256 capture
-    → outputLeast * length (recordsOf recordSize capture) ≤ length output → (q : Refusal) → replayOf p capture c m room output .ended ≡ Halted q → ⊥
+    → outputLeast * length (recordsOf recordSize capture) ≤ length output → (q : Refusal) → replayOf p capture c m room output .ended ≡ Ended.Refused q → ⊥
 unfolding replayOf recordsOf
 never-halted p capture c m room output s b h q e =
     replayed-never-halted p (recordsIn recordSize (length capture) capture)

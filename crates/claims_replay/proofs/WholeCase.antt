@@ -3,23 +3,25 @@
 use mathlib.Core.List.{List, [], _++_, _∷_}
 use mathlib.Core.Path.{_≡_, refl}
 use Prim.Native.Nat.{ℕ}
-use Rattle.capture.specs.Capture.{bytesRecord, gapRecord, recordOf, recordsIn, recordsOf, unused}
-use Rattle.chip.specs.Step.{byteIn, frameDoes, freshChip, goodBegun, goodCollected, goodCore, goodPhase, goodState, heardByte, modeByte, reactTo, settled, stepOf, verdictOf}
+use Rattle.replay_capture.specs.Capture.{bytesRecord, gapRecord, recordOf, recordsIn, recordsOf, unused}
+use Rattle.chip.specs.Step.{byteIn, frameDoes, freshChip, heardByte, modeByte, reactTo, settled, stepOf}
+use Rattle.chip_state.specs.Refusals.{goodBegun, goodCollected, goodCore, goodPhase, goodState, verdictOf}
 use Rattle.claims_replay.specs.Printed.{digitsIn, lastLine, linesIn, printed}
-use Rattle.effect.specs.Commands.{askedIn, commandDoes, commandsIn, fitted, rateSet, readyCommands, setupCommands, work}
-use Rattle.effect.specs.Effect.{number3}
+use Rattle.chip_commands.specs.Commands.{askedIn, commandDoes, commandsIn, fitted, readyCommands, setupCommands, work}
+use Rattle.chip_work.specs.Work.{rateSet}
+use Rattle.chip_core.specs.Effect.{number3}
 use Rattle.frame.specs.Collector.{fresh, hear, heard, holding}
 use Rattle.frame.specs.Frame.{complete, counted, framed, full, isFrame}
 use Rattle.frame.specs.Judgement.{judgeOf, summed}
 use Rattle.frame.specs.Sum.{less, lessAll, sumOf}
-use Rattle.hex.specs.Hex.{digitOf, lineOf, separator}
+use Rattle.replay_hex.specs.Hex.{digitOf, lineOf, separator}
 use Rattle.lent.specs.Lent.{allAre}
-use Rattle.options.specs.Options.{fixedBits, freshOptions, goodOptions, lastBlock, security}
+use Rattle.chip_options.specs.Options.{fixedBits, freshOptions, goodOptions, lastBlock, security}
 use Rattle.part.specs.Part.{blockSize, described}
 use Rattle.part.specs.Rate.{acceptsRate, modeOf}
 use Rattle.part.specs.Refusal.{firstOf}
-use Rattle.records.specs.Records.{eventsOf, goesOn, kept, nextBy, played, replayOf, replayedFrom, saying, turnBy, turnOf, turnWith, turnedBy, whileWhole}
-use Rattle.reply.specs.Reply.{framesOf, payloads, sendOf}
+use Rattle.replay_records.specs.Records.{eventsOf, goesOn, kept, nextBy, played, replayOf, replayedFrom, saying, turnBy, turnOf, turnWith, turnedBy, whileWhole}
+use Rattle.chip_reply.specs.Reply.{framesOf, payloads, sendOf}
 use Rattle.words.specs.Words.{_and_, _from_to_, _or_, if_then_else_}
 
 abbrev pub wholeCase : List ℕ

@@ -4,12 +4,12 @@ use Prim.Native.Nat.{_%_, _*_, _+_, _/_, suc, zero, ℕ}
 use lib.Dec.{ltb}
 use lib.ListN.{drop, getD, length, replicate, take}
 use Rattle.chip.specs.Step.{freshChip}
-use Rattle.effect.specs.Effect.{flash}
+use Rattle.chip_core.specs.Effect.{flash}
 use Rattle.frame.specs.Frame.{counted}
-use Rattle.hex.specs.Hex.{lineOf}
-use Rattle.records.specs.Records.{Replaying, outputLeast, replayOf, replayPart}
-use Rattle.records.specs.declared.Ended.{Ended}
-use Rattle.records.specs.declared.Ended.the-variants.{AtBadRecord, Halted, Whole}
+use Rattle.replay_hex.specs.Hex.{lineOf}
+use Rattle.replay_records.specs.Records.{Replaying, outputLeast, replayOf, replayPart}
+use Rattle.replay_records.specs.declared.Ended.{Ended}
+use Rattle.replay_records.specs.declared.Ended.the-variants.{AtBadRecord, Refused, Whole}
 use Rattle.words.specs.Words.{if_then_else_}
 
 -- "Each reply frame is one line of hex": frames end to end, cut by their LEN bytes. (No frames are more than their bytes.)
@@ -35,7 +35,7 @@ decimal n = digitsIn (suc n) n
 unfoldable pub lastLine : Replaying → Ended → List ℕ
 lastLine x Whole = 0x45 ∷ 0x4E ∷ 0x44 ∷ 0x20 ∷ decimal (x .frames) ++ 0x0A ∷ []
 lastLine x AtBadRecord = 0x42 ∷ 0x41 ∷ 0x44 ∷ 0x20 ∷ decimal (x .records) ++ 0x0A ∷ []
-lastLine x (Halted r) = []
+lastLine x (Refused r) = []
 
 -- "The chip has 16 code and 4 data blocks, clock 32, all fresh." The output has room for every record's replies.
 abbrev pub freshReplay : List ℕ → Replaying

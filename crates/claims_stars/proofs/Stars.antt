@@ -3,20 +3,22 @@
 use mathlib.Core.List.{map}
 use mathlib.Core.Path.{_≡_, refl}
 use Rattle.chip.specs.Run.{answers, heardBack}
-use Rattle.chip.specs.Step.{byteIn, frameDoes, goodBegun, goodCollected, goodCore, goodPhase, goodState, heardByte, reactTo, settled, stepOf, verdictOf}
+use Rattle.chip.specs.Step.{byteIn, frameDoes, heardByte, reactTo, settled, stepOf}
+use Rattle.chip_state.specs.Refusals.{goodBegun, goodCollected, goodCore, goodPhase, goodState, verdictOf}
 use Rattle.claims_stars.specs.Table.{Example, replyTo, table}
-use Rattle.effect.specs.Commands.{askedIn, blockErase, bytesOf, checksum, commandDoes, commandsIn, erasedIn, fitted, forbidden, readyCommands, work}
-use Rattle.effect.specs.Effect.{number3}
-use Rattle.flash.specs.Flash.{eraseOf, sumOfBytes}
+use Rattle.chip_commands.specs.Commands.{askedIn, commandDoes, commandsIn, fitted, readyCommands, work}
+use Rattle.chip_work.specs.Work.{blockErase, bytesOf, checksum, erasedIn, forbidden}
+use Rattle.chip_core.specs.Effect.{number3}
+use Rattle.chip_flash.specs.Flash.{eraseOf, sumOfBytes}
 use Rattle.frame.specs.Collector.{fresh, hear, heard, holding}
 use Rattle.frame.specs.Frame.{complete, counted, framed, full, isFrame}
 use Rattle.frame.specs.Judgement.{judgeOf, summed}
 use Rattle.frame.specs.Sum.{less, lessAll, sumOf}
 use Rattle.lent.specs.Lent.{putAt, putOf}
-use Rattle.options.specs.Options.{fixedBits, freshOptions, goodOptions, lastBlock}
+use Rattle.chip_options.specs.Options.{fixedBits, freshOptions, goodOptions, lastBlock}
 use Rattle.part.specs.Part.{blockOf, blockSize, described, endsBlock, liesIn, pageOf, placeIn, placeOf, rangeOf, startsBlock, stretch, wholeBlocks}
 use Rattle.part.specs.Refusal.{firstOf}
-use Rattle.reply.specs.Reply.{framesOf, payloads, sendOf}
+use Rattle.chip_reply.specs.Reply.{framesOf, payloads, sendOf}
 use Rattle.words.specs.Words.{_and_, _from_to_, _or_, if_then_else_}
 
 pub stars : map (λ (x : Example). x .gives) table ≡ map (λ (x : Example). x .printed) table

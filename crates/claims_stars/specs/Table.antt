@@ -5,15 +5,15 @@ use lib.ListN.{replicate}
 use Rattle.chip.specs.Run.{answers, before, heardBack}
 use Rattle.chip.specs.Step.{Outcome}
 use Rattle.chip.specs.declared.Event.the-variants.{Byte}
-use Rattle.effect.specs.Effect.{flash}
-use Rattle.effect.specs.declared.Phase.the-variants.{Ready}
+use Rattle.chip_core.specs.Effect.{flash}
+use Rattle.chip_core.specs.declared.Phase.the-variants.{Ready}
 use Rattle.frame.specs.Collector.{fresh}
 use Rattle.frame.specs.Judgement.{judgeOf, statusOf}
 use Rattle.frame.specs.Sum.{sumOf}
 use Rattle.frame.specs.declared.Footer.the-variants.{Last}
-use Rattle.options.specs.Options.{freshOptions}
+use Rattle.chip_options.specs.Options.{freshOptions}
 use Rattle.part.specs.declared.Part.{Part}
-use Rattle.records.specs.Records.{replayPart}
+use Rattle.replay_records.specs.Records.{replayPart}
 
 -- "Examples, on that part": the part of the replay.
 abbrev pub thePart : Part

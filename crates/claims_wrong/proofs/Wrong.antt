@@ -8,10 +8,11 @@ use native.Mathlib.Omega.{arith}
 use lib.ListN.{getD}
 use denote.Ref.{now}
 use Rattle.chip.specs.Run.{answers}
-use Rattle.chip.specs.Step.{Outcome, byteIn, frameDoes, goodAwaited, goodBegun, goodCollected, goodCore, goodPhase, goodPlaces, goodState, heardByte, reactTo, settled, stepOf, verdictOf}
+use Rattle.chip.specs.Step.{Outcome, byteIn, frameDoes, heardByte, reactTo, settled, stepOf}
+use Rattle.chip_state.specs.Refusals.{goodAwaited, goodBegun, goodCollected, goodCore, goodPhase, goodPlaces, goodState, verdictOf}
 use Rattle.chip.specs.declared.Answer.{Answer}
 use Rattle.chip.specs.declared.Answer.the-variants.{Refused, Replied}
-use Rattle.chip.specs.declared.Chip.{Chip}
+use Rattle.chip_state.specs.declared.Chip.{Chip}
 use Rattle.chip.specs.declared.Event.{Event}
 use Rattle.chip.specs.declared.Event.the-variants.{Byte}
 use Rattle.claims_good.proofs.Rooms.{same-alike}
@@ -22,23 +23,24 @@ use Rattle.claims_noise.specs.Examples.{secondPage, writingChip, wrongPage}
 use Rattle.claims_noise.specs.Noise.{thenGap}
 use Rattle.claims_stars.specs.Table.{readyChip, thePart}
 use Rattle.claims_wrong.specs.Wrong.{Differs, MeetsDemand2, alwaysAcknowledges, deaf, eraseChip, kept, pageChip, resetChip, saying, says15hToAll, saysAlways, storesNothing, storesOnly, storesTheFirstPage}
-use Rattle.effect.specs.Commands.{askedIn, blockErase, commandDoes, commandsIn, fitted, readyCommands, work}
-use Rattle.effect.specs.Effect.{number3}
-use Rattle.effect.specs.Pages.{dataDoes, footerOf, goodData, isLastPage, lengthOf, nextPage, pageIn, pageStored, programPage, storedReply}
-use Rattle.effect.specs.declared.Awaited.{Awaited}
-use Rattle.effect.specs.declared.Core.{Core}
-use Rattle.effect.specs.declared.Phase.the-variants.{Awaiting, Ready}
-use Rattle.flash.specs.Flash.{blank}
+use Rattle.chip_commands.specs.Commands.{askedIn, commandDoes, commandsIn, fitted, readyCommands, work}
+use Rattle.chip_work.specs.Work.{blockErase}
+use Rattle.chip_core.specs.Effect.{number3}
+use Rattle.chip_pages.specs.Pages.{dataDoes, footerOf, goodData, isLastPage, lengthOf, nextPage, pageIn, pageStored, programPage, storedReply}
+use Rattle.chip_core.specs.declared.Awaited.{Awaited}
+use Rattle.chip_core.specs.declared.Core.{Core}
+use Rattle.chip_core.specs.declared.Phase.the-variants.{Awaiting, Ready}
+use Rattle.chip_flash.specs.Flash.{blank}
 use Rattle.frame.specs.Collector.{fresh, hear, heard, holding}
 use Rattle.frame.specs.Frame.{complete, counted, framed, full, isFrame}
 use Rattle.frame.specs.Judgement.{fitting, judgeOf, summed}
 use Rattle.frame.specs.Sum.{less, lessAll, sumOf}
 use Rattle.lent.specs.Lent.{allAre, putAt, putOf}
-use Rattle.options.specs.Options.{fixedBits, freshOptions, goodOptions, lastBlock}
+use Rattle.chip_options.specs.Options.{fixedBits, freshOptions, goodOptions, lastBlock}
 use Rattle.part.specs.Part.{blockOf, blockSize, described, liesIn, pageOf, placeIn, placeOf}
 use Rattle.part.specs.Refusal.{firstOf}
 use Rattle.part.specs.declared.Part.{Part}
-use Rattle.reply.specs.Reply.{framesOf, payloads, said, sendOf}
+use Rattle.chip_reply.specs.Reply.{framesOf, payloads, said, sendOf}
 use Rattle.words.specs.Words.{_and_, _from_to_, _or_, if_then_else_}
 
 -- Nothing that a deaf chip hears changes it, and it says the same to everything.

@@ -9,18 +9,18 @@ use lib.ListN.{drop, replicate}
 use Rattle.chip.specs.Step.{Outcome, stepOf}
 use Rattle.chip.specs.declared.Answer.{Answer}
 use Rattle.chip.specs.declared.Answer.the-variants.{Refused, Replied}
-use Rattle.chip.specs.declared.Chip.{Chip}
+use Rattle.chip_state.specs.declared.Chip.{Chip}
 use Rattle.chip.specs.declared.Event.{Event}
 use Rattle.claims_noise.specs.Claims.{Machine}
 use Rattle.claims_stars.specs.Table.{readyChip, thePart}
-use Rattle.effect.specs.Effect.{Flash}
-use Rattle.effect.specs.declared.Awaited.{Awaited}
-use Rattle.effect.specs.declared.Phase.{Phase}
-use Rattle.effect.specs.declared.Phase.the-variants.{Awaiting, ModeByte, Ready, Setup}
+use Rattle.chip_core.specs.Effect.{Flash}
+use Rattle.chip_core.specs.declared.Awaited.{Awaited}
+use Rattle.chip_core.specs.declared.Phase.{Phase}
+use Rattle.chip_core.specs.declared.Phase.the-variants.{Awaiting, ModeByte, Ready, Setup}
 use Rattle.frame.specs.Collector.{fresh, holding}
 use Rattle.frame.specs.Frame.{dataFrame}
 use Rattle.frame.specs.declared.Footer.the-variants.{Last}
-use Rattle.options.specs.Options.{freshOptions}
+use Rattle.chip_options.specs.Options.{freshOptions}
 use Rattle.part.specs.declared.Part.{Part}
 use Rattle.words.specs.Words.{if_then_else_}
 

@@ -7,7 +7,7 @@ use native.Mathlib.Omega.{arith}
 use lib.ListN.{drop, length, length-drop, take}
 use lib.Seq.{length-take-le}
 use Rattle.dock.specs.Calls.{placed, placing}
-use Rattle.flow.specs.Flow.{pageBytes, pageFooter}
+use Rattle.dock_flow.specs.Flow.{pageBytes, pageFooter}
 use Rattle.frame.proofs.Laws.Wire.{framed-long, laid-lands}
 use Rattle.frame.specs.Frame.{dataFrame, framed}
 use Rattle.frame.specs.Wire.{writeOf, wrote}
@@ -15,8 +15,8 @@ use Rattle.frame.specs.declared.Footer.{Footer}
 use Rattle.frame.specs.declared.Header.{Header}
 use Rattle.frame.specs.declared.Header.the-variants.{Data}
 use Rattle.frame.specs.declared.wire.Wrote.{Wrote}
-use Rattle.job.specs.Job.{lengthOf, sizeOf}
-use Rattle.job.specs.declared.Job.{Job}
+use Rattle.dock_job.specs.Job.{lengthOf, sizeOf}
+use Rattle.dock_job.specs.declared.Job.{Job}
 use Rattle.part.specs.Part.{pageSize}
 
 -- A frame that was written lies at the room's start.

@@ -5,20 +5,22 @@ use mathlib.Core.List.{List, _++_}
 use Prim.Native.Nat.{_+_, ℕ}
 use lib.ListN.{drop, length}
 use Rattle.dock.specs.declared.Report.{Report}
-use Rattle.dock.specs.declared.Report.the-variants.{Denied, Due, Ended, Put}
+use Rattle.dock.specs.declared.Report.the-variants.{Due, Ended, Put}
+use Rattle.dock.specs.declared.Report.the-variants as Report
 use Rattle.dock.specs.declared.Stepped.{Stepped}
-use Rattle.flow.specs.Flow.{Heard, afterHeard, frameAt, setupFrom}
-use Rattle.flow.specs.declared.Turned.{Turned}
+use Rattle.dock_flow.specs.Flow.{Heard, afterHeard, frameAt, setupFrom}
+use Rattle.dock_flow.specs.declared.Turned.{Turned}
 use Rattle.frame.specs.Framing.{frames}
-use Rattle.job.specs.Job.{setup}
-use Rattle.job.specs.Refusals.{callVerdict}
-use Rattle.job.specs.declared.Dock.{Dock}
-use Rattle.job.specs.declared.Job.{Job}
-use Rattle.job.specs.declared.Stage.{Stage}
-use Rattle.job.specs.declared.Stage.the-variants.{InBlock, Over, SetUp}
-use Rattle.job.specs.declared.refusals.Call.the-variants.{Asks, Begins, Tells}
+use Rattle.dock_job.specs.Job.{setup}
+use Rattle.dock_job.specs.Refusals.{callVerdict}
+use Rattle.dock_job.specs.declared.Dock.{Dock}
+use Rattle.dock_job.specs.declared.Job.{Job}
+use Rattle.dock_job.specs.declared.Stage.{Stage}
+use Rattle.dock_job.specs.declared.Stage.the-variants.{InBlock, Over, SetUp}
+use Rattle.dock_job.specs.declared.refusals.Call.the-variants.{Asks, Begins, Tells}
 use Rattle.part.specs.declared.refusal.Verdict.{Verdict}
-use Rattle.part.specs.declared.refusal.Verdict.the-variants.{Accepted, Barred}
+use Rattle.part.specs.declared.refusal.Verdict.the-variants.{Accepted}
+use Rattle.part.specs.declared.refusal.Verdict.the-variants as Verdict
 
 -- How a dock stands: a frame is due, or the job ended, with the frames and retries used. "Frames and retries used are numbers in the result"
 unfoldable pub standing : Stage → Dock → Report
@@ -34,7 +36,7 @@ unfoldable pub freshDock : Job → Dock
 freshDock j = record { stage = setupFrom j setup; awaited = false; retries = 0; frames = 0 }
 
 unfoldable pub starting : Verdict → Dock → Stepped
-starting (Barred r) d = stepped (Denied r) d
+starting (Verdict.Refused r) d = stepped (Report.Refused r) d
 starting Accepted d = stepped Due d
 
 unfoldable pub startOf : Job → List ℕ → Stepped
@@ -65,7 +67,7 @@ abbrev pub placing : List ℕ → List ℕ → Placed
 placing f room = placed (length f) (f ++ drop (length f) room)
 
 unfoldable pub asked : Verdict → Placed → Dock → List ℕ → Asking
-asked (Barred r) f d room = asking (stepped (Denied r) d) room
+asked (Verdict.Refused r) f d room = asking (stepped (Report.Refused r) d) room
 asked Accepted f d room = asking (stepped (Put (f .long)) (sending d)) (f .room)
 
 unfoldable pub askOf : Job → List ℕ → Dock → List ℕ → Asking
@@ -76,7 +78,7 @@ abbrev pub moved : Dock → Turned → Dock
 moved d t = record { stage = t .stage; awaited = false; retries = d .retries + t .spent; frames = d .frames }
 
 unfoldable pub turning : Verdict → Dock → Turned → Stepped
-turning (Barred r) d t = stepped (Denied r) d
+turning (Verdict.Refused r) d t = stepped (Report.Refused r) d
 turning Accepted d t = stepped (standing (t .stage) (moved d t)) (moved d t)
 
 unfoldable pub hearOf : Job → List ℕ → Dock → Heard → Stepped

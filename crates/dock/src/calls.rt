@@ -2,19 +2,19 @@
 ghost use mathlib.Core.Path.{_≡_};
 ghost use Prim.Native.Nat.{_+_, _<_, _^_};
 ghost use Rattle.part.specs.declared.refusal.Verdict.the-variants.{Accepted};
-ghost use Rattle.flow.specs.Flow.{answered, silence};
+ghost use Rattle.dock_flow.specs.Flow.{answered, silence};
 ghost use Rattle.dock.specs.Calls.{startOf, asking, askOf, hearOf, standing, turning};
 use super::Account;
 use super::Report;
 use super::Stepped;
 use super::frames;
-use flow::Turned;
-use job::Dock;
-use job::Job;
-use job::Setup;
-use job::Stage;
-use job::refusals;
-use job::refusals::Call;
+use dock_flow::Turned;
+use dock_job::Dock;
+use dock_job::Job;
+use dock_job::Setup;
+use dock_job::Stage;
+use dock_job::refusals;
+use dock_job::refusals::Call;
 use part::refusal::Verdict;
 
 // A dock before its first frame.
@@ -29,8 +29,8 @@ pub fn start(job: Job, image: &[u8]) -> Stepped
         frames: 0,
     };
     match v {
-        Verdict::Barred(refusal) => Stepped {
-            report: Report::Denied(refusal),
+        Verdict::Refused(refusal) => Stepped {
+            report: Report::Refused(refusal),
             dock,
         },
         Verdict::Accepted => Stepped {
@@ -53,8 +53,8 @@ pub fn ask(job: Job, image: &[u8], dock: Dock, room: &mut [u8]) -> Stepped
         },
     );
     match v {
-        Verdict::Barred(refusal) => Stepped {
-            report: Report::Denied(refusal),
+        Verdict::Refused(refusal) => Stepped {
+            report: Report::Refused(refusal),
             dock,
         },
         Verdict::Accepted => {
@@ -110,16 +110,19 @@ pub fn answer(job: Job, image: &[u8], dock: Dock, bytes: &[u8]) -> Stepped
 {
     let v = refusals::verdict(job, image.len(), Call::Tells(dock));
     match v {
-        Verdict::Barred(refusal) => Stepped {
-            report: Report::Denied(refusal),
+        Verdict::Refused(refusal) => Stepped {
+            report: Report::Refused(refusal),
             dock,
         },
         Verdict::Accepted => {
             let stage = dock.stage;
-            let form = flow::form_at(job, stage);
+            let form = dock_flow::form_at(job, stage);
             let part = job.part;
-            let decoded = answer::read(part, job.supply, form, bytes);
-            moved(dock, flow::after_answer(job, dock.retries, stage, decoded))
+            let decoded = dock_answer::read(part, job.supply, form, bytes);
+            moved(
+                dock,
+                dock_flow::after_answer(job, dock.retries, stage, decoded),
+            )
         }
     }
 }
@@ -130,13 +133,13 @@ pub fn timeout(job: Job, image: &[u8], dock: Dock) -> Stepped
 {
     let v = refusals::verdict(job, image.len(), Call::Tells(dock));
     match v {
-        Verdict::Barred(refusal) => Stepped {
-            report: Report::Denied(refusal),
+        Verdict::Refused(refusal) => Stepped {
+            report: Report::Refused(refusal),
             dock,
         },
         Verdict::Accepted => {
             let stage = dock.stage;
-            moved(dock, flow::after_timeout(stage))
+            moved(dock, dock_flow::after_timeout(stage))
         }
     }
 }

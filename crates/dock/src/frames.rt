@@ -1,22 +1,21 @@
 // The frame of a stage, put into the room. Document 01, "The dock's flow".
 ghost use mathlib.Core.Path.{_≡_};
 ghost use mathlib.Core.Bool.{true};
-ghost use mathlib.Core.List.{[], _∷_, _++_};
 ghost use Prim.Native.Nat.{_+_, _*_, _≤_};
 ghost use lib.ListN.{length};
 ghost use Rattle.part.specs.Rate.{acceptsRate};
 ghost use Rattle.frame.specs.Frame.{commandFrame, dataFrame};
-ghost use Rattle.job.specs.Job.{lengthOf, sizeOf};
+ghost use Rattle.dock_job.specs.Job.{lengthOf, sizeOf};
 ghost use Rattle.part.specs.Part.{addressBytes, pageSize};
-ghost use Rattle.job.specs.Refusals.{goodBlock, goodPage, goodWork, goodStage};
-ghost use Rattle.flow.specs.Flow.{firstOfBlock, blockRange, pageBytes, pageFooter, setupFrame, workFrame, frameAt};
+ghost use Rattle.dock_job.specs.Refusals.{goodBlock, goodPage, goodWork, goodStage};
+ghost use Rattle.dock_flow.specs.Flow.{firstOfBlock, blockRange, pageBytes, pageFooter, setupFrame, workFrame, frameAt};
 ghost use Rattle.dock.specs.Calls.{placed, placing};
+use dock_job::Job;
+use dock_job::Setup;
+use dock_job::Stage;
+use dock_job::Work;
 use frame::Footer;
 use frame::wire;
-use job::Job;
-use job::Setup;
-use job::Stage;
-use job::Work;
 
 fn address(n: usize) -> [u8; 3]
     ensures { λ r. ⌜ r ≡ addressBytes n ⌝ }
@@ -52,7 +51,7 @@ fn block_range(job: Job, block: u32) -> [u8; 6]
 fn page_footer(job: Job, page: u32) -> Footer
     ensures { λ r. ⌜ r ≡ pageFooter job page ⌝ }
 {
-    if flow::is_last_page(job, page) {
+    if dock_flow::is_last_page(job, page) {
         return Footer::Last;
     }
     Footer::More

@@ -1,6 +1,6 @@
 // The dock: a job and answers in, the next frame out, and an account of how it ended. Document 01, "The dock's flow". The calls stand in `calls`.
-use job::Dock;
-use job::Ending;
+use dock_job::Dock;
+use dock_job::Ending;
 use part::refusal::Refusal;
 
 pub mod calls;
@@ -18,7 +18,7 @@ pub enum Report {
     Due,
     Put(usize),
     Ended(Account),
-    Denied(Refusal),
+    Refused(Refusal),
 }
 
 pub struct Stepped {

@@ -10,13 +10,13 @@ use borrow.Author.Tests.{eqb-true}
 use Rattle.dock_door.specs.Calls.{admission, holding}
 use Rattle.dock_door.specs.Layout.{dockSize, isDock, isNamed, layoutWith, named}
 use Rattle.dock_door.specs.declared.Flat.{Flat}
-use Rattle.job.specs.Refusals.{callVerdict}
-use Rattle.job.specs.declared.Job.{Job}
-use Rattle.job.specs.declared.refusals.Call.the-variants.{Begins}
-use Rattle.layout.specs.Layout.{little}
+use Rattle.dock_job.specs.Refusals.{callVerdict}
+use Rattle.dock_job.specs.declared.Job.{Job}
+use Rattle.dock_job.specs.declared.refusals.Call.the-variants.{Begins}
+use Rattle.numbers.specs.Numbers.{little}
 use Rattle.part.specs.declared.refusal.Refusal.the-variants.{BadState}
 use Rattle.part.specs.declared.refusal.Verdict.{Verdict}
-use Rattle.part.specs.declared.refusal.Verdict.the-variants.{Accepted, Barred}
+use Rattle.part.specs.declared.refusal.Verdict.the-variants.{Accepted, Refused}
 use Rattle.words.proofs.Laws.{and-left}
 use Rattle.words.specs.Words.{if_then_else_}
 
@@ -31,14 +31,14 @@ unfolding layoutWith little
 layout-is f awaited retries frames r k b p m n x y g h i j l o q s = rw (g, h, j, i, o, l, q, s)
 
 -- A call that is admitted has bytes that are a state.
-held : (t : Bool) → (if t then Accepted else Barred BadState) ≡ Accepted → t ≡ true
+held : (t : Bool) → (if t then Accepted else Refused BadState) ≡ Accepted → t ≡ true
 unfolding if_then_else_
 held true e = refl
 held false e = absurd (let z : _≡_ {A = ℕ} 0 1 = cc in omega arith)
 
 holds : (v : Verdict) (state : List ℕ) → holding v state ≡ Accepted → isDock state ≡ true
 unfolding holding
-holds (Barred r) state e = absurd (let z : _≡_ {A = ℕ} 0 1 = cc in omega arith)
+holds (Refused r) state e = absurd (let z : _≡_ {A = ℕ} 0 1 = cc in omega arith)
 holds Accepted state e = held (isDock state) e
 
 pub admitted : (j : Job) (image : ℕ) (state : List ℕ) → admission j image state ≡ Accepted → isDock state ≡ true

@@ -6,20 +6,22 @@ use lib.Dec.{eqb}
 use lib.ListN.{length}
 use Rattle.dock.specs.Calls.{askOf, hearOf, startOf}
 use Rattle.dock.specs.declared.Report.{Report}
-use Rattle.dock.specs.declared.Report.the-variants.{Denied, Due, Ended, Put}
+use Rattle.dock.specs.declared.Report.the-variants.{Due, Ended, Put}
+use Rattle.dock.specs.declared.Report.the-variants as Report
 use Rattle.dock.specs.declared.Stepped.{Stepped}
 use Rattle.dock_door.specs.Layout.{causeNumber, dockIn, dockSize, isDock, layoutOf}
-use Rattle.flow.specs.Flow.{Heard}
-use Rattle.job.specs.Refusals.{callVerdict}
-use Rattle.job.specs.declared.Ending.{Ending}
-use Rattle.job.specs.declared.Ending.the-variants.{Failed, Finished}
-use Rattle.job.specs.declared.Job.{Job}
-use Rattle.job.specs.declared.refusals.Call.the-variants.{Begins}
-use Rattle.layout.specs.Layout.{partOf}
+use Rattle.dock_flow.specs.Flow.{Heard}
+use Rattle.dock_job.specs.Refusals.{callVerdict}
+use Rattle.dock_job.specs.declared.Ending.{Ending}
+use Rattle.dock_job.specs.declared.Ending.the-variants.{Failed, Finished}
+use Rattle.dock_job.specs.declared.Job.{Job}
+use Rattle.dock_job.specs.declared.refusals.Call.the-variants.{Begins}
+use Rattle.part.specs.Crossing.{partOf}
 use Rattle.part.specs.Refusal.{number}
 use Rattle.part.specs.declared.refusal.Refusal.the-variants.{BadState}
 use Rattle.part.specs.declared.refusal.Verdict.{Verdict}
-use Rattle.part.specs.declared.refusal.Verdict.the-variants.{Accepted, Barred}
+use Rattle.part.specs.declared.refusal.Verdict.the-variants.{Accepted}
+use Rattle.part.specs.declared.refusal.Verdict.the-variants as Verdict
 use Rattle.words.specs.Words.{if_then_else_}
 
 -- A job: a part as it crosses, and five numbers.
@@ -29,8 +31,8 @@ jobOf codes extras clock names start end rate supply retries =
 
 -- "for the dock: 1, 5, 6, 7, 9, 4, 8": what bars a call before the dock is asked. The job's refusals come first, then bytes that are no state.
 unfoldable pub holding : Verdict → List ℕ → Verdict
-holding (Barred r) state = Barred r
-holding Accepted state = if isDock state then Accepted else Barred BadState
+holding (Verdict.Refused r) state = Verdict.Refused r
+holding Accepted state = if isDock state then Accepted else Verdict.Refused BadState
 
 unfoldable pub admission : Job → ℕ → List ℕ → Verdict
 admission j image state = holding (callVerdict j image Begins) state
@@ -41,13 +43,13 @@ unfoldable pub refusalNumber : Report → ℕ
 refusalNumber Due = 0
 refusalNumber (Put n) = 0
 refusalNumber (Ended a) = 0
-refusalNumber (Denied r) = number r
+refusalNumber (Report.Refused r) = number r
 
 unfoldable pub bytesPut : Report → ℕ
 bytesPut Due = 0
 bytesPut (Put n) = n
 bytesPut (Ended a) = 0
-bytesPut (Denied r) = 0
+bytesPut (Report.Refused r) = 0
 
 unfoldable pub endingNumber : Ending → ℕ
 endingNumber Finished = 1
@@ -57,19 +59,19 @@ unfoldable pub endedNumber : Report → ℕ
 endedNumber Due = 0
 endedNumber (Put n) = 0
 endedNumber (Ended a) = endingNumber (a .ending)
-endedNumber (Denied r) = 0
+endedNumber (Report.Refused r) = 0
 
 unfoldable pub framesUsed : Report → ℕ
 framesUsed Due = 0
 framesUsed (Put n) = 0
 framesUsed (Ended a) = a .frames
-framesUsed (Denied r) = 0
+framesUsed (Report.Refused r) = 0
 
 unfoldable pub retriesUsed : Report → ℕ
 retriesUsed Due = 0
 retriesUsed (Put n) = 0
 retriesUsed (Ended a) = a .retries
-retriesUsed (Denied r) = 0
+retriesUsed (Report.Refused r) = 0
 
 -- To start: 9 for lent bytes that no state fits in.
 pub record StartTold : Type 0 where
@@ -80,7 +82,7 @@ abbrev pub startTold : ℕ → List ℕ → StartTold
 startTold n state = record { refusal = n; state = state }
 
 unfoldable pub startedBy : Verdict → Stepped → List ℕ → StartTold
-startedBy (Barred r) s state = startTold (number r) state
+startedBy (Verdict.Refused r) s state = startTold (number r) state
 startedBy Accepted s state = if eqb (length state) dockSize then startTold 0 (layoutOf (s .dock)) else startTold (number BadState) state
 
 unfoldable pub startThrough : Job → List ℕ → List ℕ → StartTold
@@ -97,7 +99,7 @@ abbrev pub askTold : ℕ → ℕ → List ℕ → List ℕ → AskTold
 askTold n bytes state room = record { refusal = n; bytes = bytes; state = state; room = room }
 
 unfoldable pub askedBy : Verdict → Job → List ℕ → List ℕ → List ℕ → AskTold
-askedBy (Barred r) j image state room = askTold (number r) 0 state room
+askedBy (Verdict.Refused r) j image state room = askTold (number r) 0 state room
 askedBy Accepted j image state room =
     let a = askOf j image (dockIn state) room in
     askTold (refusalNumber (a .report)) (bytesPut (a .report)) (layoutOf (a .dock)) (a .room)
@@ -120,7 +122,7 @@ unfoldable pub toldOf : Stepped → HearTold
 toldOf s = hearTold (refusalNumber (s .report)) (endedNumber (s .report)) (framesUsed (s .report)) (retriesUsed (s .report)) (layoutOf (s .dock))
 
 unfoldable pub heardBy : Verdict → Job → List ℕ → List ℕ → Heard → HearTold
-heardBy (Barred r) j image state h = hearTold (number r) 0 0 0 state
+heardBy (Verdict.Refused r) j image state h = hearTold (number r) 0 0 0 state
 heardBy Accepted j image state h = toldOf (hearOf j image (dockIn state) h)
 
 unfoldable pub hearThrough : Job → List ℕ → List ℕ → Heard → HearTold

@@ -5,20 +5,20 @@ use Prim.Native.Nat.{ℕ}
 use lib.Dec.{eqb, ltb}
 use lib.ListN.{getD, length}
 use Rattle.dock_door.specs.declared.Flat.{Flat}
-use Rattle.job.specs.declared.Cause.{Cause}
-use Rattle.job.specs.declared.Cause.the-variants.{Mismatch, TimedOut, UnexpectedStatus, Unreadable}
-use Rattle.job.specs.declared.Dock.{Dock}
-use Rattle.job.specs.declared.Ending.{Ending}
-use Rattle.job.specs.declared.Ending.the-variants.{Failed, Finished}
-use Rattle.job.specs.declared.Named.{Named}
-use Rattle.job.specs.declared.Named.the-variants.{It, Unnamed}
-use Rattle.job.specs.declared.Setup.{Setup}
-use Rattle.job.specs.declared.Setup.the-variants.{BaudRate, ResetChip, SiliconSignature}
-use Rattle.job.specs.declared.Stage.{Stage}
-use Rattle.job.specs.declared.Stage.the-variants.{InBlock, Over, SetUp}
-use Rattle.job.specs.declared.Work.{Work}
-use Rattle.job.specs.declared.Work.the-variants.{Blank, Erase, Program, ProgramPage, VerifyBlock, VerifyPage}
-use Rattle.layout.specs.Layout.{little, numberAt}
+use Rattle.dock_job.specs.declared.Cause.{Cause}
+use Rattle.dock_job.specs.declared.Cause.the-variants.{Mismatch, TimedOut, UnexpectedStatus, Unreadable}
+use Rattle.dock_job.specs.declared.Dock.{Dock}
+use Rattle.dock_job.specs.declared.Ending.{Ending}
+use Rattle.dock_job.specs.declared.Ending.the-variants.{Failed, Finished}
+use Rattle.dock_job.specs.declared.Named.{Named}
+use Rattle.dock_job.specs.declared.Named.the-variants.{It, Unnamed}
+use Rattle.dock_job.specs.declared.Setup.{Setup}
+use Rattle.dock_job.specs.declared.Setup.the-variants.{BaudRate, ResetChip, SiliconSignature}
+use Rattle.dock_job.specs.declared.Stage.{Stage}
+use Rattle.dock_job.specs.declared.Stage.the-variants.{InBlock, Over, SetUp}
+use Rattle.dock_job.specs.declared.Work.{Work}
+use Rattle.dock_job.specs.declared.Work.the-variants.{Blank, Erase, Program, ProgramPage, VerifyBlock, VerifyPage}
+use Rattle.numbers.specs.Numbers.{little, numberAt}
 use Rattle.lent.specs.Lent.{same}
 use Rattle.words.specs.Words.{_and_, if_then_else_}
 

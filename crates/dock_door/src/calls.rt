@@ -2,16 +2,16 @@
 // number, 0 where it was not refused; what else it tells goes into lent numbers. Document 01, "The dock's flow" and "Refusal numbers".
 ghost use mathlib.Core.Path.{_≡_};
 ghost use lib.ListN.{length};
-ghost use Rattle.flow.specs.Flow.{answered, silence};
+ghost use Rattle.dock_flow.specs.Flow.{answered, silence};
 ghost use Rattle.dock_door.specs.Calls.{admission, askThrough, askTold, bytesPut, endedNumber, endingNumber, framesUsed, hearThrough, hearTold, jobOf, refusalNumber, retriesUsed, startThrough, startTold, toldOf};
 ghost use Rattle.dock_door.specs.Layout.{dockSize};
 use dock::Report;
 use dock::Stepped;
 use dock::calls;
-use job::Ending;
-use job::Job;
-use job::refusals;
-use job::refusals::Call;
+use dock_job::Ending;
+use dock_job::Job;
+use dock_job::refusals;
+use dock_job::refusals::Call;
 use part::refusal::Refusal;
 use part::refusal::Verdict;
 
@@ -28,7 +28,7 @@ fn job_of(
 ) -> Job
     ensures { λ r. ⌜ r ≡ jobOf «code_blocks» «data_blocks» clock (now (names .entry)) start end rate supply retries ⌝ }
 {
-    let part = layout::part_of(code_blocks, data_blocks, clock, names);
+    let part = part::crossing::part_of(code_blocks, data_blocks, clock, names);
     Job {
         part,
         start,
@@ -45,12 +45,12 @@ fn admit(job: Job, image: usize, state: &[u8]) -> Verdict
 {
     let v = refusals::verdict(job, image, Call::Begins);
     match v {
-        Verdict::Barred(refusal) => Verdict::Barred(refusal),
+        Verdict::Refused(refusal) => Verdict::Refused(refusal),
         Verdict::Accepted => {
             if super::is_dock(state) {
                 return Verdict::Accepted;
             }
-            Verdict::Barred(Refusal::BadState)
+            Verdict::Refused(Refusal::BadState)
         }
     }
 }
@@ -62,7 +62,7 @@ fn refusal_number(report: Report) -> u32
         Report::Due => 0,
         Report::Put(n) => 0,
         Report::Ended(account) => 0,
-        Report::Denied(refusal) => refusal.number() as u32,
+        Report::Refused(refusal) => refusal.number() as u32,
     }
 }
 
@@ -73,7 +73,7 @@ fn bytes_put(report: Report) -> usize
         Report::Due => 0,
         Report::Put(n) => n,
         Report::Ended(account) => 0,
-        Report::Denied(refusal) => 0,
+        Report::Refused(refusal) => 0,
     }
 }
 
@@ -99,7 +99,7 @@ fn ended_number(report: Report) -> u32
             let ending = account.ending;
             ending_number(ending)
         }
-        Report::Denied(refusal) => 0,
+        Report::Refused(refusal) => 0,
     }
 }
 
@@ -110,7 +110,7 @@ fn frames_used(report: Report) -> u32
         Report::Due => 0,
         Report::Put(n) => 0,
         Report::Ended(account) => account.frames,
-        Report::Denied(refusal) => 0,
+        Report::Refused(refusal) => 0,
     }
 }
 
@@ -121,7 +121,7 @@ fn retries_used(report: Report) -> u32
         Report::Due => 0,
         Report::Put(n) => 0,
         Report::Ended(account) => account.retries,
-        Report::Denied(refusal) => 0,
+        Report::Refused(refusal) => 0,
     }
 }
 
@@ -174,7 +174,7 @@ pub extern "C" fn zc_start(
     );
     let v = refusals::verdict(job, image.len(), Call::Begins);
     match v {
-        Verdict::Barred(refusal) => refusal.number() as u32,
+        Verdict::Refused(refusal) => refusal.number() as u32,
         Verdict::Accepted => {
             if state.len() == 23 {
                 let s = calls::start(job, image);
@@ -218,7 +218,7 @@ pub extern "C" fn zc_ask(
     );
     let v = admit(job, image.len(), state);
     match v {
-        Verdict::Barred(refusal) => {
+        Verdict::Refused(refusal) => {
             *bytes = 0;
             refusal.number() as u32
         }
@@ -266,7 +266,7 @@ pub extern "C" fn zc_answer(
     );
     let v = admit(job, image.len(), state);
     match v {
-        Verdict::Barred(refusal) => {
+        Verdict::Refused(refusal) => {
             *ended = 0;
             *frames_told = 0;
             *retries_told = 0;
@@ -312,7 +312,7 @@ pub extern "C" fn zc_timeout(
     );
     let v = admit(job, image.len(), state);
     match v {
-        Verdict::Barred(refusal) => {
+        Verdict::Refused(refusal) => {
             *ended = 0;
             *frames_told = 0;
             *retries_told = 0;

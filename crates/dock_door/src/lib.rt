@@ -2,14 +2,14 @@
 ghost use mathlib.Core.Path.{_≡_};
 ghost use lib.ListN.{length};
 ghost use Rattle.dock_door.specs.Layout.{bit, causeIn, causeNumber, dockIn, dockSize, endingIn, flatEnding, flatIn, flatOf, flatWork, isDock, isNamed, layoutOf, layoutWith, named, namedIn, plain, setupIn, setupNumber, stageIn, workIn};
-use job::Cause;
-use job::Dock;
-use job::Ending;
-use job::Failure;
-use job::Named;
-use job::Setup;
-use job::Stage;
-use job::Work;
+use dock_job::Cause;
+use dock_job::Dock;
+use dock_job::Ending;
+use dock_job::Failure;
+use dock_job::Named;
+use dock_job::Setup;
+use dock_job::Stage;
+use dock_job::Work;
 
 pub mod calls;
 
@@ -146,12 +146,12 @@ fn bit(b: bool) -> u8
 fn layout_with(flat: Flat, awaited: u8, retries: u32, frames: u32) -> [u8; 23]
     ensures { λ r. ⌜ r ≡ layoutWith flat awaited retries frames ⌝ }
 {
-    let r = layout::little4(retries);
-    let f = layout::little4(frames);
+    let r = numbers::little4(retries);
+    let f = numbers::little4(frames);
     let block = flat.block;
-    let b = layout::little4(named(block));
+    let b = numbers::little4(named(block));
     let page = flat.page;
-    let p = layout::little4(named(page));
+    let p = numbers::little4(named(page));
     [
         flat.stage,
         awaited,
@@ -200,8 +200,8 @@ fn flat_in(state: &[u8]) -> Flat
 {
     Flat {
         stage: lent::byte_at(state, 0),
-        block: named_in(lent::byte_at(state, 10), layout::number4(state, 11)),
-        page: named_in(lent::byte_at(state, 15), layout::number4(state, 16)),
+        block: named_in(lent::byte_at(state, 10), numbers::number4(state, 11)),
+        page: named_in(lent::byte_at(state, 15), numbers::number4(state, 16)),
         cause: lent::byte_at(state, 20),
         command: lent::byte_at(state, 21),
         status: lent::byte_at(state, 22),
@@ -281,8 +281,8 @@ fn dock_in(state: &[u8]) -> Dock
     Dock {
         stage: stage_in(flat_in(state)),
         awaited: lent::byte_at(state, 1) == 1,
-        retries: layout::number4(state, 2),
-        frames: layout::number4(state, 6),
+        retries: numbers::number4(state, 2),
+        frames: numbers::number4(state, 6),
     }
 }
 

@@ -1,7 +1,7 @@
 // The collector, by value: what has come of the frame that is awaited. Document 01, "Frames", "Collecting".
 ghost use mathlib.Core.Path.{_≡_};
 ghost use Prim.Native.Nat.{_<_};
-ghost use Rattle.frame.specs.Collector.{fresh, holding, heard, byteOf, dropped};
+ghost use Rattle.frame.specs.Collector.{fresh, byteOf, dropped};
 ghost use Rattle.frame.specs.inner.Collector.{stored};
 
 // The bytes past `len` are spare: no method touches them.

@@ -1,6 +1,6 @@
 // The judgement of a complete frame, in the order of document 01, "Frames", and its status on the wire.
 ghost use mathlib.Core.Path.{_≡_};
-ghost use Rattle.frame.specs.Judgement.{judgeOf, fitting, statusOf};
+ghost use Rattle.frame.specs.Judgement.{fitting, isGood, judgeOf, statusOf};
 use super::Footer;
 use super::sum;
 
@@ -12,6 +12,17 @@ pub enum Judgement {
 }
 
 impl Judgement {
+    pub fn is_good(self) -> bool
+        ensures { λ r. ⌜ r ≡ isGood self ⌝ }
+    {
+        match self {
+            Judgement::Good => true,
+            Judgement::WrongFooter => false,
+            Judgement::WrongSum => false,
+            Judgement::UnfitLength => false,
+        }
+    }
+
     pub fn status(self) -> u8
         ensures { λ r. ⌜ r ≡ statusOf self ⌝ }
     {

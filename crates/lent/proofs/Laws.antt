@@ -2,13 +2,13 @@
 -- Assumes nothing.
 use mathlib.Core.Bool.{Bool, false, false≢true, true}
 use mathlib.Core.List.{List, [], _++_, _∷_, append-assoc, append-nil}
-use mathlib.Core.Path.{_∙_, _≡_, ap, refl}
+use mathlib.Core.Path.{_∙_, _≡_, ap, refl, sym}
 use Prim.Native.Nat.{_+_, _-_, _<_, _≤_, suc, ℕ}
 use native.Mathlib.Numerals.{add-one}
 use native.Mathlib.Omega.{arith}
 use lib.Dec.{eqb}
 use lib.ListN.{drop, drop-of-length-le, getD, length, length-append, length-drop, length-take, set, take}
-use lib.Seq.{append-snoc, drop-append-add, drop-cons, drop-drop, set-append-seam, take-all, take-append-seam, take-length}
+use lib.Seq.{append-snoc, drop-append-add, drop-cons, drop-drop, drop-length, set-append-seam, take-all, take-append-seam, take-length, take-nil}
 use borrow.Author.Tests.{eq-eqb, eqb-true, le-leb, lt-leb}
 use Rattle.lent.specs.Lent.{Left, allAre, left, putAt, putOf, same}
 use Rattle.lent.specs.declared.Room.{Room}
@@ -135,3 +135,19 @@ pub same-none : (bs cs : List ℕ) (at : ℕ) → length cs ≡ 0 → true ≡ s
 unfolding same
 same-none bs [] at e = refl
 same-none bs (c ∷ cs) at e = absurd (omega arith)
+
+-- A stretch that may run past the end.
+pub past-end : (l : List ℕ) (at n : ℕ) → length l ≤ at → take (length l - length l) (drop (length l) l) ≡ take n (drop at l)
+past-end l at n h = rw (drop-length, take-nil, drop-of-length-le l h, take-nil)
+
+pub to-end : (l : List ℕ) (at n : ℕ) → length l - at ≤ n → take (length l - at) (drop at l) ≡ take n (drop at l)
+to-end l at n h =
+    let k : length (drop at l) ≡ length l - at = length-drop at l in
+    take-all (length l - at) (drop at l) (omega arith) ∙ sym (take-all n (drop at l) (omega arith))
+
+pub amid : (l : List ℕ) (at n : ℕ) → take (at + n - at) (drop at l) ≡ take n (drop at l)
+amid l at n = let e : at + n - at ≡ n = omega arith in rw e
+
+-- Bytes put into an array of their own length are the array.
+pub put-whole : (r l s : List ℕ) (a : Room) → left a l ≡ putOf r 0 s → length s ≡ length r → l ≡ s
+put-whole r l s a e h = written-full (written-put 0 s (written-start r) e refl (omega arith)) (omega arith)

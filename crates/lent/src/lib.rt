@@ -81,3 +81,17 @@ pub fn is_same_at(bytes: &[u8], at: usize, others: &[u8]) -> bool
     let end = at + n;
     is_same(&bytes[at..end], others)
 }
+
+// The bytes of a stretch that may run past the end.
+pub fn span(bytes: &[u8], from: usize, n: usize) -> &[u8]
+    ensures { λ r. ⌜ now r ≡ take n (drop from (now (bytes .entry))) ⌝ }
+{
+    let len = bytes.len();
+    if len <= from {
+        return &bytes[len..len];
+    }
+    if len - from <= n {
+        return &bytes[from..len];
+    }
+    &bytes[from..from + n]
+}

@@ -19,7 +19,7 @@ use Rattle.part.specs.declared.Part.{Part}
 use Rattle.part.specs.declared.Place.the-variants.{In, Outside}
 use Rattle.part.specs.declared.Range.the-variants.{Bad, Blocks}
 use Rattle.part.specs.declared.refusal.Refusal.{Refusal}
-use Rattle.part.specs.declared.refusal.Verdict.the-variants.{Accepted, Barred}
+use Rattle.part.specs.declared.refusal.Verdict.the-variants.{Accepted, Refused}
 use Rattle.words.proofs.Laws.{and-both, and-left, and-right}
 use Rattle.words.specs.Words.{_and_, _from_to_, if_then_else_}
 
@@ -286,14 +286,14 @@ pub record Passed (x : Condition) (xs : List Condition) : Type 0 where
   pub not-held : x .holds ≡ false
   pub rest : firstOf xs ≡ Accepted
 
-barred : (r : Refusal) → Barred r ≡ Accepted → ⊥
+barred : (r : Refusal) → Refused r ≡ Accepted → ⊥
 barred r e = let z : _≡_ {A = ℕ} 0 1 = cc in omega arith
 
 pub passed : (x : Condition) (xs : List Condition) → firstOf (x ∷ xs) ≡ Accepted → Passed x xs
 unfolding firstOf if_then_else_
 passed x xs e = go (x .holds) refl e
   where
-    go : (t : Bool) → x .holds ≡ t → (if t then Barred (x .refusal) else firstOf xs) ≡ Accepted → Passed x xs
+    go : (t : Bool) → x .holds ≡ t → (if t then Refused (x .refusal) else firstOf xs) ≡ Accepted → Passed x xs
     go true h e = absurd (barred (x .refusal) e)
     go false h e = record { not-held = h; rest = e }
 

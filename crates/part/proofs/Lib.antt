@@ -1,3 +1,4 @@
+pub mod LawsCrossing
 pub mod Blocks
 pub mod Laws
 pub mod LawsSignature

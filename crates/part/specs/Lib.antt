@@ -1,4 +1,5 @@
 pub mod Part
+pub mod Crossing
 pub mod Rate
 pub mod Refusal
 pub mod Signature

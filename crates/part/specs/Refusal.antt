@@ -5,7 +5,7 @@ use Prim.Native.Nat.{ℕ}
 use Rattle.part.specs.declared.refusal.Refusal.{Refusal}
 use Rattle.part.specs.declared.refusal.Refusal.the-variants.{BadPart, BadRange, BadState, CodeLength, DataLength, ImageLength, ManyRetries, OutOfTurn, ShortRoom}
 use Rattle.part.specs.declared.refusal.Verdict.{Verdict}
-use Rattle.part.specs.declared.refusal.Verdict.the-variants.{Accepted, Barred}
+use Rattle.part.specs.declared.refusal.Verdict.the-variants.{Accepted, Refused}
 use Rattle.words.specs.Words.{if_then_else_}
 
 abbrev pub number : Refusal → ℕ
@@ -30,4 +30,4 @@ r when t = record { refusal = r; holds = t }
 
 unfoldable pub firstOf : List Condition → Verdict
 firstOf [] = Accepted
-firstOf (x ∷ xs) = if x .holds then Barred (x .refusal) else firstOf xs
+firstOf (x ∷ xs) = if x .holds then Refused (x .refusal) else firstOf xs

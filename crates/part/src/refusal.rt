@@ -35,5 +35,5 @@ impl Refusal {
 // What a row of refusals comes to.
 pub enum Verdict {
     Accepted,
-    Barred(Refusal),
+    Refused(Refusal),
 }

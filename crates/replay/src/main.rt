@@ -1,15 +1,14 @@
 // Replays a recorded capture into a fresh chip and prints each reply frame as a line of hex: document 01, "Replay".
-// The records are judged, fed and answered by `records::replay`; here the capture is read and the lines are printed.
+// The records are judged, fed and answered by `replay_records::replay`; here the capture is read and the lines are printed.
 ghost use Prim.Native.Nat.{_+_, _≤_};
 ghost use lib.ListN.{length};
-use chip::Chip;
 use chip::events;
+use chip_state::Chip;
 use libc::STDERR_FILENO;
 use libc::STDIN_FILENO;
 use libc::STDOUT_FILENO;
 use part::Part;
-use part::refusal::Refusal;
-use records::Ended;
+use replay_records::Ended;
 
 // How many bytes were read, or where there is room, and whether the call went well.
 struct Filled {
@@ -76,7 +75,7 @@ fn show(frames: &[u8], text: &mut [u8]) -> bool
         }
         let from = place.n;
         let end = at + n;
-        hex::line(&frames[at..end], &mut text[from..]);
+        replay_hex::line(&frames[at..end], &mut text[from..]);
         used = from + 3 * n;
         at = end;
     }
@@ -102,7 +101,7 @@ fn way_on(ended: Ended) -> Way {
     match ended {
         Ended::Whole => Way::On,
         Ended::AtBadRecord => Way::Bad,
-        Ended::Halted(refusal) => {
+        Ended::Refused(refusal) => {
             io::write_all(
                 STDERR_FILENO,
                 b"replay: a call of the chip was refused, which should not occur; refusal ",
@@ -135,7 +134,7 @@ fn turn(
 ) -> Went
     requires { ⌜ 1024 ≤ length (now text) ⌝ }
 {
-    let played = records::replay(part, chip, capture, code, data, room, output);
+    let played = replay_records::replay(part, chip, capture, code, data, room, output);
     let n = played.bytes;
     let after = played.chip;
     if output.len() < n {
@@ -180,7 +179,7 @@ fn fail_at(name: &[u8]) {
 // A buffer of 2,048 bytes is 256 records, for whose replies the output has room. A proved loop has to end, and nothing says that the input does: so it counts
 // its turns down, from a number that no run uses up.
 fn replay(fd: i32, name: &[u8]) {
-    let part = records::replay_part();
+    let part = replay_records::replay_part();
     let fresh = events::fresh(part);
     let mut chip = fresh.chip;
     let mut code = [0xFFu8; 16384];

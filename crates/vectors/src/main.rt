@@ -9,7 +9,7 @@ use frame::wire::Wrote;
 fn show(bytes: &[u8]) {
     let mut text = [0u8; 24];
     if bytes.len() <= 8 {
-        hex::line(bytes, &mut text);
+        replay_hex::line(bytes, &mut text);
         let end = 3 * bytes.len();
         io::write_all(1, &text[0..end]);
     }

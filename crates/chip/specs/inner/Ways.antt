@@ -4,12 +4,12 @@ use mathlib.Core.List.{List, [], _∷_}
 use Prim.Native.Nat.{_+_, _-_, ℕ}
 use lib.Dec.{eqb, leb, ltb}
 use lib.ListN.{getD}
-use Rattle.chip.specs.Step.{verdictOf}
-use Rattle.chip.specs.declared.Chip.{Chip}
+use Rattle.chip_state.specs.Refusals.{verdictOf}
+use Rattle.chip_state.specs.declared.Chip.{Chip}
 use Rattle.chip.specs.declared.events.Way.{Way}
 use Rattle.chip.specs.declared.events.Way.the-variants.{Completes, Hears, Mode}
-use Rattle.effect.specs.declared.Phase.{Phase}
-use Rattle.effect.specs.declared.Phase.the-variants.{Awaiting, ModeByte, Ready, Setup}
+use Rattle.chip_core.specs.declared.Phase.{Phase}
+use Rattle.chip_core.specs.declared.Phase.the-variants.{Awaiting, ModeByte, Ready, Setup}
 use Rattle.frame.specs.Frame.{counted}
 use Rattle.frame.specs.declared.Header.{Header}
 use Rattle.frame.specs.declared.Header.the-variants.{Command, Data}
@@ -17,7 +17,7 @@ use Rattle.frame.specs.declared.collector.Collector.{Collector}
 use Rattle.frame.specs.inner.Collector.{stored}
 use Rattle.part.specs.declared.Part.{Part}
 use Rattle.part.specs.declared.refusal.Verdict.{Verdict}
-use Rattle.part.specs.declared.refusal.Verdict.the-variants.{Accepted, Barred}
+use Rattle.part.specs.declared.refusal.Verdict.the-variants.{Accepted, Refused}
 use Rattle.words.specs.Words.{_and_, if_then_else_}
 
 -- The byte after these is the last of its frame.
@@ -42,7 +42,7 @@ lackingOf count len rest =
 -- Where the state is accepted, they are a stretch.
 unfoldable pub stretchOf : Verdict → ℕ → ℕ
 stretchOf Accepted n = n
-stretchOf (Barred r) n = 0
+stretchOf (Refused r) n = 0
 
 unfoldable pub plainOf : Part → Chip → ℕ → ℕ → ℕ → ℕ → ℕ
 plainOf p c code extra room rest =

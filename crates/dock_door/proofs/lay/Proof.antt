@@ -2,7 +2,7 @@
 -- Assumes nothing.
 use mathlib.Core.Path.{_∙_}
 use borrow.Author.Needs.{needs}
-use Rattle.layout.proofs.Laws.{put-whole}
+use Rattle.lent.proofs.Laws.{put-whole}
 use Rattle.dock_door.proofs.lay.Statement.{statement}
 use Rattle.dock_door.proofs.lay.Tie as tie
 

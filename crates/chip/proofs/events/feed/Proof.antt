@@ -10,7 +10,7 @@ use Rattle.chip.proofs.Feeding.{FedFrom, fed-end, fed-refused, fed-said
 use Rattle.chip.proofs.Stretching.{fed-stretch, part-short, plain-is}
 use Rattle.chip.specs.Run.{feedOf}
 use Rattle.chip.specs.Step.{outcome}
-use Rattle.effect.specs.Effect.{flash}
+use Rattle.chip_core.specs.Effect.{flash}
 use Rattle.chip.proofs.events.feed.Statement.{statement}
 use Rattle.chip.proofs.events.feed.Tie as tie
 

@@ -5,11 +5,11 @@ use Prim.Native.Nat.{_<_, _^_}
 use native.Mathlib.Omega.{arith}
 use borrow.Author.Needs.{needs}
 use Rattle.dock.specs.Calls.{hearOf, turning}
-use Rattle.flow.proofs.Laws.{answer-within}
-use Rattle.flow.specs.Flow.{afterAnswer, afterHeard}
-use Rattle.flow.specs.declared.Turned.{Turned}
-use Rattle.job.proofs.Laws.{Told, accepts, told-is}
-use Rattle.job.specs.declared.refusals.Call.the-variants.{Tells}
+use Rattle.dock_flow.proofs.Laws.{answer-within}
+use Rattle.dock_flow.specs.Flow.{afterAnswer, afterHeard}
+use Rattle.dock_flow.specs.declared.Turned.{Turned}
+use Rattle.dock_job.proofs.Laws.{Told, accepts, told-is}
+use Rattle.dock_job.specs.declared.refusals.Call.the-variants.{Tells}
 use Rattle.dock.proofs.calls.answer.Statement.{statement}
 use Rattle.dock.proofs.calls.answer.Tie as tie
 

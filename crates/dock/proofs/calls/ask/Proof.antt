@@ -5,8 +5,8 @@ use native.Mathlib.Omega.{arith}
 use lib.ListN.{length}
 use borrow.Author.Needs.{needs}
 use Rattle.dock.specs.Calls.{askOf, asked}
-use Rattle.job.proofs.Laws.{Accepts, Asked, accepts, asked-is, bound-few}
-use Rattle.job.specs.declared.refusals.Call.the-variants.{Asks}
+use Rattle.dock_job.proofs.Laws.{Accepts, Asked, accepts, asked-is, bound-few}
+use Rattle.dock_job.specs.declared.refusals.Call.the-variants.{Asks}
 use Rattle.dock.proofs.calls.ask.Statement.{statement}
 use Rattle.dock.proofs.calls.ask.Tie as tie
 

@@ -2,8 +2,8 @@
 -- Assumes nothing.
 use borrow.Author.Needs.{needs}
 use Rattle.dock.specs.Calls.{freshDock, startOf, starting}
-use Rattle.flow.specs.Flow.{setupFrom}
-use Rattle.job.specs.Job.{setup}
+use Rattle.dock_flow.specs.Flow.{setupFrom}
+use Rattle.dock_job.specs.Job.{setup}
 use Rattle.dock.proofs.calls.start.Statement.{statement}
 use Rattle.dock.proofs.calls.start.Tie as tie
 

@@ -5,8 +5,8 @@ use Prim.Native.Nat.{_<_, _^_}
 use native.Mathlib.Omega.{arith}
 use borrow.Author.Needs.{needs}
 use Rattle.dock.specs.Calls.{hearOf, turning}
-use Rattle.flow.specs.Flow.{afterHeard}
-use Rattle.flow.specs.declared.Turned.{Turned}
+use Rattle.dock_flow.specs.Flow.{afterHeard}
+use Rattle.dock_flow.specs.declared.Turned.{Turned}
 use Rattle.dock.proofs.calls.timeout.Statement.{statement}
 use Rattle.dock.proofs.calls.timeout.Tie as tie
 

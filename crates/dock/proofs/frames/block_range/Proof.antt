@@ -3,7 +3,7 @@
 use Prim.Native.Nat.{_≤_}
 use native.Mathlib.Omega.{arith}
 use borrow.Author.Needs.{needs}
-use Rattle.job.specs.Job.{areaOf}
+use Rattle.dock_job.specs.Job.{areaOf}
 use Rattle.part.proofs.Laws.{blockSize-small, positive}
 use Rattle.dock.proofs.frames.block_range.Statement.{statement}
 use Rattle.dock.proofs.frames.block_range.Tie as tie

@@ -4,7 +4,7 @@ use mathlib.Core.Path.{ap}
 use Prim.Native.Nat.{_*_, _+_, _<_, _^_, _≤_, ℕ}
 use native.Mathlib.Omega.{arith}
 use borrow.Author.Needs.{needs}
-use Rattle.job.specs.Job.{areaOf}
+use Rattle.dock_job.specs.Job.{areaOf}
 use Rattle.part.proofs.Laws.{blockSize-small, product-small}
 use Rattle.dock.proofs.frames.first_of_block.Statement.{statement}
 use Rattle.dock.proofs.frames.first_of_block.Tie as tie

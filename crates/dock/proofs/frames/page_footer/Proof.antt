@@ -1,7 +1,7 @@
 -- `dock::frames::page_footer` meets its contract: each test is the definition's, in its order.
 -- Assumes nothing.
 use borrow.Author.Needs.{needs}
-use Rattle.flow.specs.Flow.{pageFooter}
+use Rattle.dock_flow.specs.Flow.{pageFooter}
 use Rattle.words.specs.Words.{if_then_else_}
 use Rattle.dock.proofs.frames.page_footer.Statement.{statement}
 use Rattle.dock.proofs.frames.page_footer.Tie as tie

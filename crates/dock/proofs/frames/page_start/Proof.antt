@@ -4,8 +4,8 @@ use mathlib.Core.Path.{_≡_}
 use Prim.Native.Nat.{_*_, _+_, _<_, _^_, _≤_}
 use native.Mathlib.Omega.{arith}
 use borrow.Author.Needs.{needs}
-use Rattle.job.proofs.Laws.{block-is, page-is, page-lies}
-use Rattle.job.specs.Job.{areaOf, sizeOf}
+use Rattle.dock_job.proofs.Laws.{block-is, page-is, page-lies}
+use Rattle.dock_job.specs.Job.{areaOf, sizeOf}
 use Rattle.part.proofs.Laws.{blockSize-small, product-small}
 use Rattle.part.specs.Part.{pageSize}
 use Rattle.dock.proofs.frames.page_start.Statement.{statement}

@@ -2,9 +2,9 @@
 -- Assumes nothing.
 use mathlib.Core.Path.{_∙_, ap, sym}
 use borrow.Author.Needs.{needs}
-use Rattle.flow.specs.Flow.{frameAt}
-use Rattle.job.proofs.Laws.{GoodPlace, place-is}
-use Rattle.job.specs.Refusals.{goodStage}
+use Rattle.dock_flow.specs.Flow.{frameAt}
+use Rattle.dock_job.proofs.Laws.{GoodPlace, place-is}
+use Rattle.dock_job.specs.Refusals.{goodStage}
 use Rattle.dock.proofs.frames.send.Statement.{statement}
 use Rattle.dock.proofs.frames.send.Tie as tie
 

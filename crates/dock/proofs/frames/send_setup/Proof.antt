@@ -2,7 +2,7 @@
 -- Assumes nothing.
 use native.Mathlib.Omega.{arith}
 use borrow.Author.Needs.{needs}
-use Rattle.flow.specs.Flow.{setupFrame}
+use Rattle.dock_flow.specs.Flow.{setupFrame}
 use Rattle.part.proofs.Laws.{rate-is}
 use Rattle.dock.proofs.frames.send_setup.Statement.{statement}
 use Rattle.dock.proofs.frames.send_setup.Tie as tie

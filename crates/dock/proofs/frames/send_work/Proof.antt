@@ -6,10 +6,10 @@ use Prim.Native.Nat.{ℕ}
 use lib.ListN.{getD}
 use borrow.Author.Needs.{needs}
 use Rattle.dock.specs.Calls.{placing}
-use Rattle.flow.specs.Flow.{workFrame}
+use Rattle.dock_flow.specs.Flow.{workFrame}
 use Rattle.frame.specs.Frame.{commandFrame}
-use Rattle.job.proofs.Laws.{stored-is, verified-is}
-use Rattle.job.specs.Refusals.{goodWork}
+use Rattle.dock_job.proofs.Laws.{stored-is, verified-is}
+use Rattle.dock_job.specs.Refusals.{goodWork}
 use Rattle.part.specs.Part.{addressBytes}
 use Rattle.dock.proofs.frames.send_work.Statement.{statement}
 use Rattle.dock.proofs.frames.send_work.Tie as tie

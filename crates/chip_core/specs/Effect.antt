@@ -1,0 +1,80 @@
+-- What a complete frame does: its reply, the chip's record after it, and flash. No room, collector or array is in it.
+use mathlib.Core.List.{List}
+use Prim.Native.Nat.{_*_, _+_, ℕ}
+use lib.ListN.{getD}
+use Rattle.chip_core.specs.declared.Core.{Core}
+use Rattle.chip_core.specs.declared.Done.{Done}
+use Rattle.chip_core.specs.declared.Phase.{Phase}
+use Rattle.chip_core.specs.declared.Phase.the-variants.{Awaiting}
+use Rattle.part.specs.declared.Area.{Area}
+use Rattle.part.specs.declared.Area.the-variants.{CodeFlash, DataFlash}
+use Rattle.chip_reply.specs.declared.Reply.{Reply}
+use Rattle.chip_reply.specs.declared.Reply.the-variants.{Status}
+
+-- "Code flash .. Data flash ..", as the two slices that are lent.
+pub record Flash : Type 0 where
+  pub codeFlash : List ℕ
+  pub dataFlash : List ℕ
+
+abbrev pub flash : List ℕ → List ℕ → Flash
+flash c d = record { codeFlash = c; dataFlash = d }
+
+abbrev pub bytesIn : Area → Flash → List ℕ
+bytesIn CodeFlash m = m .codeFlash
+bytesIn DataFlash m = m .dataFlash
+
+abbrev pub withBytes : Area → Flash → List ℕ → Flash
+withBytes CodeFlash m l = flash l (m .dataFlash)
+withBytes DataFlash m l = flash (m .codeFlash) l
+
+-- What a complete frame did beside flash: the reply, whose bytes `payloads` gives, and the record after it.
+abbrev pub told : Reply → Core → Done
+told r k = record { reply = r; core = k }
+
+-- All that it did.
+pub record Effect : Type 0 where
+  pub reply : Reply
+  pub core : Core
+  pub memory : Flash
+
+abbrev pub effect : Done → Flash → Effect
+effect d m = record { reply = d .reply; core = d .core; memory = m }
+
+-- The record with another phase.
+abbrev pub entered : Core → Phase → Core
+entered k f = record { options = k .options; rate = k .rate; phase = f }
+
+abbrev pub awaiting : ℕ → ℕ → ℕ → Core → Core
+awaiting cmd next last k = entered k (Awaiting (record { command = cmd; next = next; last = last }))
+
+abbrev pub acknowledge : ℕ
+acknowledge = 0x06
+
+abbrev pub commandError : ℕ
+commandError = 0x04
+
+abbrev pub parameterError : ℕ
+parameterError = 0x05
+
+abbrev pub verifyError : ℕ
+verifyError = 0x0F
+
+abbrev pub protectError : ℕ
+protectError = 0x10
+
+abbrev pub notBlank : ℕ
+notBlank = 0x1B
+
+abbrev pub writeError : ℕ
+writeError = 0x1C
+
+-- "A status reply is a data frame with one byte."
+abbrev pub says : ℕ → Core → Done
+says s k = told (Status s) k
+
+-- Numbers in a frame, from the place i on, low byte first.
+unfoldable pub number2 : ℕ → List ℕ → ℕ
+number2 i f = getD f i 0 + 256 * getD f (i + 1) 0
+
+unfoldable pub number3 : ℕ → List ℕ → ℕ
+number3 i f = getD f i 0 + 256 * getD f (i + 1) 0 + 65536 * getD f (i + 2) 0

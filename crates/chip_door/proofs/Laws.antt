@@ -1,0 +1,109 @@
+-- Laws about the layout: the five pieces of a state; what an admitted call may rely on; and what a verdict on it reads.
+-- Assumes nothing.
+use mathlib.Core.Bool.{Bool, false, not, true}
+use mathlib.Core.List.{List, _++_}
+use mathlib.Core.Path.{_∙_, _≡_, ap, refl}
+use Prim.Native.Nat.{_+_, _<_, ℕ}
+use native.Mathlib.Omega.{arith}
+use lib.Dec.{eqb}
+use lib.ListN.{drop, getD, length, length-append, take}
+use lib.Seq.{getD-drop, getD-take}
+use borrow.Author.Tests.{eqb-true, not-false}
+use Rattle.chip_state.specs.Refusals.{verdictOf, verdictOn}
+use Rattle.chip_state.specs.declared.Chip.{Chip}
+use Rattle.chip_door.specs.Calls.{acceptance, accepting, admission}
+use Rattle.chip_door.specs.Layout.{awaitedOf, chipIn, collectorIn, coreIn, headOf, isState, layoutOf, phaseNumber, stateSize}
+use Rattle.chip_core.specs.declared.Awaited.{Awaited}
+use Rattle.chip_core.specs.declared.Core.{Core}
+use Rattle.numbers.proofs.Laws.{little-long}
+use Rattle.numbers.specs.Numbers.{little, numberAt}
+use Rattle.lent.proofs.Laws.{Written, written-full, written-put, written-start}
+use Rattle.lent.specs.Lent.{left, putOf}
+use Rattle.lent.specs.declared.Room.{Room}
+use Rattle.chip_options.specs.declared.Options.{Options}
+use Rattle.part.specs.Part.{described, size}
+use Rattle.part.specs.Refusal.{firstOf}
+use Rattle.part.specs.declared.Area.the-variants.{CodeFlash, DataFlash}
+use Rattle.part.specs.declared.Part.{Part}
+use Rattle.part.specs.declared.refusal.Refusal.{Refusal}
+use Rattle.part.specs.declared.refusal.Refusal.the-variants.{BadPart, BadState, CodeLength, DataLength}
+use Rattle.part.specs.declared.refusal.Verdict.{Verdict}
+use Rattle.part.specs.declared.refusal.Verdict.the-variants.{Accepted, Refused}
+use Rattle.words.proofs.Laws.{and-left}
+use Rattle.words.specs.Words.{if_then_else_}
+
+head-long : (o : Options) (rate phase cmd : ℕ) → length (headOf o rate phase cmd) ≡ 9
+unfolding headOf
+head-long o rate phase cmd = refl
+
+-- The pieces of a state, put one after the other, are the state.
+pub layout-is : (c : Chip) (w : Awaited) (q : ℕ) (first next last count r k l m n o : List ℕ) (a b d e f : Room) → left a k ≡ putOf r 0 first → left b l ≡ putOf k 9 next
+    → left d m ≡ putOf l 17 last → left e n ≡ putOf m 25 count → left f o ≡ putOf n 33 (c .collector .bytes) → w ≡ awaitedOf (c .core .phase)
+    → q ≡ phaseNumber (c .core .phase) → first ≡ headOf (c .core .options) (c .core .rate) q (w .command) → next ≡ little 8 (w .next) → last ≡ little 8 (w .last)
+    → count ≡ little 8 (c .collector .len) → length r ≡ stateSize → length (c .collector .bytes) ≡ 260 → o ≡ layoutOf c
+unfolding layoutOf
+layout-is c w q first next last count r k l m n o a b d e f s t u v z A B g h i j x y =
+    let G : length first ≡ 9 = ap length g ∙ head-long _ _ _ _ in
+    let H : length next ≡ 8 = ap length h ∙ little-long 8 _ in
+    let I : length last ≡ 8 = ap length i ∙ little-long 8 _ in
+    let J : length count ≡ 8 = ap length j ∙ little-long 8 _ in
+    let K : Written first r k = written-put 0 first (written-start r) s refl (omega arith) in
+    let L : Written (first ++ next) r l = written-put 9 next K t (omega arith) (omega arith) in
+    let M : Written (first ++ next ++ last) r m = written-put 17 last L u (simp length-append (omega arith)) (omega arith) in
+    let N : Written (first ++ next ++ last ++ count) r n = written-put 25 count M v (simp length-append (omega arith)) (omega arith) in
+    let O : Written (first ++ next ++ last ++ count ++ c .collector .bytes) r o = written-put 33 (c .collector .bytes) N z (simp length-append (omega arith)) (omega arith) in
+    rw (← A, ← B, ← g, ← h, ← i, ← j) (written-full O (simp length-append (omega arith)))
+
+-- A call that is admitted has a state of the layout's length.
+pub record Admits (state : List ℕ) : Type 0 where
+  pub held : isState state ≡ true
+  pub long : length state ≡ stateSize
+
+not-barred : (t : Bool) (r : Refusal) (v : Verdict) → (if t then Refused r else v) ≡ Accepted → (t ≡ false) × (v ≡ Accepted)
+unfolding if_then_else_
+not-barred true r v e = absurd (let z : _≡_ {A = ℕ} 0 1 = cc in omega arith)
+not-barred false r v e = (refl, e)
+
+pub admitted : (p : Part) (state : List ℕ) (code extra : ℕ) → admission p state code extra ≡ Accepted → Admits state
+unfolding admission firstOf isState
+admitted p state code extra e =
+    let b = not-barred (not (described p)) BadPart _ e in
+    let c = not-barred (not (eqb code (size p CodeFlash))) CodeLength _ (b .1) in
+    let d = not-barred (not (eqb extra (size p DataFlash))) DataLength _ (c .1) in
+    let f = not-barred (not (isState state)) BadState _ (d .1) in
+    record { held = not-false _ (f .0); long = eqb-true _ _ (and-left _ _ (not-false _ (f .0))) }
+
+-- So does one that is accepted.
+settling : (v : Verdict) (p : Part) (state : List ℕ) (code extra room : ℕ) → acceptance v p state code extra room ≡ Accepted → v ≡ Accepted
+unfolding acceptance
+settling (Refused r) p state code extra room e = e
+settling Accepted p state code extra room e = refl
+
+pub accepted-admits : (p : Part) (state : List ℕ) (code extra room : ℕ) → accepting p state code extra room ≡ Accepted
+    → Admits state
+unfolding accepting
+accepted-admits p state code extra room e =
+    admitted p state code extra (settling (admission p state code extra) p state code extra room e)
+
+-- And the chip itself accepts the state that is read.
+judged : (v : Verdict) (p : Part) (state : List ℕ) (code extra room : ℕ) → acceptance v p state code extra room ≡ Accepted
+    → verdictOn p (chipIn state) code extra room ≡ Accepted
+unfolding acceptance
+judged (Refused r) p state code extra room e = absurd (let z : _≡_ {A = ℕ} 0 1 = cc in omega arith)
+judged Accepted p state code extra room e = e
+
+pub chip-accepts : (p : Part) (state : List ℕ) (code extra room : ℕ) → accepting p state code extra room ≡ Accepted
+    → verdictOn p (chipIn state) code extra room ≡ Accepted
+unfolding accepting
+chip-accepts p state code extra room e =
+    judged (admission p state code extra) p state code extra room e
+
+-- The verdict on the chip that is read needs only its record, the count, and two of the collected bytes.
+first-collected : (bs : List ℕ) (i : ℕ) → i < 260 → getD (take 260 (drop 33 bs)) i 0 ≡ getD bs (33 + i) 0
+first-collected bs i h = getD-take 260 (drop 33 bs) i 0 h ∙ getD-drop 33 bs i 0
+
+pub verdict-read : (p : Part) (k : Core) (count head len : ℕ) (state : List ℕ) (code extra room : ℕ) (v : Verdict) → v ≡ verdictOf p k count head len code extra room
+    → k ≡ coreIn state → count ≡ numberAt 8 25 state → head ≡ getD state 33 0 → len ≡ getD state 34 0 → v ≡ verdictOn p (chipIn state) code extra room
+unfolding chipIn collectorIn
+verdict-read p k count head len state code extra room v e f g h i =
+    rw (e, f, g, h, i, first-collected state 0 (omega arith), first-collected state 1 (omega arith))

@@ -1,0 +1,64 @@
+// The chip's step alone, a byte at a time and by value, for `trials/run speed` to measure without the door. No program needs it for anything else.
+ghost use mathlib.Core.List.{map};
+ghost use mathlib.Core.Path.{_≡_};
+ghost use Rattle.chip.specs.Run.{before, run};
+ghost use Rattle.chip.specs.Step.{outcome};
+ghost use Rattle.chip.specs.declared.Event.the-variants.{Byte};
+ghost use Rattle.chip_core.specs.Effect.{flash};
+ghost use Rattle.part.specs.Crossing.{partOf};
+ghost use Rattle.chip_pace.specs.Pace.{paced, pacedOf};
+use chip::Answer;
+use chip::Event;
+use chip::Step;
+use chip::events;
+use chip_state::Chip;
+use part::Part;
+
+fn steps(
+    part: Part,
+    chip: Chip,
+    bytes: &[u8],
+    code: &mut [u8],
+    data: &mut [u8],
+    room: &mut [u8],
+) -> Step
+    ensures { λ r. ⌜ outcome r (flash (now (code .exit)) (now («data» .exit))) (now (room .exit)) ≡ run part (map Byte (now (bytes .entry))) (before chip (flash (now (code .entry)) (now («data» .entry))) (now (room .entry))) ⌝ }
+{
+    let mut last = Step {
+        answer: Answer::Replied {
+            bytes: 0,
+            frames: 0,
+        },
+        chip,
+    };
+    let mut i = 0;
+    while i < bytes.len() {
+        let b = bytes[i];
+        i = i + 1;
+        let next = last.chip;
+        last = events::step(part, next, Event::Byte(b), code, data, room);
+    }
+    last
+}
+
+// A fresh chip through all the bytes; the count of those that it has collected at the end.
+#[no_mangle]
+pub extern "C" fn zp_steps(
+    code_blocks: u32,
+    data_blocks: u32,
+    clock: u32,
+    names: &[u8],
+    bytes: &[u8],
+    code: &mut [u8],
+    data: &mut [u8],
+    room: &mut [u8],
+) -> usize
+    ensures { λ r. ⌜ paced r (flash (now (code .exit)) (now («data» .exit))) (now (room .exit)) ≡ pacedOf (partOf «code_blocks» «data_blocks» clock (now (names .entry))) (now (bytes .entry)) (flash (now (code .entry)) (now («data» .entry))) (now (room .entry)) ⌝ }
+{
+    let part = part::crossing::part_of(code_blocks, data_blocks, clock, names);
+    let first = events::fresh(part);
+    let last = steps(part, first.chip, bytes, code, data, room);
+    let chip = last.chip;
+    let collector = chip.collector;
+    collector.len
+}

@@ -1,0 +1,31 @@
+-- `chip_pages::page` meets its contract: the judgement, then the command.
+-- Assumes nothing.
+use borrow.Author.Needs.{needs}
+use Rattle.chip_pages.specs.Pages.{dataDoes}
+use Rattle.words.specs.Words.{if_then_else_}
+use Rattle.chip_pages.proofs.page.Statement.{statement}
+use Rattle.chip_pages.proofs.page.Tie as tie
+
+returns : tie.Need-returns
+unfolding dataDoes if_then_else_
+returns c = simp (← c .before .before .before .before .before .before .before .before .before .before .before .footer-of .ensures, ← c .before .before .before .before .before .before .before .before .before .before .length-of .ensures, ← c .before .before .before .before .before .before .before .before .before .judge-fit .ensures, ← c .before .before .before .before .before .before .before .before .is-good .ensures, c .before .before .before .before .before .before .before .if1 .taken, ← c .before .before .before .before .good-data .ensures)
+
+returns-2 : tie.Need-returns-2
+unfolding dataDoes if_then_else_
+returns-2 c = simp (← c .before .before .before .before .before .before .footer-of .ensures, ← c .before .before .before .before .before .length-of .ensures, ← c .before .before .before .before .judge-fit .ensures, ← c .before .before .before .is-good .ensures, c .before .before .if1 .left, ← c .before .status .ensures, ← c .bad-data .ensures)
+
+pub page-spec : {M : Type 1} → statement M
+page-spec =
+    tie.close
+    (tie.spec
+    (λ c κs. search needs)
+    (λ c κs. search needs)
+    (λ c κs. search needs)
+    (λ c κs. search needs)
+    (λ c κs. search needs)
+    (λ c. search needs)
+    (λ c. search needs)
+    returns
+    (λ c κs. search needs)
+    (λ c κs. search needs)
+    returns-2)

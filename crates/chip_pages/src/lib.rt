@@ -1,0 +1,288 @@
+// The data frames of phase 4: pages of 40h and 13h, and the data of A0h. Document 01, "Commands".
+ghost use mathlib.Core.Path.{_≡_};
+ghost use Prim.Native.Nat.{_<_, _+_, _*_};
+ghost use lib.ListN.{getD};
+ghost use lib.Dec.{eqb};
+ghost use Rattle.words.specs.Words.{_and_};
+ghost use Rattle.chip_flash.specs.Flash.{blank};
+ghost use Rattle.chip_options.specs.Options.{goodOptions};
+ghost use Rattle.part.specs.Part.{placeOf};
+ghost use Rattle.chip_core.specs.Effect.{flash, effect};
+ghost use Rattle.chip_pages.specs.Pages.{isLastPage, footerOf, lengthOf, pageIn, pageStored, nextPage, programPage, verifyPage, optionsIn, securityData, badData, goodData, dataDoes};
+use chip_core::Awaited;
+use chip_core::Core;
+use chip_core::Done;
+use chip_core::Phase;
+use chip_options::Options;
+use chip_reply::Reply;
+use frame::Footer;
+use frame::judgement;
+use part::Area;
+use part::Part;
+use part::Place;
+
+fn is_last_page(w: Awaited) -> bool
+    ensures { λ r. ⌜ r ≡ isLastPage w ⌝ }
+{
+    if w.last <= w.next {
+        return true;
+    }
+    w.last - w.next <= 255
+}
+
+fn footer_of(w: Awaited) -> Footer
+    ensures { λ r. ⌜ r ≡ footerOf w ⌝ }
+{
+    if w.command == 0xA0 {
+        return Footer::Last;
+    }
+    if is_last_page(w) {
+        return Footer::Last;
+    }
+    Footer::More
+}
+
+fn length_of(w: Awaited) -> usize
+    ensures { λ r. ⌜ r ≡ lengthOf w ⌝ }
+{
+    if w.command == 0xA0 {
+        return 8;
+    }
+    256
+}
+
+fn next_page(w: Awaited, core: Core) -> Core
+    ensures { λ r. ⌜ r ≡ nextPage w core ⌝ }
+{
+    if is_last_page(w) {
+        return core.entered(Phase::Ready);
+    }
+    core.entered(Phase::Awaiting(Awaited {
+        command: w.command,
+        next: w.next + 256,
+        last: w.last,
+    }))
+}
+
+fn page_bytes<'a>(place: Place, code: &'a [u8], data: &'a [u8]) -> &'a [u8]
+    ensures { λ r. ⌜ now r ≡ pageIn place (flash (now (code .entry)) (now («data» .entry))) ⌝ }
+{
+    match place {
+        Place::In {
+            area,
+            offset,
+            block,
+            page,
+        } => match area {
+            Area::CodeFlash => lent::span(code, offset, 256),
+            Area::DataFlash => lent::span(data, offset, 256),
+        },
+        Place::Outside => &code[0..0],
+    }
+}
+
+fn is_blank_page<'a>(place: Place, code: &'a [u8], data: &'a [u8]) -> bool
+    ensures { λ r. ⌜ r ≡ blank (pageIn place (flash (now (code .entry)) (now («data» .entry)))) ⌝ }
+{
+    chip_flash::is_blank(page_bytes(place, code, data))
+}
+
+fn store_page(place: Place, bytes: &[u8], code: &mut [u8], data: &mut [u8])
+    ensures { λ _. ⌜ flash (now (code .exit)) (now («data» .exit)) ≡ pageStored place (now (bytes .entry)) (flash (now (code .entry)) (now («data» .entry))) ⌝ }
+{
+    match place {
+        Place::In {
+            area,
+            offset,
+            block,
+            page,
+        } => match area {
+            Area::CodeFlash => {
+                chip_flash::store(code, offset, bytes);
+            }
+            Area::DataFlash => {
+                chip_flash::store(data, offset, bytes);
+            }
+        },
+        Place::Outside => {}
+    }
+}
+
+fn program_page(
+    part: Part,
+    core: Core,
+    w: Awaited,
+    bytes: &[u8],
+    code: &mut [u8],
+    data: &mut [u8],
+) -> Done
+    ensures { λ r. ⌜ effect r (flash (now (code .exit)) (now («data» .exit))) ≡ programPage core w (placeOf part (w .next)) (now (bytes .entry)) (flash (now (code .entry)) (now («data» .entry))) ⌝ }
+{
+    let place = part.place(w.next);
+    if is_blank_page(place, code, data) {
+        store_page(place, bytes, code, data);
+        let after = next_page(w, core);
+        if is_last_page(w) {
+            return Done {
+                reply: Reply::LastStored,
+                core: after,
+            };
+        }
+        return Done {
+            reply: Reply::Pair(0x06, 0x06),
+            core: after,
+        };
+    }
+    let after = core.entered(Phase::Ready);
+    Done {
+        reply: Reply::Pair(0x06, 0x1C),
+        core: after,
+    }
+}
+
+fn verify_page<'a>(
+    part: Part,
+    core: Core,
+    w: Awaited,
+    bytes: &[u8],
+    code: &'a [u8],
+    data: &'a [u8],
+) -> Done
+    ensures { λ r. ⌜ r ≡ verifyPage core w (placeOf part (w .next)) (now (bytes .entry)) (flash (now (code .entry)) (now («data» .entry))) ⌝ }
+{
+    let place = part.place(w.next);
+    if lent::is_same(page_bytes(place, code, data), bytes) {
+        let after = next_page(w, core);
+        return Done {
+            reply: Reply::Pair(0x06, 0x06),
+            core: after,
+        };
+    }
+    let after = core.entered(Phase::Ready);
+    Done {
+        reply: Reply::Pair(0x06, 0x0F),
+        core: after,
+    }
+}
+
+fn wide(b: u8) -> u16
+    ensures { λ r. ⌜ (r ≡ b) × (r < 256) ⌝ }
+{
+    b as u16
+}
+
+// A number of two bytes, low byte first.
+fn number_of(low: u8, high: u8) -> u16
+    ensures { λ r. ⌜ r ≡ low + 256 * high ⌝ }
+{
+    wide(low) + 256 * wide(high)
+}
+
+fn options_in(bytes: &[u8]) -> Options
+    ensures { λ r. ⌜ r ≡ optionsIn (now (bytes .entry)) ⌝ }
+{
+    let start = number_of(lent::byte_at(bytes, 4), lent::byte_at(bytes, 5));
+    let end = number_of(lent::byte_at(bytes, 6), lent::byte_at(bytes, 7));
+    Options {
+        flags: lent::byte_at(bytes, 2),
+        boot: lent::byte_at(bytes, 3),
+        start,
+        end,
+    }
+}
+
+// Whether A0h's data passes its 05h rule.
+fn is_good_data(part: Part, options: Options, bytes: &[u8]) -> bool
+    ensures { λ r. ⌜ r ≡ (goodOptions part options and eqb (getD (now (bytes .entry)) 8 0) 0xFF and eqb (getD (now (bytes .entry)) 9 0) 0xFF) ⌝ }
+{
+    if options.is_good(part) {
+        if lent::byte_at(bytes, 8) == 0xFF {
+            return lent::byte_at(bytes, 9) == 0xFF;
+        }
+    }
+    false
+}
+
+fn security_data(part: Part, core: Core, bytes: &[u8]) -> Done
+    ensures { λ r. ⌜ r ≡ securityData part core (now (bytes .entry)) ⌝ }
+{
+    let asked = options_in(bytes);
+    if is_good_data(part, asked, bytes) {
+        let options = core.options;
+        if chip_options::is_raised(options.flags, lent::byte_at(bytes, 2)) {
+            let after = core.entered(Phase::Ready);
+            return Done {
+                reply: Reply::Status(0x10),
+                core: after,
+            };
+        }
+        return Done {
+            reply: Reply::Status(0x06),
+            core: Core {
+                options: asked,
+                rate: core.rate,
+                phase: Phase::Ready,
+            },
+        };
+    }
+    let after = core.entered(Phase::Ready);
+    Done {
+        reply: Reply::Status(0x05),
+        core: after,
+    }
+}
+
+fn bad_data(core: Core, w: Awaited, status: u8) -> Done
+    ensures { λ r. ⌜ r ≡ badData w status core ⌝ }
+{
+    let after = core.entered(Phase::Ready);
+    if w.command == 0xA0 {
+        return Done {
+            reply: Reply::Status(status),
+            core: after,
+        };
+    }
+    Done {
+        reply: Reply::Pair(status, status),
+        core: after,
+    }
+}
+
+fn good_data(
+    part: Part,
+    core: Core,
+    w: Awaited,
+    bytes: &[u8],
+    code: &mut [u8],
+    data: &mut [u8],
+) -> Done
+    ensures { λ r. ⌜ effect r (flash (now (code .exit)) (now («data» .exit))) ≡ goodData part core w (now (bytes .entry)) (flash (now (code .entry)) (now («data» .entry))) ⌝ }
+{
+    if w.command == 0xA0 {
+        return security_data(part, core, bytes);
+    }
+    let page = lent::span(bytes, 2, 256);
+    if w.command == 0x40 {
+        return program_page(part, core, w, page, code, data);
+    }
+    verify_page(part, core, w, page, code, data)
+}
+
+// What a complete data frame does.
+pub fn page(
+    part: Part,
+    core: Core,
+    w: Awaited,
+    bytes: &[u8],
+    code: &mut [u8],
+    data: &mut [u8],
+) -> Done
+    ensures { λ r. ⌜ effect r (flash (now (code .exit)) (now («data» .exit))) ≡ dataDoes part core w (now (bytes .entry)) (flash (now (code .entry)) (now («data» .entry))) ⌝ }
+{
+    let footer = footer_of(w);
+    let j = judgement::judge_fit(footer, length_of(w), bytes);
+    if j.is_good() {
+        return good_data(part, core, w, bytes, code, data);
+    }
+    bad_data(core, w, j.status())
+}

@@ -1,0 +1,99 @@
+// The replies of the chip: a value, its payloads, and the one place where they become bytes in the reply room.
+ghost use mathlib.Core.Path.{_≡_};
+ghost use mathlib.Core.List.{[], _∷_};
+ghost use Prim.Native.Nat.{_+_, _≤_};
+ghost use lib.ListN.{length};
+ghost use Rattle.chip_reply.specs.Reply.{payloads, said, sendOf};
+use chip_options::Options;
+use frame::Footer;
+use frame::wire;
+use part::Part;
+
+pub enum Reply {
+    Silence,
+    Status(u8),
+    Rate { clock: u8, mode: u8 },
+    Pair(u8, u8),
+    LastStored,
+    Sum(u16),
+    Signature,
+    Security,
+}
+
+// The bytes and the frames of what was written.
+pub struct Sent {
+    pub bytes: usize,
+    pub frames: usize,
+}
+
+fn send_one(room: &mut [u8], payload: &[u8]) -> Sent
+    requires { ⌜ (32 ≤ length (now room)) × (1 ≤ length (now payload)) × (length (now payload) ≤ 28) ⌝ }
+    ensures { λ r. ⌜ said r (now (room .exit)) ≡ sendOf (now (payload .entry) ∷ []) (now (room .entry)) ⌝ }
+{
+    wire::write_data(room, payload, Footer::Last);
+    Sent {
+        bytes: payload.len() + 4,
+        frames: 1,
+    }
+}
+
+// The second frame goes into the room past the first.
+fn send_two(room: &mut [u8], first: &[u8], second: &[u8]) -> Sent
+    requires { ⌜ (32 ≤ length (now room)) × (1 ≤ length (now first)) × (1 ≤ length (now second)) × (length (now first) + length (now second) ≤ 24) ⌝ }
+    ensures { λ r. ⌜ said r (now (room .exit)) ≡ sendOf (now (first .entry) ∷ now (second .entry) ∷ []) (now (room .entry)) ⌝ }
+{
+    let n = first.len() + 4;
+    wire::write_data(room, first, Footer::Last);
+    wire::write_data(&mut room[n..], second, Footer::Last);
+    Sent {
+        bytes: n + second.len() + 4,
+        frames: 2,
+    }
+}
+
+pub fn send(part: Part, options: Options, reply: Reply, room: &mut [u8]) -> Sent
+    ensures { λ r. ⌜ said r (now (room .exit)) ≡ sendOf (payloads part options reply) (now (room .entry)) ⌝ }
+{
+    if room.len() < 32 {
+        return Sent {
+            bytes: 0,
+            frames: 0,
+        };
+    }
+    let status = [0x06];
+    match reply {
+        Reply::Silence => Sent {
+            bytes: 0,
+            frames: 0,
+        },
+        Reply::Status(s) => {
+            let d = [s];
+            send_one(room, &d)
+        }
+        Reply::Rate { clock, mode } => {
+            let d = [0x06, clock, mode];
+            send_one(room, &d)
+        }
+        Reply::Pair(s, t) => {
+            let d = [s, t];
+            send_one(room, &d)
+        }
+        Reply::LastStored => {
+            let d = [0x06, 0x06];
+            let further = [0x06];
+            send_two(room, &d, &further)
+        }
+        Reply::Sum(n) => {
+            let d = [(n % 256) as u8, (n / 256) as u8];
+            send_two(room, &status, &d)
+        }
+        Reply::Signature => {
+            let d = part::signature::bytes(part);
+            send_two(room, &status, &d)
+        }
+        Reply::Security => {
+            let d = options.security();
+            send_two(room, &status, &d)
+        }
+    }
+}

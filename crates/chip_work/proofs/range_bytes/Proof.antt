@@ -1,0 +1,42 @@
+-- `chip_work::range_bytes` meets its contract: the area decides which slice is read; blocks of the part can be counted in bytes.
+-- Assumes nothing.
+use mathlib.Core.Path.{_∙_}
+use native.Mathlib.Omega.{arith}
+use borrow.Author.Needs.{needs}
+use Rattle.chip_work.proofs.Laws.{counts, range-in-code, range-in-data}
+use Rattle.chip_work.proofs.range_bytes.Statement.{statement}
+use Rattle.chip_work.proofs.range_bytes.Tie as tie
+
+mul-span : tie.Need-mul-span
+mul-span c = omega (arith, counts (c .before .before .before .before .before .args .part) (c .before .before .before .before .before .args .area) (c .before .before .before .before .before .args .block) _ (c .before .before .block-size .ensures) (omega arith) (search needs) (search needs))
+
+mul-span-2 : tie.Need-mul-span-2
+mul-span-2 c = omega (arith, counts (c .before .before .before .before .before .args .part) (c .before .before .before .before .before .args .area) (c .before .before .before .before .before .args .count) _ (c .before .before .block-size .ensures) (omega arith) (search needs) (search needs))
+
+mul-span-3 : tie.Need-mul-span-3
+mul-span-3 c = omega (arith, counts (c .before .before .before .before .before .args .part) (c .before .before .before .before .before .args .area) (c .before .before .before .before .before .args .block) _ (c .before .before .block-size .ensures) (omega arith) (search needs) (search needs))
+
+mul-span-4 : tie.Need-mul-span-4
+mul-span-4 c = omega (arith, counts (c .before .before .before .before .before .args .part) (c .before .before .before .before .before .args .area) (c .before .before .before .before .before .args .count) _ (c .before .before .block-size .ensures) (omega arith) (search needs) (search needs))
+
+returns : tie.Need-returns
+returns c = c .span .ensures ∙ range-in-code _ _ _ _ _ _ _ (c .before .enum-told .given .1) (c .before .before .before .block-size .ensures)
+
+returns-2 : tie.Need-returns-2
+returns-2 c = c .span2 .ensures ∙ range-in-data _ _ _ _ _ _ _ (c .before .enum-told2 .given .1) (c .before .before .before .block-size .ensures)
+
+pub range-bytes-spec : {M : Type 1} → statement M
+range-bytes-spec =
+    tie.close
+    (tie.spec
+    (λ c κs. search needs)
+    (λ c. search needs)
+    mul-span
+    mul-span-2
+    (λ c κs. search needs)
+    (λ c. search needs)
+    mul-span-3
+    mul-span-4
+    (λ c κs. search needs)
+    returns
+    returns-2)

@@ -1,0 +1,33 @@
+-- Laws about answers: the rest of lent bytes, and the status that decides of one, two or three.
+-- Assumes nothing.
+use mathlib.Core.Bool.{Bool, false, true}
+use mathlib.Core.List.{List, [], _∷_}
+use mathlib.Core.Path.{_≡_, refl}
+use Prim.Native.Nat.{_-_, _≤_, ℕ}
+use native.Mathlib.Omega.{arith}
+use lib.Dec.{eqb}
+use lib.ListN.{drop, drop-of-length-le, length, length-drop, take}
+use lib.Seq.{drop-length, take-all, take-nil}
+use borrow.Author.Tests.{eqb-true}
+use Rattle.dock_answer.specs.Answer.{deciding}
+use Rattle.words.specs.Words.{if_then_else_}
+
+pub none-after : (l : List ℕ) (n : ℕ) → length l ≤ n → take (length l - length l) (drop (length l) l) ≡ drop n l
+none-after l n h = rw (drop-length, take-nil, drop-of-length-le l h)
+
+pub all-after : (l : List ℕ) (n : ℕ) → take (length l - n) (drop n l) ≡ drop n l
+all-after l n = let k : length (drop n l) ≡ length l - n = length-drop n l in take-all (length l - n) (drop n l) (omega arith)
+
+-- A single status decides, whatever it is.
+pub deciding-one : (s : ℕ) → s ≡ deciding (s ∷ [])
+unfolding deciding if_then_else_
+deciding-one s = go (eqb s 0x06) refl
+  where
+    go : (t : Bool) → eqb s 0x06 ≡ t → s ≡ (if t then 0x06 else s)
+    go true e = eqb-true s 0x06 e
+    go false e = refl
+
+-- A further 06h changes nothing.
+pub deciding-two : (s t : ℕ) → deciding (s ∷ t ∷ 0x06 ∷ []) ≡ deciding (s ∷ t ∷ [])
+unfolding deciding if_then_else_
+deciding-two s t = refl

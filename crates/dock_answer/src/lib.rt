@@ -1,0 +1,168 @@
+// The answer to one frame, handed in at once: whether it is readable, and what it says. Document 01, "The dock's flow".
+ghost use mathlib.Core.Path.{_≡_};
+ghost use mathlib.Core.List.{[], _∷_};
+ghost use Prim.Native.Nat.{_≤_};
+ghost use lib.ListN.{drop};
+ghost use Rattle.dock_answer.specs.Answer.{carried, exactly, readable, deciding, statuses, rateMatches, signatureMatches, matching, readAnswer};
+use frame::wire;
+use frame::wire::Read;
+use part::Part;
+
+// What the answer to a frame looks like: one status; 9Ah's, 06h with clock and mode; C0h's, 06h and the signature; that to a page; that to the
+// last page of 40h, with a further status.
+pub enum Form {
+    OneStatus,
+    WithRate,
+    WithSignature,
+    OfPage,
+    OfLastPage,
+}
+
+// A readable answer has the status that decides, 06h where none is another, and whether what it holds beside statuses is as the job says.
+pub enum Decoded {
+    Said { status: u8, matches: bool },
+    Garbled,
+}
+
+// What follows the first n bytes; nothing where there are no more.
+fn after(bytes: &[u8], n: usize) -> &[u8]
+    ensures { λ r. ⌜ now r ≡ drop n (now (bytes .entry)) ⌝ }
+{
+    let len = bytes.len();
+    if len <= n {
+        return &bytes[len..len];
+    }
+    &bytes[n..len]
+}
+
+fn carried(bytes: &[u8]) -> usize
+    ensures { λ r. ⌜ r ≡ carried (now (bytes .entry)) ⌝ }
+{
+    let front = wire::read_data(bytes);
+    let Read::Frame { at, len, next } = front else {
+        return 0;
+    };
+    len
+}
+
+fn is_one(bytes: &[u8], n: usize) -> bool
+    requires { ⌜ n ≤ 256 ⌝ }
+    ensures { λ r. ⌜ r ≡ exactly (n ∷ []) (now (bytes .entry)) ⌝ }
+{
+    if carried(bytes) == n {
+        let rest = after(bytes, n + 4);
+        return rest.len() == 0;
+    }
+    false
+}
+
+fn is_two(bytes: &[u8], n: usize, m: usize) -> bool
+    requires { ⌜ (n ≤ 256) × (m ≤ 256) ⌝ }
+    ensures { λ r. ⌜ r ≡ exactly (n ∷ m ∷ []) (now (bytes .entry)) ⌝ }
+{
+    if carried(bytes) == n {
+        return is_one(after(bytes, n + 4), m);
+    }
+    false
+}
+
+fn is_readable(form: Form, bytes: &[u8]) -> bool
+    ensures { λ r. ⌜ r ≡ readable form (now (bytes .entry)) ⌝ }
+{
+    match form {
+        Form::OneStatus => is_one(bytes, 1),
+        Form::WithRate => {
+            if lent::byte_at(bytes, 2) == 0x06 {
+                return is_one(bytes, 3);
+            }
+            is_one(bytes, 1)
+        }
+        Form::WithSignature => {
+            if lent::byte_at(bytes, 2) == 0x06 {
+                return is_two(bytes, 1, 22);
+            }
+            is_one(bytes, 1)
+        }
+        Form::OfPage => is_one(bytes, 2),
+        Form::OfLastPage => {
+            if lent::byte_at(bytes, 2) == 0x06 {
+                if lent::byte_at(bytes, 3) == 0x06 {
+                    return is_two(bytes, 2, 1);
+                }
+                return is_one(bytes, 2);
+            }
+            is_one(bytes, 2)
+        }
+    }
+}
+
+// The first of three statuses that is not 06h.
+fn first_other(first: u8, second: u8, third: u8) -> u8
+    ensures { λ r. ⌜ r ≡ deciding (first ∷ second ∷ third ∷ []) ⌝ }
+{
+    if first == 0x06 {
+        if second == 0x06 {
+            return third;
+        }
+        return second;
+    }
+    first
+}
+
+fn status_of(form: Form, bytes: &[u8]) -> u8
+    ensures { λ r. ⌜ r ≡ deciding (statuses form (now (bytes .entry))) ⌝ }
+{
+    let first = lent::byte_at(bytes, 2);
+    let second = lent::byte_at(bytes, 3);
+    match form {
+        Form::OneStatus => first,
+        Form::WithRate => first,
+        Form::WithSignature => first,
+        Form::OfPage => first_other(first, second, 0x06),
+        Form::OfLastPage => first_other(first, second, lent::byte_at(bytes, 8)),
+    }
+}
+
+fn is_rate(part: Part, supply: u32, clock: u8, mode: u8) -> bool
+    ensures { λ r. ⌜ r ≡ rateMatches part supply clock mode ⌝ }
+{
+    if (clock as u32) == part.clock {
+        return mode == part::rate::mode(part, supply);
+    }
+    false
+}
+
+fn is_signature(part: Part, bytes: &[u8]) -> bool
+    ensures { λ r. ⌜ r ≡ signatureMatches part (now (bytes .entry)) ⌝ }
+{
+    let signature = part::signature::bytes(part);
+    lent::is_same_at(bytes, 7, &signature)
+}
+
+fn is_matching(part: Part, supply: u32, form: Form, bytes: &[u8]) -> bool
+    ensures { λ r. ⌜ r ≡ matching part supply form (now (bytes .entry)) ⌝ }
+{
+    match form {
+        Form::OneStatus => true,
+        Form::WithRate => {
+            let clock = lent::byte_at(bytes, 3);
+            is_rate(part, supply, clock, lent::byte_at(bytes, 4))
+        }
+        Form::WithSignature => is_signature(part, bytes),
+        Form::OfPage => true,
+        Form::OfLastPage => true,
+    }
+}
+
+pub fn read(part: Part, supply: u32, form: Form, bytes: &[u8]) -> Decoded
+    ensures { λ r. ⌜ r ≡ readAnswer part supply form (now (bytes .entry)) ⌝ }
+{
+    if is_readable(form, bytes) {
+        let status = status_of(form, bytes);
+        return Decoded::Said {
+            status,
+            matches: is_matching(part, supply, form, bytes),
+        };
+    }
+    Decoded::Garbled
+}

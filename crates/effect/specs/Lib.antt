@@ -1,3 +1,0 @@
-pub mod Effect
-pub mod Commands
-pub mod Pages

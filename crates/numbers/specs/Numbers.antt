@@ -1,0 +1,13 @@
+-- Numbers as bytes, low byte first, as the documents' numbers travel: written, and read.
+use mathlib.Core.List.{List, [], _∷_}
+use Prim.Native.Nat.{_%_, _*_, _+_, _/_, suc, zero, ℕ}
+use lib.ListN.{getD}
+
+-- A number in k bytes, and the number that k bytes from a place on are; bytes that are not there count as 0.
+unfoldable pub little : ℕ → ℕ → List ℕ
+little zero n = []
+little (suc k) n = n % 256 ∷ little k (n / 256)
+
+unfoldable pub numberAt : ℕ → ℕ → List ℕ → ℕ
+numberAt zero at bs = 0
+numberAt (suc k) at bs = getD bs at 0 + 256 * numberAt k (at + 1) bs

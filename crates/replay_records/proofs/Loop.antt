@@ -1,0 +1,236 @@
+-- How far the loop over a capture's records has come.
+-- Assumes nothing.
+use mathlib.Core.List.{List, _++_, _∷_, append-nil}
+use mathlib.Core.Path.{_∙_, _≡_, ap, refl, subst, sym}
+use Prim.Native.Nat.{_+_, _-_, _<_, _≤_, suc, zero, ℕ}
+use native.Mathlib.Decide.{decLe}
+use native.Mathlib.Nat.{add-zero}
+use native.Mathlib.Omega.{arith}
+use lib.ListN.{drop, drop-of-length-le, getD, length, length-append, length-drop, take}
+use lib.Seq.{drop-cons, drop-drop, drop-length, length-take-le, take-all}
+use borrow.Author.Tests.{le-ltb, lt-ltb}
+use Rattle.replay_capture.specs.Capture.{recordSize, recordsIn, recordsOf}
+use Rattle.chip.proofs.Saying.{Arrays}
+use Rattle.chip_state.specs.declared.Chip.{Chip}
+use Rattle.chip_core.specs.Effect.{Flash}
+use Rattle.part.specs.declared.Part.{Part}
+use Rattle.part.specs.declared.refusal.Refusal.{Refusal}
+use Rattle.replay_records.proofs.Laws.{Fits, turn-fits}
+use Rattle.replay_records.specs.Records.{Replaying, Turning, afterTurn, nextBy, replayOf, replayedFrom, turnOf, whileWhole}
+use Rattle.replay_records.specs.declared.Ended.{Ended}
+use Rattle.replay_records.specs.declared.Ended.the-variants.{AtBadRecord, Whole}
+use Rattle.replay_records.specs.declared.Ended.the-variants as Ended
+use Rattle.replay_records.specs.declared.Turned.{Turned}
+use Rattle.replay_records.specs.declared.Turned.the-variants.{NotGood, Played}
+use Rattle.replay_records.specs.declared.Turned.the-variants as Turned
+use Rattle.replay_records.specs.inner.Loop.{recordEnd}
+use Rattle.words.specs.Words.{if_then_else_}
+
+-- at bytes of the capture are played, x is what they came to, and t is what the rest makes of it.
+pub record ReplayedFrom (p : Part) (bs : List ℕ) (at : ℕ) (x t : Replaying) : Type 0 where
+  pub most : ℕ
+  pub enough : length (drop at bs) ≤ most
+  pub within : at ≤ length bs
+  pub counted : x .records ≤ at
+  pub framed : x .frames ≤ x .bytes
+  pub stands : x .bytes ≤ length (x .output)
+  pub rest : replayedFrom p (recordsIn recordSize most (drop at bs)) x ≡ t
+
+pub replayed-start : (p : Part) (bs : List ℕ) (c : Chip) (m : Flash) (room output : List ℕ)
+    → ReplayedFrom p bs 0 (record { ended = Whole; records = 0; bytes = 0; frames = 0; chip = c; memory = m; room = room; output = output }) (replayOf p bs c m room output)
+unfolding replayOf recordsOf
+replayed-start p bs c m room output =
+    record {
+      most = length bs;
+      enough = omega arith;
+      within = omega arith;
+      counted = omega arith;
+      framed = omega arith;
+      stands = omega arith;
+      rest = refl;
+    }
+
+-- The record at a place: where it ends, and its bytes.
+pub end-after : (at len : ℕ) → at < len → at < recordEnd at len
+unfolding recordEnd if_then_else_
+end-after at len h = go (decLe 8 (len - at))
+  where
+    go : Dec (8 ≤ len - at) → at < recordEnd at len
+    go (yes k) = rw (le-ltb (len - at) 8 k) (omega arith)
+    go (no k) = rw (lt-ltb (len - at) 8 (omega arith)) h
+
+pub end-within : (at len : ℕ) → at < len → recordEnd at len ≤ len
+unfolding recordEnd if_then_else_
+end-within at len h = go (decLe 8 (len - at))
+  where
+    go : Dec (8 ≤ len - at) → recordEnd at len ≤ len
+    go (yes k) = rw (le-ltb (len - at) 8 k) (omega arith)
+    go (no k) = rw (lt-ltb (len - at) 8 (omega arith)) (omega arith)
+
+cut-record : (bs : List ℕ) (at : ℕ) → at < length bs → take (recordEnd at (length bs) - at) (drop at bs) ≡ take recordSize (drop at bs)
+unfolding recordEnd if_then_else_
+cut-record bs at h = go (decLe 8 (length bs - at))
+  where
+    go : Dec (8 ≤ length bs - at) → take (recordEnd at (length bs) - at) (drop at bs) ≡ take recordSize (drop at bs)
+    go (yes k) =
+        let e : at + 8 - at ≡ 8 = omega arith in
+        rw (le-ltb (length bs - at) 8 k) (ap (λ (n : ℕ). take n (drop at bs)) e)
+    go (no k) =
+        let l : length (drop at bs) ≡ length bs - at = length-drop at bs in
+        rw (lt-ltb (length bs - at) 8 (omega arith)) (take-all (length bs - at) (drop at bs) (omega arith) ∙ sym (take-all 8 (drop at bs) (omega arith)))
+
+cut-rest : (bs : List ℕ) (at : ℕ) → at < length bs → drop recordSize (drop at bs) ≡ drop (recordEnd at (length bs)) bs
+unfolding recordEnd if_then_else_
+cut-rest bs at h = go (decLe 8 (length bs - at))
+  where
+    go : Dec (8 ≤ length bs - at) → drop recordSize (drop at bs) ≡ drop (recordEnd at (length bs)) bs
+    go (yes k) = rw (le-ltb (length bs - at) 8 k) (drop-drop 8 at bs)
+    go (no k) =
+        let past : length bs ≤ at + 8 = omega arith in
+        rw (lt-ltb (length bs - at) 8 (omega arith)) (drop-drop 8 at bs ∙ drop-of-length-le bs past ∙ sym (drop-length bs))
+
+-- The records from a place on: the one there, and the rest.
+records-cut : (most : ℕ) (bs : List ℕ) (at : ℕ) → at < length bs → length (drop at bs) ≤ most
+    → recordsIn recordSize most (drop at bs) ≡ take (recordEnd at (length bs) - at) (drop at bs) ∷ recordsIn recordSize (most - 1) (drop (recordEnd at (length bs)) bs)
+unfolding recordsIn
+records-cut zero bs at h k = absurd (let l : length (drop at bs) ≡ length bs - at = length-drop at bs in omega arith)
+records-cut (suc most) bs at h k =
+    let one : suc most - 1 ≡ most = omega arith in
+    let d : drop at bs ≡ getD bs at 0 ∷ drop (suc at) bs = drop-cons bs at 0 h in
+    ap (recordsIn recordSize (suc most)) d
+    ∙ ap (λ (l : List ℕ). take recordSize l ∷ recordsIn recordSize most (drop recordSize l)) (sym d)
+    ∙ ap (λ (l : List ℕ). l ∷ recordsIn recordSize most (drop recordSize (drop at bs))) (sym (cut-record bs at h))
+    ∙ ap (λ (l : List ℕ). take (recordEnd at (length bs) - at) (drop at bs) ∷ recordsIn recordSize most l) (cut-rest bs at h)
+    ∙ ap (λ (n : ℕ). take (recordEnd at (length bs) - at) (drop at bs) ∷ recordsIn recordSize n (drop (recordEnd at (length bs)) bs)) (sym one)
+
+-- The end of the output, lent as a part, goes out and comes back in these forms.
+tail-out : (l : List ℕ) (n : ℕ) → take (length l - n) (drop n l) ≡ drop n l
+tail-out l n = take-all (length l - n) (drop n l) (rw length-drop (omega arith))
+
+tail-back : (l w : List ℕ) (n : ℕ) → take n l ++ (w ++ drop (length l - n) (drop n l)) ≡ take n l ++ w
+tail-back l w n =
+    let past : length (drop n l) ≤ length l - n = rw length-drop (omega arith) in
+    ap (λ (z : List ℕ). take n l ++ z) (ap (λ (z : List ℕ). w ++ z) (drop-of-length-le (drop n l) past) ∙ append-nil w)
+
+-- The turn of the record from at to its end, as the code calls it.
+abbrev turnAt : Part → List ℕ → ℕ → ℕ → Replaying → Turning
+turnAt p bs at end x =
+    turnOf p (take (end - at) (drop at bs)) (x .chip) (x .memory) (x .room) (take (length (x .output) - x .bytes) (drop (x .bytes) (x .output)))
+
+turned-next : {p : Part} {bs : List ℕ} {at end : ℕ} {x t : Replaying} (u : Turning) (q : ReplayedFrom p bs at x t) → at < length bs → end ≡ recordEnd at (length bs) → u ≡ turnAt p bs at end x
+    → whileWhole (nextBy (u .turned) u x .ended) (replayedFrom p (recordsIn recordSize (q .most - 1) (drop (recordEnd at (length bs)) bs)) (nextBy (u .turned) u x)) (nextBy (u .turned) u x) ≡ t
+unfolding replayedFrom
+turned-next {p} {bs} {at} {end} {x} {t} u q h g e =
+    let r = take (recordEnd at (length bs) - at) (drop at bs) in
+    let rs = recordsIn recordSize (q .most - 1) (drop (recordEnd at (length bs)) bs) in
+    let v : u ≡ turnOf p r (x .chip) (x .memory) (x .room) (drop (x .bytes) (x .output)) =
+    e
+    ∙ ap (λ (n : ℕ). turnAt p bs at n x) g
+    ∙ ap (λ (l : List ℕ). turnOf p r (x .chip) (x .memory) (x .room) l) (tail-out (x .output) (x .bytes)) in
+    ap (λ (w : Turning). whileWhole (nextBy (w .turned) w x .ended) (replayedFrom p rs (nextBy (w .turned) w x)) (nextBy (w .turned) w x)) v
+    ∙ sym (ap (λ (l : List (List ℕ)). replayedFrom p l x) (records-cut (q .most) bs at h (q .enough)))
+    ∙ q .rest
+
+-- What a turn leaves, as the code holds it.
+abbrev after : Ended → ℕ → ℕ → ℕ → Turning → Replaying → Replaying
+after e records bytes frames u x =
+    record {
+      ended = e;
+      records = records;
+      bytes = bytes;
+      frames = frames;
+      chip = u .chip;
+      memory = u .memory;
+      room = u .room;
+      output = take (x .bytes) (x .output) ++ (u .output ++ drop (length (x .output) - x .bytes) (drop (x .bytes) (x .output)));
+    }
+
+after-is : (e : Ended) (records bytes frames : ℕ) (u : Turning) (x : Replaying)
+    → after e (x .records + records) (x .bytes + bytes) (x .frames + frames) u x ≡ afterTurn e records bytes frames u x
+after-is e records bytes frames u x =
+    ap (λ (l : List ℕ). record {
+      ended = e;
+      records = x .records + records;
+      bytes = x .bytes + bytes;
+      frames = x .frames + frames;
+      chip = u .chip;
+      memory = u .memory;
+      room = u .room;
+      output = l;
+    }) (tail-back (x .output) (u .output) (x .bytes))
+
+stopped-is : (e : Ended) (u : Turning) (x : Replaying) → after e (x .records) (x .bytes) (x .frames) u x ≡ afterTurn e 0 0 0 u x
+stopped-is e u x =
+    ap (λ (n : ℕ). after e n (x .bytes) (x .frames) u x) (sym (add-zero (x .records)))
+    ∙ ap (λ (n : ℕ). after e (x .records + 0) n (x .frames) u x) (sym (add-zero (x .bytes)))
+    ∙ ap (λ (n : ℕ). after e (x .records + 0) (x .bytes + 0) n u x) (sym (add-zero (x .frames)))
+    ∙ after-is e 0 0 0 u x
+
+-- By how a turn ended.
+goes : (p : Part) (rs : List (List ℕ)) (n k : ℕ) (a : Turned) (u : Turning) (x : Replaying) → a ≡ Played n k
+    → whileWhole (nextBy a u x .ended) (replayedFrom p rs (nextBy a u x)) (nextBy a u x) ≡ replayedFrom p rs (afterTurn Whole 1 n k u x)
+unfolding whileWhole nextBy
+goes p rs n k a u x e = rw e
+
+ends-bad : (p : Part) (rs : List (List ℕ)) (a : Turned) (u : Turning) (x : Replaying) → a ≡ NotGood
+    → whileWhole (nextBy a u x .ended) (replayedFrom p rs (nextBy a u x)) (nextBy a u x) ≡ afterTurn AtBadRecord 0 0 0 u x
+unfolding whileWhole nextBy
+ends-bad p rs a u x e = rw e
+
+ends-halted : (p : Part) (rs : List (List ℕ)) (r : Refusal) (a : Turned) (u : Turning) (x : Replaying) → a ≡ Turned.Refused r
+    → whileWhole (nextBy a u x .ended) (replayedFrom p rs (nextBy a u x)) (nextBy a u x) ≡ afterTurn (Ended.Refused r) 0 0 0 u x
+unfolding whileWhole nextBy
+ends-halted p rs r a u x e = rw e
+
+pub replayed-bad : {p : Part} {bs : List ℕ} {at end : ℕ} {x t : Replaying} (u : Turning) → ReplayedFrom p bs at x t → at < length bs → end ≡ recordEnd at (length bs) → u ≡ turnAt p bs at end x → u .turned ≡ NotGood
+    → after AtBadRecord (x .records) (x .bytes) (x .frames) u x ≡ t
+replayed-bad {p} {bs} {at} {end} {x} {t} u q h g e z = stopped-is AtBadRecord u x ∙ sym (ends-bad p _ (u .turned) u x z) ∙ turned-next u q h g e
+
+pub replayed-halted : {p : Part} {bs : List ℕ} {at end : ℕ} {x t : Replaying} {r : Refusal} (u : Turning) → ReplayedFrom p bs at x t → at < length bs → end ≡ recordEnd at (length bs) → u ≡ turnAt p bs at end x
+    → u .turned ≡ Turned.Refused r → after (Ended.Refused r) (x .records) (x .bytes) (x .frames) u x ≡ t
+replayed-halted {p} {bs} {at} {end} {x} {t} {r} u q h g e z = stopped-is (Ended.Refused r) u x ∙ sym (ends-halted p _ r (u .turned) u x z) ∙ turned-next u q h g e
+
+-- What a turn says lies in the output.
+pub turn-lies : {p : Part} {bs : List ℕ} {at end : ℕ} {x t : Replaying} {n k : ℕ} (u : Turning) → ReplayedFrom p bs at x t → Arrays p → end ≡ recordEnd at (length bs) → u ≡ turnAt p bs at end x → u .turned ≡ Played n k
+    → (x .bytes + n ≤ length (x .output)) × (k ≤ n)
+turn-lies {p} {bs} {at} {end} {x} {t} {n} {k} u q a g e z =
+    let l = take (length (x .output) - x .bytes) (drop (x .bytes) (x .output)) in
+    let f : Fits (u .turned) (length l) = rw e (turn-fits p (take (end - at) (drop at bs)) (x .chip) (x .memory) (x .room) l a) in
+    let w : length l ≡ length (x .output) - x .bytes = ap length (tail-out (x .output) (x .bytes)) ∙ length-drop (x .bytes) (x .output) in
+    (omega (arith, f .bytes n k z, q .stands, w), f .frames n k z)
+
+pub output-kept : {p : Part} {bs : List ℕ} {at end : ℕ} {x t : Replaying} (u : Turning) → ReplayedFrom p bs at x t → end ≡ recordEnd at (length bs) → u ≡ turnAt p bs at end x
+    → length (u .output) ≡ length (take (length (x .output) - x .bytes) (drop (x .bytes) (x .output)))
+    → length (take (x .bytes) (x .output) ++ (u .output ++ drop (length (x .output) - x .bytes) (drop (x .bytes) (x .output)))) ≡ length (x .output)
+output-kept {p} {bs} {at} {end} {x} {t} u q g e l =
+    let v : length (u .output) ≡ length (x .output) - x .bytes = l ∙ ap length (tail-out (x .output) (x .bytes)) ∙ length-drop (x .bytes) (x .output) in
+    rw (tail-back (x .output) (u .output) (x .bytes), length-append, length-take-le (x .bytes) (x .output) (q .stands)) (omega (arith, v, q .stands))
+
+pub replayed-turn : {p : Part} {bs : List ℕ} {at end : ℕ} {x t : Replaying} {n k : ℕ} (u : Turning) → ReplayedFrom p bs at x t → Arrays p → at < length bs → end ≡ recordEnd at (length bs) → u ≡ turnAt p bs at end x
+    → u .turned ≡ Played n k → length (after Whole (x .records + 1) (x .bytes + n) (x .frames + k) u x .output) ≡ length (x .output)
+    → ReplayedFrom p bs end (after Whole (x .records + 1) (x .bytes + n) (x .frames + k) u x) t
+replayed-turn {p} {bs} {at} {end} {x} {t} {n} {k} u q a h g e z long =
+    let s = turn-lies u q a g e z in
+    let l : length (drop (recordEnd at (length bs)) bs) ≡ length bs - recordEnd at (length bs) = length-drop (recordEnd at (length bs)) bs in
+    let m : length (drop at bs) ≡ length bs - at = length-drop at bs in
+    subst (λ (i : ℕ). ReplayedFrom p bs i (after Whole (x .records + 1) (x .bytes + n) (x .frames + k) u x) t) (sym g)
+    (record {
+      most = q .most - 1;
+      enough = omega (arith, l, m, q .enough, end-after at (length bs) h);
+      within = end-within at (length bs) h;
+      counted = omega (arith, q .counted, end-after at (length bs) h);
+      framed = omega (arith, q .framed, s .1);
+      stands = omega (arith, s .0, long);
+      rest =
+          ap (λ (y : Replaying). replayedFrom p (recordsIn recordSize (q .most - 1) (drop (recordEnd at (length bs)) bs)) y) (after-is Whole 1 n k u x)
+          ∙ sym (goes p (recordsIn recordSize (q .most - 1) (drop (recordEnd at (length bs)) bs)) n k (u .turned) u x z)
+          ∙ turned-next u q h g e;
+    })
+
+pub replayed-end : {p : Part} {bs : List ℕ} {at : ℕ} {x t : Replaying} → ReplayedFrom p bs at x t → length bs ≤ at → x ≡ t
+unfolding replayedFrom recordsIn
+replayed-end {p} {bs} {at} {x} {t} q h = go (q .most) ∙ q .rest
+  where
+    go : (n : ℕ) → x ≡ replayedFrom p (recordsIn recordSize n (drop at bs)) x
+    go zero = refl
+    go (suc n) = rw (drop-of-length-le bs h)

@@ -1,0 +1,42 @@
+-- `replay_records::play_gap` meets its contract: one event alone.
+-- Assumes nothing.
+use native.Mathlib.Omega.{arith}
+use borrow.Author.Needs.{needs}
+use Rattle.chip.proofs.Saying.{Arrays}
+use Rattle.replay_records.proofs.Laws.{one-lies, one-refused, one-said}
+use Rattle.replay_records.proofs.play_gap.Statement.{statement}
+use Rattle.replay_records.proofs.play_gap.Tie as tie
+
+-- The lengths of the part's arrays.
+arrays : (c : tie.Start) → Arrays (c .args .part)
+arrays c = record { deviceLong = search needs; nameLong = search needs; versionLong = search needs }
+
+part-put-end : tie.Need-part-put-end
+part-put-end c = omega (arith, one-lies _ _ _ _ _ _ _ _ (arrays (c .before .before .before .before .before .before .before .before .before .before .before .before .before .before .before .before .before .before .before .before)) (c .before .before .before .before .before .before .before .before .before .before .before .before .step .ensures) (c .before .before .before .answer2 .given .1))
+
+returns : tie.Need-returns
+returns c = one-refused _ _ _ _ _ _ _ _ (c .before .before .before .before .before .before .before .before .before .before .step .ensures) (c .before .answer .given .1)
+
+returns-2 : tie.Need-returns-2
+returns-2 c = one-said _ _ _ _ _ _ _ _ _ _ _ (arrays (c .before .before .before .before .before .before .before .before .before .before .before .before .before .before .before .before .before .before .before .before .before .before .before .before)) (c .before .before .before .before .before .before .before .before .before .before .before .before .before .before .before .before .step .ensures) (c .before .before .before .before .before .before .before .answer2 .given .1) (search needs) (c .before .before .put .ensures)
+
+pub play-gap-spec : {M : Type 1} → statement M
+play-gap-spec =
+    tie.close
+    (tie.spec
+    (λ c κs. search needs)
+    (λ c. search needs)
+    (λ c. search needs)
+    (λ c. search needs)
+    (λ c. search needs)
+    part-put-end
+    (λ c κs. search needs)
+    (λ c. search needs)
+    (λ c. search needs)
+    (λ c. search needs)
+    returns
+    (λ c. search needs)
+    (λ c. search needs)
+    (λ c. search needs)
+    (λ c. search needs)
+    returns-2)
