@@ -1,6 +1,7 @@
 // The chip's record, without what it has collected, and what a complete frame does to it: document 01, "Phases" and "Commands". Commands and pages stand on it.
 ghost use mathlib.Core.Path.{_≡_};
 ghost use Rattle.chip_core.specs.Effect.{awaiting, entered, says};
+ghost use Rattle.chip_core.specs.Hearing.{hearing};
 use chip_options::Options;
 use chip_reply::Reply;
 
@@ -19,6 +20,13 @@ pub enum Phase {
     Awaiting(Awaited),
 }
 
+// What a phase hears: no frame, a command frame, or a data frame with the record of phase 4.
+pub enum Hearing {
+    HearsNothing,
+    HearsCommands,
+    HearsData(Awaited),
+}
+
 // What commands work on: all of the chip but what it has collected.
 pub struct Core {
     pub options: Options,
@@ -30,6 +38,19 @@ pub struct Core {
 pub struct Done {
     pub reply: Reply,
     pub core: Core,
+}
+
+impl Phase {
+    pub fn hearing(self) -> Hearing
+        ensures { λ r. ⌜ r ≡ hearing self ⌝ }
+    {
+        match self {
+            Phase::ModeByte => Hearing::HearsNothing,
+            Phase::Setup => Hearing::HearsCommands,
+            Phase::Ready => Hearing::HearsCommands,
+            Phase::Awaiting(w) => Hearing::HearsData(w),
+        }
+    }
 }
 
 impl Core {

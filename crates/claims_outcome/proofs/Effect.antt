@@ -8,6 +8,8 @@ use denote.Triple.Clauses.{AtExit}
 use borrow.Fn.Kinds.{Dens, endedOf, resT}
 use Rattle.chip_core.proofs.Core.entered.Reads as Core-entered
 use Rattle.chip_core.proofs.Core.entered.Kinds as Core-entered-kinds
+use Rattle.chip_core.proofs.Phase.hearing.Reads as Phase-hearing
+use Rattle.chip_core.proofs.Phase.hearing.Kinds as Phase-hearing-kinds
 use Rattle.lent.proofs.span.Reads as part-of
 use Rattle.lent.proofs.span.Kinds as part-of-kinds
 use Rattle.frame.proofs.judgement.Judgement.is_good.Reads as is-good
@@ -33,6 +35,9 @@ use Rattle.chip_work.proofs.release.Kinds as work-release-kinds
 
 pub Core-entered-once : (κs : Lfts 0) (a : Dens κs Core-entered-kinds.ps) → OneOutcome {R = resT Core-entered-kinds.r κs .Denot} {X = AtExit (endedOf 0 Core-entered-kinds.ps Core-entered-kinds.r) κs} (Core-entered.Post κs a) (λ r x. r)
 Core-entered-once κs a = one-outcome (Core-entered.Post κs a) (λ r x. r) _ (λ r x p. p)
+
+pub Phase-hearing-once : (κs : Lfts 0) (a : Dens κs Phase-hearing-kinds.ps) → OneOutcome {R = resT Phase-hearing-kinds.r κs .Denot} {X = AtExit (endedOf 0 Phase-hearing-kinds.ps Phase-hearing-kinds.r) κs} (Phase-hearing.Post κs a) (λ r x. r)
+Phase-hearing-once κs a = one-outcome (Phase-hearing.Post κs a) (λ r x. r) _ (λ r x p. p)
 
 pub part-of-once : (κs : Lfts 1) (a : Dens κs part-of-kinds.ps) → OneOutcome {R = resT part-of-kinds.r κs .Denot} {X = AtExit (endedOf 1 part-of-kinds.ps part-of-kinds.r) κs} (part-of.Post κs a) (λ r x. now r)
 part-of-once κs a = one-outcome (part-of.Post κs a) (λ r x. now r) _ (λ r x p. p)
