@@ -38,21 +38,35 @@ pub fed-start : (p : Part) (bs : List ℕ) (o : Outcome) → FedFrom p bs 0 o (f
 unfolding feedOf
 fed-start p bs o = record { rest = refl }
 
+-- A stretch of bytes: none, or one byte, its answer's way on, and the rest.
+pub feed-is : (p : Part) (bs : List ℕ) (o : Outcome) → feedOf p bs o ≡ feedFrom p 0 bs o
+unfolding feedOf
+feed-is p bs o = refl
+
+pub feed-none : (p : Part) (n : ℕ) (o : Outcome) → feedFrom p n [] o ≡ feeding n o
+unfolding feedFrom
+feed-none p n o = refl
+
+pub feed-next : (p : Part) (n b : ℕ) (bs : List ℕ) (o : Outcome)
+    → feedFrom p n (b ∷ bs) o ≡ fedOn (onward p o (Byte b) .answer) n (onward p o (Byte b)) (feedFrom p (n + 1) bs (onward p o (Byte b)))
+unfolding feedFrom
+feed-next p n b bs o = refl
+
 -- One byte more, and its answer's way on.
 fed-byte : (p : Part) (bs : List ℕ) (i : ℕ) (o x : Outcome) (t : Feeding) → FedFrom p bs i o t → x ≡ stepOf p (o .chip) (Byte (getD bs i 0)) (o .memory) (o .room)
     → i < length bs → fedOn (x .answer) i x (feedFrom p (i + 1) (drop (i + 1) bs) x) ≡ t
 unfolding feedFrom
 fed-byte p bs i o x t f e h = rw (e, add-one) (rw (drop-cons bs i 0 h, add-one) at (f .rest))
 
-on-silent : (a : Answer) (i n k : ℕ) (x : Outcome) (rest : Feeding) → a ≡ Replied n k → k ≤ 0 → fedOn a i x rest ≡ rest
+pub on-silent : (a : Answer) (i n k : ℕ) (x : Outcome) (rest : Feeding) → a ≡ Replied n k → k ≤ 0 → fedOn a i x rest ≡ rest
 unfolding fedOn if_then_else_
 on-silent a i n k x rest e z = rw (e, eq-eqb k 0 (omega arith))
 
-on-said : (a : Answer) (i n k : ℕ) (x : Outcome) (rest : Feeding) → a ≡ Replied n k → 0 < k → feeding (i + 1) x ≡ fedOn a i x rest
+pub on-said : (a : Answer) (i n k : ℕ) (x : Outcome) (rest : Feeding) → a ≡ Replied n k → 0 < k → feeding (i + 1) x ≡ fedOn a i x rest
 unfolding fedOn if_then_else_
 on-said a i n k x rest e z = rw (e, ne-eqb k 0 (λ q. omega arith))
 
-on-refused : (a : Answer) (i : ℕ) (r : Refusal) (x : Outcome) (rest : Feeding) → a ≡ Refused r → feeding i x ≡ fedOn a i x rest
+pub on-refused : (a : Answer) (i : ℕ) (r : Refusal) (x : Outcome) (rest : Feeding) → a ≡ Refused r → feeding i x ≡ fedOn a i x rest
 unfolding fedOn
 on-refused a i r x rest e = rw e
 

@@ -1,19 +1,37 @@
 -- Laws about capture records.
 -- Assumes nothing.
 use mathlib.Core.Bool.{Bool, false, not, true}
-use mathlib.Core.List.{List}
+use mathlib.Core.List.{List, [], _∷_}
 use mathlib.Core.Path.{_∙_, _≡_, ap, refl, sym}
-use Prim.Native.Nat.{_+_, _-_, _≤_, ℕ}
+use Prim.Native.Nat.{_+_, _-_, _≤_, suc, zero, ℕ}
 use native.Mathlib.Omega.{arith}
 use lib.Dec.{eqb, leb}
 use lib.ListN.{drop, length, length-drop, take}
 use lib.Seq.{drop-drop, take-all}
 use borrow.Author.Tests.{eqb-true, leb-true}
-use Rattle.replay_capture.specs.Capture.{bytesRecord, count, gapRecord, kind, recordOf, recordSize, unused}
+use Rattle.replay_capture.specs.Capture.{bytesRecord, count, gapRecord, kind, recordOf, recordSize, recordsIn, recordsOf, unused}
 use Rattle.replay_capture.specs.declared.Record.the-variants.{BadRecord, BytesRecord, GapRecord}
 use Rattle.lent.specs.Lent.{allAre}
 use Rattle.words.proofs.Laws.{and-left, and-right}
 use Rattle.words.specs.Words.{_and_, _from_to_, if_then_else_}
+
+-- The records of a capture: as many as it has bytes at most; none of none; and of more, the first, and those of what is behind it.
+pub records-is : (size : ℕ) (bs : List ℕ) → recordsOf size bs ≡ recordsIn size (length bs) bs
+unfolding recordsOf
+records-is size bs = refl
+
+pub records-none : (size most : ℕ) → recordsIn size most [] ≡ []
+unfolding recordsIn
+records-none size zero = refl
+records-none size (suc most) = refl
+
+pub records-next : (size most : ℕ) (bs : List ℕ) → 1 ≤ length bs → 1 ≤ most → recordsIn size most bs ≡ take size bs ∷ recordsIn size (most - 1) (drop size bs)
+unfolding recordsIn
+records-next size most [] h k = absurd (omega arith)
+records-next size zero (b ∷ bs) h k = absurd (omega arith)
+records-next size (suc most) (b ∷ bs) h k =
+    let one : suc most - 1 ≡ most = omega arith in
+    ap (λ (n : ℕ). take size (b ∷ bs) ∷ recordsIn size n (drop size (b ∷ bs))) (sym one)
 
 -- The end of a slice, lent as a part, comes in this form.
 pub unused-tail : {r : Bool} (n : ℕ) (bs : List ℕ) → r ≡ allAre 0x00 (take (length bs - (n + 2)) (drop (n + 2) bs)) → r ≡ unused n bs

@@ -1,23 +1,21 @@
 -- Laws of playing: how a stretch of bytes that the chip was fed continues what is played, and how far the loop over a record's bytes has come.
 -- Assumes nothing.
-use mathlib.Core.Bool.{Bool, false, true}
 use mathlib.Core.List.{List, [], _++_, _∷_, append-nil, map}
 use mathlib.Core.Path.{_∙_, _≡_, ap, refl, sym}
 use Prim.Native.Nat.{_*_, _+_, _-_, _<_, _≤_, suc, zero, ℕ}
 use native.Mathlib.Decide.{decLe}
 use native.Mathlib.Nat.{add-zero, zero-add}
 use native.Mathlib.Omega.{arith}
-use lib.Dec.{eqb}
 use lib.ListN.{drop, drop-of-length-le, getD, length, length-append, length-drop, length-map, length-take, take}
 use lib.Seq.{drop-cons, drop-drop, length-take-le, take-all}
-use borrow.Author.Tests.{eqb-true, le-ltb, lt-ltb}
+use borrow.Author.Tests.{le-ltb, lt-ltb}
 use Rattle.replay_capture.proofs.Laws.{Carries, carries-is}
 use Rattle.replay_capture.specs.Capture.{carried, recordOf, recordSize, six}
 use Rattle.replay_capture.specs.declared.Record.{Record}
 use Rattle.replay_capture.specs.declared.Record.the-variants.{BadRecord, BytesRecord, GapRecord}
-use Rattle.chip.proofs.Feeding.{feed-takes, feed-within}
+use Rattle.chip.proofs.Feeding.{feed-is, feed-next, feed-none, feed-takes, feed-within, on-refused, on-said, on-silent}
 use Rattle.chip.proofs.Saying.{Arrays, Fitting, feed-fits, step-fits}
-use Rattle.chip.specs.Run.{Feeding, before, fedOn, feedFrom, feedOf, feeding, onward}
+use Rattle.chip.specs.Run.{Feeding, before, fedOn, feedFrom, feedOf, onward}
 use Rattle.chip.specs.Step.{Outcome, stepOf}
 use Rattle.chip.specs.declared.Answer.{Answer}
 use Rattle.chip.specs.declared.Answer.the-variants.{Replied}
@@ -63,19 +61,23 @@ goes-refused a r x y e = rw e
 plays-byte : (p : Part) (a : Answer) (n b : ℕ) (bs : List ℕ) (o : Outcome) (x : Playing) (rest : Feeding) → o .answer ≡ a
     → ((j : ℕ) → a ≡ Replied j 0 → played p (map Byte bs) (after o x) ≡ goesFrom p n (b ∷ bs) rest x)
     → goesOn a (played p (map Byte bs) (after o x)) (after o x) ≡ goesFrom p n (b ∷ bs) (fedOn a n o rest) x
-unfolding goesOn fedOn if_then_else_
-plays-byte p (Answer.Refused r) n b bs o x rest e s = sym (goes-refused (o .answer) r _ _ e)
-plays-byte p (Replied j i) n b bs o x rest e s = go (eqb i 0) refl
+unfolding goesOn
+plays-byte p (Answer.Refused r) n b bs o x rest e s =
+    sym (goes-refused (o .answer) r _ _ e) ∙ ap (λ (f : Feeding). goesFrom p n (b ∷ bs) f x) (on-refused (Answer.Refused r) n r o rest refl)
+plays-byte p (Replied j i) n b bs o x rest e s = go (decLe 1 i)
   where
     one : n + 1 - n ≡ 1
     one = omega arith
 
-    go : (t : Bool) → eqb i 0 ≡ t → played p (map Byte bs) (after o x) ≡ goesFrom p n (b ∷ bs) (if t then rest else feeding (n + 1) o) x
-    go true u = s j (ap (λ (q : ℕ). Replied j q) (eqb-true i 0 u))
-    go false u =
+    go : Dec (1 ≤ i) → played p (map Byte bs) (after o x) ≡ goesFrom p n (b ∷ bs) (fedOn (Replied j i) n o rest) x
+    go (no u) =
+        s j (ap (λ (q : ℕ). Replied j q) (omega arith))
+        ∙ sym (ap (λ (f : Feeding). goesFrom p n (b ∷ bs) f x) (on-silent (Replied j i) n j i o rest refl (omega arith)))
+    go (yes u) =
         sym
         (goes-replied (o .answer) j i (played p (map Byte (drop (n + 1 - n) (b ∷ bs))) (after o x)) (after o x) e
         ∙ ap (λ (q : ℕ). played p (map Byte (drop q (b ∷ bs))) (after o x)) one)
+        ∙ ap (λ (f : Feeding). goesFrom p n (b ∷ bs) f x) (on-said (Replied j i) n j i o rest refl u)
 
 silent-after : (o : Outcome) (x : Playing) (j room : ℕ) → Fitting (o .answer) room → o .answer ≡ Replied j 0 → after o x ≡ record { left = o; said = x .said; frames = x .frames }
 unfolding saying
@@ -93,16 +95,17 @@ drop-taken p n b bs t x h =
 -- A stretch of bytes: playing them is what the feeding says, and then the rest of them.
 pub feed-plays : (p : Part) (n b : ℕ) (bs : List ℕ) (x : Playing) → Arrays p
     → played p (map Byte (b ∷ bs)) x ≡ goesFrom p n (b ∷ bs) (feedFrom p n (b ∷ bs) (x .left)) x
-unfolding played feedFrom
+unfolding played
 feed-plays p n b [] x a =
     let o = onward p (x .left) (Byte b) in
-    let f = step-fits p (x .left .chip) (Byte b) (x .left .memory) (x .left .room) a in
-    plays-byte p (o .answer) n b [] o x (feeding (n + 1) o) refl
+    plays-byte p (o .answer) n b [] o x (feedFrom p (n + 1) [] o) refl
     (λ j e.
     let one : n + 1 - n ≡ 1 = omega arith in
     sym
-    (goes-replied (o .answer) j 0 (played p (map Byte (drop (n + 1 - n) (b ∷ []))) (after o x)) (after o x) e
+    (ap (λ (f : Feeding). goesFrom p n (b ∷ []) f x) (feed-none p (n + 1) o)
+    ∙ goes-replied (o .answer) j 0 (played p (map Byte (drop (n + 1 - n) (b ∷ []))) (after o x)) (after o x) e
     ∙ ap (λ (q : ℕ). played p (map Byte (drop q (b ∷ []))) (after o x)) one))
+    ∙ sym (ap (λ (f : Feeding). goesFrom p n (b ∷ []) f x) (feed-next p n b [] (x .left)))
 feed-plays p n b (d ∷ bs) x a =
     let o = onward p (x .left) (Byte b) in
     let f = step-fits p (x .left .chip) (Byte b) (x .left .memory) (x .left .room) a in
@@ -116,6 +119,7 @@ feed-plays p n b (d ∷ bs) x a =
     ∙ feed-plays p (n + 1) d bs y a
     ∙ ap (λ (q : Playing). goesOn (rest .left .answer) (played p (map Byte (drop (rest .taken - (n + 1)) (d ∷ bs))) q) q) g
     ∙ ap (λ (q : Playing). goesOn (rest .left .answer) q (after (rest .left) x)) (drop-taken p n b (d ∷ bs) (rest .taken) (after (rest .left) x) h))
+    ∙ sym (ap (λ (f : Feeding). goesFrom p n (b ∷ d ∷ bs) f x) (feed-next p n b (d ∷ bs) (x .left)))
 
 -- How far the loop over a record's bytes has come: i of them are taken, n bytes in k frames are said and stand in the output, and t is what the rest makes of that.
 pub record PlayedFrom (p : Part) (bs : List ℕ) (c : Chip) (m : Flash) (room : List ℕ) (i n k : ℕ) (whole output : List ℕ) (t : Playing) : Type 0 where
@@ -148,13 +152,14 @@ played-start p bs c m room output =
 fed-plays : {p : Part} {bs : List ℕ} {c : Chip} {m : Flash} {room : List ℕ} {i n k : ℕ} {whole output : List ℕ} {t : Playing} (f : Feeding) (q : PlayedFrom p bs c m room i n k whole output t)
     → Arrays p → f ≡ feedOf p (take (length bs - i) (drop i bs)) (before c m room) → i < length bs
     → goesFrom p 0 (drop i bs) f (record { left = record { answer = Replied (q .bytes) (q .frames); chip = c; memory = m; room = room }; said = q .said; frames = k }) ≡ t
-unfolding feedOf feedFrom
 fed-plays {p} {bs} {c} {m} {room} {i} {n} {k} {whole} {output} {t} f q a e h =
     let x : Playing = record { left = record { answer = Replied (q .bytes) (q .frames); chip = c; memory = m; room = room }; said = q .said; frames = k } in
     let d : drop i bs ≡ getD bs i 0 ∷ drop (suc i) bs = drop-cons bs i 0 h in
     let w : take (length bs - i) (drop i bs) ≡ drop i bs = take-all (length bs - i) (drop i bs) (rw length-drop (omega arith)) in
-    let g : f ≡ feedFrom p 0 (getD bs i 0 ∷ drop (suc i) bs) (before c m room) = e ∙ ap (λ (l : List ℕ). feedFrom p 0 l (before c m room)) (w ∙ d) in
-    ap (λ (z : Feeding). goesFrom p 0 (drop i bs) z x) g
+    let g : f ≡ feedFrom p 0 (getD bs i 0 ∷ drop (suc i) bs) (before c m room) = e ∙ feed-is p _ _ ∙ ap (λ (l : List ℕ). feedFrom p 0 l (before c m room)) (w ∙ d) in
+    let r : feedFrom p 0 (getD bs i 0 ∷ drop (suc i) bs) (before c m room) ≡ feedFrom p 0 (getD bs i 0 ∷ drop (suc i) bs) (x .left) =
+    feed-next p 0 (getD bs i 0) (drop (suc i) bs) (before c m room) ∙ sym (feed-next p 0 (getD bs i 0) (drop (suc i) bs) (x .left)) in
+    ap (λ (z : Feeding). goesFrom p 0 (drop i bs) z x) (g ∙ r)
     ∙ ap (λ (l : List ℕ). goesFrom p 0 l (feedFrom p 0 (getD bs i 0 ∷ drop (suc i) bs) (x .left)) x) d
     ∙ sym (feed-plays p 0 (getD bs i 0) (drop (suc i) bs) x a)
     ∙ ap (λ (l : List ℕ). played p (map Byte l) x) (sym d)
@@ -162,21 +167,19 @@ fed-plays {p} {bs} {c} {m} {room} {i} {n} {k} {whole} {output} {t} f q a e h =
 
 -- How many bytes a feeding takes, of the bytes not yet taken.
 fed-taken : (p : Part) (bs : List ℕ) (o : Outcome) (i : ℕ) (f : Feeding) → f ≡ feedOf p (take (length bs - i) (drop i bs)) o → i ≤ length bs → i + f .taken ≤ length bs
-unfolding feedOf
 fed-taken p bs o i f e h =
     let w : take (length bs - i) (drop i bs) ≡ drop i bs = take-all (length bs - i) (drop i bs) (rw length-drop (omega arith)) in
-    let g : f ≡ feedFrom p 0 (drop i bs) o = e ∙ ap (λ (l : List ℕ). feedFrom p 0 l o) w in
+    let g : f ≡ feedFrom p 0 (drop i bs) o = e ∙ feed-is p _ o ∙ ap (λ (l : List ℕ). feedFrom p 0 l o) w in
     let l : length (drop i bs) ≡ length bs - i = length-drop i bs in
     let u : f .taken ≤ length (drop i bs) = rw g (omega (arith, feed-within p 0 (drop i bs) o .1)) in
     omega arith
 
 fed-takes : (p : Part) (bs : List ℕ) (o : Outcome) (i n k : ℕ) (f : Feeding) → f ≡ feedOf p (take (length bs - i) (drop i bs)) o → i < length bs
     → f .left .answer ≡ Replied n k → 1 ≤ f .taken
-unfolding feedOf
 fed-takes p bs o i n k f e h r =
     let d : drop i bs ≡ getD bs i 0 ∷ drop (suc i) bs = drop-cons bs i 0 h in
     let w : take (length bs - i) (drop i bs) ≡ drop i bs = take-all (length bs - i) (drop i bs) (rw length-drop (omega arith)) in
-    let g : f ≡ feedFrom p 0 (getD bs i 0 ∷ drop (suc i) bs) o = e ∙ ap (λ (l : List ℕ). feedFrom p 0 l o) (w ∙ d) in
+    let g : f ≡ feedFrom p 0 (getD bs i 0 ∷ drop (suc i) bs) o = e ∙ feed-is p _ o ∙ ap (λ (l : List ℕ). feedFrom p 0 l o) (w ∙ d) in
     let u : feedFrom p 0 (getD bs i 0 ∷ drop (suc i) bs) o .left .answer ≡ Replied n k = ap (λ (z : Feeding). z .left .answer) (sym g) ∙ r in
     rw g (feed-takes p 0 n k (getD bs i 0) (drop (suc i) bs) o u)
 

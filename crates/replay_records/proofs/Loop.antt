@@ -1,15 +1,16 @@
 -- How far the loop over a capture's records has come.
 -- Assumes nothing.
-use mathlib.Core.List.{List, _++_, _∷_, append-nil}
-use mathlib.Core.Path.{_∙_, _≡_, ap, refl, subst, sym}
-use Prim.Native.Nat.{_+_, _-_, _<_, _≤_, suc, zero, ℕ}
+use mathlib.Core.List.{List, [], _++_, _∷_, append-nil}
+use mathlib.Core.Path.{_∙_, _≡_, ap, subst, sym}
+use Prim.Native.Nat.{_+_, _-_, _<_, _≤_, zero, ℕ}
 use native.Mathlib.Decide.{decLe}
 use native.Mathlib.Nat.{add-zero}
 use native.Mathlib.Omega.{arith}
-use lib.ListN.{drop, drop-of-length-le, getD, length, length-append, length-drop, take}
-use lib.Seq.{drop-cons, drop-drop, drop-length, length-take-le, take-all}
+use lib.ListN.{drop, drop-of-length-le, length, length-append, length-drop, take}
+use lib.Seq.{drop-drop, drop-length, length-take-le, take-all}
 use borrow.Author.Tests.{le-ltb, lt-ltb}
-use Rattle.replay_capture.specs.Capture.{recordSize, recordsIn, recordsOf}
+use Rattle.replay_capture.proofs.Laws.{records-is, records-next, records-none}
+use Rattle.replay_capture.specs.Capture.{recordSize, recordsIn}
 use Rattle.chip.proofs.Saying.{Arrays}
 use Rattle.chip_state.specs.declared.Chip.{Chip}
 use Rattle.chip_core.specs.Effect.{Flash}
@@ -38,8 +39,9 @@ pub record ReplayedFrom (p : Part) (bs : List ℕ) (at : ℕ) (x t : Replaying) 
 
 pub replayed-start : (p : Part) (bs : List ℕ) (c : Chip) (m : Flash) (room output : List ℕ)
     → ReplayedFrom p bs 0 (record { ended = Whole; records = 0; bytes = 0; frames = 0; chip = c; memory = m; room = room; output = output }) (replayOf p bs c m room output)
-unfolding replayOf recordsOf
+unfolding replayOf
 replayed-start p bs c m room output =
+    let x : Replaying = record { ended = Whole; records = 0; bytes = 0; frames = 0; chip = c; memory = m; room = room; output = output } in
     record {
       most = length bs;
       enough = omega arith;
@@ -47,7 +49,7 @@ replayed-start p bs c m room output =
       counted = omega arith;
       framed = omega arith;
       stands = omega arith;
-      rest = refl;
+      rest = sym (ap (λ (rs : List (List ℕ)). replayedFrom p rs x) (records-is recordSize bs));
     }
 
 -- The record at a place: where it ends, and its bytes.
@@ -92,16 +94,11 @@ cut-rest bs at h = go (decLe 8 (length bs - at))
 -- The records from a place on: the one there, and the rest.
 records-cut : (most : ℕ) (bs : List ℕ) (at : ℕ) → at < length bs → length (drop at bs) ≤ most
     → recordsIn recordSize most (drop at bs) ≡ take (recordEnd at (length bs) - at) (drop at bs) ∷ recordsIn recordSize (most - 1) (drop (recordEnd at (length bs)) bs)
-unfolding recordsIn
-records-cut zero bs at h k = absurd (let l : length (drop at bs) ≡ length bs - at = length-drop at bs in omega arith)
-records-cut (suc most) bs at h k =
-    let one : suc most - 1 ≡ most = omega arith in
-    let d : drop at bs ≡ getD bs at 0 ∷ drop (suc at) bs = drop-cons bs at 0 h in
-    ap (recordsIn recordSize (suc most)) d
-    ∙ ap (λ (l : List ℕ). take recordSize l ∷ recordsIn recordSize most (drop recordSize l)) (sym d)
-    ∙ ap (λ (l : List ℕ). l ∷ recordsIn recordSize most (drop recordSize (drop at bs))) (sym (cut-record bs at h))
-    ∙ ap (λ (l : List ℕ). take (recordEnd at (length bs) - at) (drop at bs) ∷ recordsIn recordSize most l) (cut-rest bs at h)
-    ∙ ap (λ (n : ℕ). take (recordEnd at (length bs) - at) (drop at bs) ∷ recordsIn recordSize n (drop (recordEnd at (length bs)) bs)) (sym one)
+records-cut most bs at h k =
+    let l : length (drop at bs) ≡ length bs - at = length-drop at bs in
+    records-next recordSize most (drop at bs) (omega arith) (omega arith)
+    ∙ ap (λ (l : List ℕ). l ∷ recordsIn recordSize (most - 1) (drop recordSize (drop at bs))) (sym (cut-record bs at h))
+    ∙ ap (λ (l : List ℕ). take (recordEnd at (length bs) - at) (drop at bs) ∷ recordsIn recordSize (most - 1) l) (cut-rest bs at h)
 
 -- The end of the output, lent as a part, goes out and comes back in these forms.
 tail-out : (l : List ℕ) (n : ℕ) → take (length l - n) (drop n l) ≡ drop n l
@@ -228,9 +225,7 @@ replayed-turn {p} {bs} {at} {end} {x} {t} {n} {k} u q a h g e z long =
     })
 
 pub replayed-end : {p : Part} {bs : List ℕ} {at : ℕ} {x t : Replaying} → ReplayedFrom p bs at x t → length bs ≤ at → x ≡ t
-unfolding replayedFrom recordsIn
-replayed-end {p} {bs} {at} {x} {t} q h = go (q .most) ∙ q .rest
-  where
-    go : (n : ℕ) → x ≡ replayedFrom p (recordsIn recordSize n (drop at bs)) x
-    go zero = refl
-    go (suc n) = rw (drop-of-length-le bs h)
+unfolding replayedFrom
+replayed-end {p} {bs} {at} {x} {t} q h =
+    let none : recordsIn recordSize (q .most) (drop at bs) ≡ [] = ap (recordsIn recordSize (q .most)) (drop-of-length-le bs h) ∙ records-none recordSize (q .most) in
+    sym (ap (λ (rs : List (List ℕ)). replayedFrom p rs x) none) ∙ q .rest
