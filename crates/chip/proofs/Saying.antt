@@ -7,7 +7,7 @@ use Prim.Native.Nat.{_+_, _≤_, ℕ}
 use native.Mathlib.Omega.{arith}
 use lib.Dec.{eqb}
 use lib.ListN.{length, length-append}
-use Rattle.chip.proofs.Settling.{accepts}
+use Rattle.chip_state.proofs.Laws.{accepts}
 use Rattle.chip.specs.Run.{Feeding, before, fedOn, feedFrom, feedOf, feeding, onward}
 use Rattle.chip.specs.Step.{Outcome, Reaction, settled, stepOf}
 use Rattle.chip.specs.declared.Answer.{Answer}
@@ -103,7 +103,7 @@ settled-fits Accepted p x c m room a h =
 pub step-fits : (p : Part) (c : Chip) (v : Event) (m : Flash) (room : List ℕ) → Arrays p
     → Fitting (stepOf p c v m room .answer) (length (stepOf p c v m room .room))
 unfolding stepOf
-step-fits p c v m room a = settled-fits _ p _ c m room a (λ e. accepts p (c .core) _ _ _ _ _ (length room) e .roomy)
+step-fits p c v m room a = settled-fits _ p _ c m room a (λ e. accepts e .roomy)
 
 fed-on-fits : (a : Answer) (n : ℕ) (x : Outcome) (rest : Feeding) → Fitting (x .answer) (length (x .room)) → Fitting (rest .left .answer) (length (rest .left .room))
     → Fitting (fedOn a n x rest .left .answer) (length (fedOn a n x rest .left .room))

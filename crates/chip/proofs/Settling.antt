@@ -9,9 +9,10 @@ use native.Mathlib.Omega.{arith}
 use lib.Dec.{eqb, leb, ltb}
 use lib.ListN.{List·getD-append, getD, length, length-append, take}
 use lib.Seq.{getD-take}
-use borrow.Author.Tests.{eqb-true, le-leb, lt-leb, ltb-false, ltb-true, not-false, not-true}
+use borrow.Author.Tests.{eqb-true, le-leb, lt-leb, ltb-true, not-true}
 use Rattle.chip.specs.Step.{Outcome, Reaction, byteIn, frameDoes, heardByte, modeByte, outcome, poweredOn, reactTo, reaction, replied, settled, silent, stepOf}
-use Rattle.chip_state.specs.Refusals.{goodBegun, goodCollected, goodState, verdictOf}
+use Rattle.chip_state.proofs.Laws.{Accepts}
+use Rattle.chip_state.specs.Refusals.{goodBegun, goodCollected, goodState, handedWith, verdictOn}
 use Rattle.chip.specs.declared.Answer.the-variants.{Replied}
 use Rattle.chip.specs.declared.Answer.the-variants as Answer
 use Rattle.chip_state.specs.declared.Chip.{Chip}
@@ -31,12 +32,8 @@ use Rattle.frame.specs.Frame.{complete, counted, full, headerByte}
 use Rattle.frame.specs.declared.Header.{Header}
 use Rattle.frame.specs.declared.Header.the-variants.{Command, Data}
 use Rattle.frame.specs.declared.collector.Collector.{Collector}
-use Rattle.part.specs.Part.{described, size}
-use Rattle.part.specs.Refusal.{firstOf}
-use Rattle.part.specs.declared.Area.the-variants.{CodeFlash, DataFlash}
 use Rattle.part.specs.declared.Part.{Part}
 use Rattle.part.specs.declared.refusal.Refusal.{Refusal}
-use Rattle.part.specs.declared.refusal.Refusal.the-variants.{BadPart, BadState, CodeLength, DataLength, ShortRoom}
 use Rattle.part.specs.declared.refusal.Verdict.{Verdict}
 use Rattle.part.specs.declared.refusal.Verdict.the-variants.{Accepted}
 use Rattle.part.specs.declared.refusal.Verdict.the-variants as Verdict
@@ -45,26 +42,6 @@ use Rattle.chip_reply.specs.Reply.{Said, payloads, said, sendOf}
 use Rattle.chip_reply.specs.declared.Sent.{Sent}
 use Rattle.words.proofs.Laws.{and-both, and-left, and-right}
 use Rattle.words.specs.Words.{_and_, _or_, if_then_else_}
-
-not-barred : (t : Bool) (r : Refusal) (v : Verdict) → (if t then Verdict.Refused r else v) ≡ Accepted → (t ≡ false) × (v ≡ Accepted)
-unfolding if_then_else_
-not-barred true r v e = absurd (let z : _≡_ {A = ℕ} 0 1 = cc in omega arith)
-not-barred false r v e = (refl, e)
-
--- What acceptance gives.
-pub record Accepts (p : Part) (k : Core) (count head len room : ℕ) : Type 0 where
-  pub state : goodState p k count head len ≡ true
-  pub roomy : 32 ≤ room
-
-pub accepts : (p : Part) (k : Core) (count head len code extra room : ℕ) → verdictOf p k count head len code extra room ≡ Accepted → Accepts p k count head len room
-unfolding verdictOf firstOf
-accepts p k count head len code extra room e =
-    let a = not-barred (not (described p)) BadPart _ e in
-    let b = not-barred (not (eqb code (size p CodeFlash))) CodeLength _ (a .1) in
-    let c = not-barred (not (eqb extra (size p DataFlash))) DataLength _ (b .1) in
-    let d = not-barred (not (goodState p k count head len)) BadState _ (c .1) in
-    let f = not-barred (ltb room 32) ShortRoom _ (d .1) in
-    record { state = not-false _ (d .0); roomy = ltb-false room 32 (f .0) }
 
 -- What is collected in a good state: fewer bytes than the frame begun needs.
 pub record Begun (c : Collector) : Type 0 where
@@ -223,10 +200,10 @@ byte-on p c next k h b x m room l g e t q =
     ∙ ap (λ (y : Reaction). settled Accepted p y (record { core = k; collector = c }) m room) (heard-on (hear h (heard c) b) x k m (completes-is c h b l g ∙ t))
 
 -- What is begun in a phase in which frames with the header h are awaited.
-begun-in : (p : Part) (c : Collector) (k : Core) (f : Phase) (h : Header) (room : ℕ) → length (c .bytes) ≡ 260
-    → Accepts p k (c .len) (getD (c .bytes) 0 0) (getD (c .bytes) 1 0) room → k .phase ≡ f
+begun-in : (p : Part) (c : Collector) (k : Core) (f : Phase) (h : Header) (code flash room : ℕ) → length (c .bytes) ≡ 260
+    → Accepts p k (handedWith c code flash room) → k .phase ≡ f
     → goodCollected f (c .len) (getD (c .bytes) 0 0) (getD (c .bytes) 1 0) ≡ goodBegun h (c .len) (getD (c .bytes) 0 0) (getD (c .bytes) 1 0) → Begun c
-begun-in p c k f h room l a e g =
+begun-in p c k f h code flash room l a e g =
     begun h c l (sym g ∙ state-collected p k (c .len) (getD (c .bytes) 0 0) (getD (c .bytes) 1 0) f (a .state) e)
 
 -- What the way of a byte says.
@@ -267,7 +244,7 @@ none-begun p k count head len t e = eqb-true count 0 (state-collected p k count 
 
 -- The three ways of a byte, each settled as the phase says.
 pub mode-settles : (p : Part) (c : Collector) (k new : Core) (b : ℕ) (m : Flash) (room : List ℕ)
-    → Accepts p k (c .len) (getD (c .bytes) 0 0) (getD (c .bytes) 1 0) (length room) → wayOf (k .phase) (c .len) (getD (c .bytes) 1 0) ≡ Mode → new ≡ modeByte k b
+    → Accepts p k (handedWith c (length (m .codeFlash)) (length (m .dataFlash)) (length room)) → wayOf (k .phase) (c .len) (getD (c .bytes) 1 0) ≡ Mode → new ≡ modeByte k b
     → record { answer = Replied 0 0; chip = record { core = new; collector = c }; memory = m; room = room }
     ≡ settled Accepted p (byteIn (k .phase) p k (heard c) b m) (record { core = k; collector = c }) m room
 unfolding byteIn
@@ -279,7 +256,7 @@ mode-settles p c k new b m room a w n =
     ∙ ap (λ (f : Phase). settled Accepted p (byteIn f p k (heard c) b m) (record { core = k; collector = c }) m room) (sym e)
 
 pub hears-settles : (p : Part) (c next : Collector) (k : Core) (g : Header) (b : ℕ) (m : Flash) (room : List ℕ) → length (c .bytes) ≡ 260
-    → Accepts p k (c .len) (getD (c .bytes) 0 0) (getD (c .bytes) 1 0) (length room) → wayOf (k .phase) (c .len) (getD (c .bytes) 1 0) ≡ Hears g → next ≡ byteOf c g b
+    → Accepts p k (handedWith c (length (m .codeFlash)) (length (m .dataFlash)) (length room)) → wayOf (k .phase) (c .len) (getD (c .bytes) 1 0) ≡ Hears g → next ≡ byteOf c g b
     → record { answer = Replied 0 0; chip = record { core = k; collector = next }; memory = m; room = room }
     ≡ settled Accepted p (byteIn (k .phase) p k (heard c) b m) (record { core = k; collector = c }) m room
 unfolding wayOf byteIn goodCollected
@@ -296,12 +273,12 @@ hears-settles p c next k g b m room l a w nx = go (k .phase) refl w
         → record { answer = Replied 0 0; chip = record { core = k; collector = next }; memory = m; room = room }
         ≡ settled Accepted p (byteIn f p k (heard c) b m) (record { core = k; collector = c }) m room
     go ModeByte e v = absurd (let z : _≡_ {A = ℕ} 0 1 = cc in omega arith)
-    go Setup e v = on Setup Command (frameDoes Setup p k (hear Command (heard c) b) m) (begun-in p c k Setup Command (length room) l a e refl) v
-    go Ready e v = on Ready Command (frameDoes Ready p k (hear Command (heard c) b) m) (begun-in p c k Ready Command (length room) l a e refl) v
-    go (Awaiting w) e v = on (Awaiting w) Data (frameDoes (Awaiting w) p k (hear Data (heard c) b) m) (begun-in p c k (Awaiting w) Data (length room) l a e refl) v
+    go Setup e v = on Setup Command (frameDoes Setup p k (hear Command (heard c) b) m) (begun-in p c k Setup Command _ _ _ l a e refl) v
+    go Ready e v = on Ready Command (frameDoes Ready p k (hear Command (heard c) b) m) (begun-in p c k Ready Command _ _ _ l a e refl) v
+    go (Awaiting w) e v = on (Awaiting w) Data (frameDoes (Awaiting w) p k (hear Data (heard c) b) m) (begun-in p c k (Awaiting w) Data _ _ _ l a e refl) v
 
 pub completes-settles : (p : Part) (d : Done) (c next e : Collector) (k : Core) (g : Header) (b : ℕ) (s : Sent) (m n : Flash) (room r : List ℕ) → length (c .bytes) ≡ 260
-    → Accepts p k (c .len) (getD (c .bytes) 0 0) (getD (c .bytes) 1 0) (length room) → wayOf (k .phase) (c .len) (getD (c .bytes) 1 0) ≡ Completes g → next ≡ byteOf c g b
+    → Accepts p k (handedWith c (length (m .codeFlash)) (length (m .dataFlash)) (length room)) → wayOf (k .phase) (c .len) (getD (c .bytes) 1 0) ≡ Completes g → next ≡ byteOf c g b
     → effect d n ≡ frameDoes (k .phase) p k (take (next .len - 0) (next .bytes)) m → said s r ≡ sendOf (payloads p (d .core .options) (d .reply)) room → e ≡ dropped c
     → record { answer = replied s; chip = record { core = d .core; collector = e }; memory = n; room = r }
     ≡ settled Accepted p (byteIn (k .phase) p k (heard c) b m) (record { core = k; collector = c }) m room
@@ -319,22 +296,22 @@ completes-settles p d c next e k g b s m n room r l a w nx x u v = go (k .phase)
         → record { answer = replied s; chip = record { core = d .core; collector = e }; memory = n; room = r }
         ≡ settled Accepted p (byteIn f p k (heard c) b m) (record { core = k; collector = c }) m room
     go ModeByte e j o = absurd (let z : _≡_ {A = ℕ} 0 1 = cc in omega arith)
-    go Setup e j o = done Setup Command (begun-in p c k Setup Command (length room) l a e refl) j o
-    go Ready e j o = done Ready Command (begun-in p c k Ready Command (length room) l a e refl) j o
-    go (Awaiting w) e j o = done (Awaiting w) Data (begun-in p c k (Awaiting w) Data (length room) l a e refl) j o
+    go Setup e j o = done Setup Command (begun-in p c k Setup Command _ _ _ l a e refl) j o
+    go Ready e j o = done Ready Command (begun-in p c k Ready Command _ _ _ l a e refl) j o
+    go (Awaiting w) e j o = done (Awaiting w) Data (begun-in p c k (Awaiting w) Data _ _ _ l a e refl) j o
 
 -- One byte more is collected than before, at most.
-pub next-in-array : (p : Part) (c next : Collector) (k : Core) (g : Header) (b : ℕ) (room : ℕ) → length (c .bytes) ≡ 260
-    → Accepts p k (c .len) (getD (c .bytes) 0 0) (getD (c .bytes) 1 0) room → wayOf (k .phase) (c .len) (getD (c .bytes) 1 0) ≡ Completes g → next ≡ byteOf c g b
+pub next-in-array : (p : Part) (c next : Collector) (k : Core) (g : Header) (b code flash room : ℕ) → length (c .bytes) ≡ 260
+    → Accepts p k (handedWith c code flash room) → wayOf (k .phase) (c .len) (getD (c .bytes) 1 0) ≡ Completes g → next ≡ byteOf c g b
     → next .len ≤ 260
 unfolding wayOf goodCollected
-next-in-array p c next k g b room l a w nx = go (k .phase) refl w
+next-in-array p c next k g b code flash room l a w nx = go (k .phase) refl w
   where
     go : (f : Phase) → k .phase ≡ f → wayOf f (c .len) (getD (c .bytes) 1 0) ≡ Completes g → next .len ≤ 260
     go ModeByte e j = absurd (let z : _≡_ {A = ℕ} 0 1 = cc in omega arith)
-    go Setup e j = next-within c next g b l (begun-in p c k Setup Command room l a e refl) nx
-    go Ready e j = next-within c next g b l (begun-in p c k Ready Command room l a e refl) nx
-    go (Awaiting w) e j = next-within c next g b l (begun-in p c k (Awaiting w) Data room l a e refl) nx
+    go Setup e j = next-within c next g b l (begun-in p c k Setup Command _ _ _ l a e refl) nx
+    go Ready e j = next-within c next g b l (begun-in p c k Ready Command _ _ _ l a e refl) nx
+    go (Awaiting w) e j = next-within c next g b l (begun-in p c k (Awaiting w) Data _ _ _ l a e refl) nx
 
 -- A gap or power-on: nothing is heard any more, and nothing is said.
 pub emptied : (p : Part) (c e : Collector) (k new : Core) (m : Flash) (room : List ℕ) → e ≡ dropped c → 32 ≤ length room
@@ -345,14 +322,14 @@ emptied p c e k new m room f h = quiet-settles p c e k new [] m room f h
 
 -- A step is its verdict and, accepted, its event's reaction.
 pub step-accepted : (o : Outcome) (x : Reaction) (p : Part) (c : Chip) (v w : Event) (m : Flash) (room : List ℕ)
-    → verdictOf p (c .core) (c .collector .len) (getD (c .collector .bytes) 0 0) (getD (c .collector .bytes) 1 0) (length (m .codeFlash)) (length (m .dataFlash)) (length room) ≡ Accepted
+    → verdictOn p c (length (m .codeFlash)) (length (m .dataFlash)) (length room) ≡ Accepted
     → v ≡ w → x ≡ reactTo w p (c .core) (heard (c .collector)) m → o ≡ settled Accepted p x c m room → o ≡ stepOf p c v m room
 unfolding stepOf
 step-accepted o x p c v w m room a e f g =
     rw a (g ∙ ap (λ (y : Reaction). settled Accepted p y c m room) (f ∙ ap (λ (q : Event). reactTo q p (c .core) (heard (c .collector)) m) (sym e)))
 
 pub step-barred : (p : Part) (c : Chip) (v : Event) (m : Flash) (room : List ℕ) (r : Refusal)
-    → verdictOf p (c .core) (c .collector .len) (getD (c .collector .bytes) 0 0) (getD (c .collector .bytes) 1 0) (length (m .codeFlash)) (length (m .dataFlash)) (length room) ≡ Verdict.Refused r
+    → verdictOn p c (length (m .codeFlash)) (length (m .dataFlash)) (length room) ≡ Verdict.Refused r
     → outcome (record { answer = Answer.Refused r; chip = c }) m room ≡ stepOf p c v m room
 unfolding stepOf settled
 step-barred p c v m room r a = rw a

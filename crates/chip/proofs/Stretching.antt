@@ -9,25 +9,25 @@ use native.Mathlib.Omega.{arith}
 use lib.Dec.{eqb, leb, ltb}
 use lib.ListN.{drop, getD, length, length-set, set, take, take-append-drop}
 use lib.Seq.{append-snoc, drop-cons, drop-set-lt, getD-set-other, take-suc-set}
-use borrow.Author.Tests.{eqb-true, le-leb, le-ltb, leb-true, lt-leb, lt-ltb, ltb-false, ltb-true, ne-eqb}
+use borrow.Author.Tests.{eqb-true, le-leb, le-ltb, leb-true, lt-leb, lt-ltb, ltb-false, ltb-true}
 use Rattle.chip.proofs.Feeding.{FedFrom, fed-turn}
-use Rattle.chip.proofs.Settling.{accepts, at-byte, hears-settles, same-event, state-collected, step-accepted}
+use Rattle.chip_state.proofs.Laws.{accepts, one-more-accepted}
+use Rattle.chip.proofs.Settling.{at-byte, hears-settles, same-event, state-collected, step-accepted}
 use Rattle.chip.specs.Run.{Feeding, before, feedFrom}
 use Rattle.chip.specs.Step.{Outcome, byteIn, stepOf}
-use Rattle.chip_state.specs.Refusals.{goodBegun, goodCollected, goodState, verdictOf}
+use Rattle.chip_state.specs.Refusals.{goodCollected, goodState, verdictOn}
 use Rattle.chip_state.specs.declared.Chip.{Chip}
 use Rattle.chip.specs.declared.Event.{Event}
 use Rattle.chip.specs.declared.Event.the-variants.{Byte}
 use Rattle.chip.specs.declared.events.Way.the-variants.{Hears}
 use Rattle.chip.specs.inner.Ways.{completesAt, lackingOf, plainOf, stretchOf, stretchedBy, wayOf, wayOn}
 use Rattle.chip_core.specs.Effect.{Flash}
-use Rattle.chip_core.specs.declared.Core.{Core}
 use Rattle.chip_core.specs.declared.Phase.{Phase}
 use Rattle.chip_core.specs.declared.Phase.the-variants.{Awaiting, ModeByte, Ready, Setup}
 use Rattle.frame.proofs.Laws.Collector.{byte-added, complete-within, lacking}
 use Rattle.frame.proofs.Laws.Frame.{full-not}
 use Rattle.frame.specs.Collector.{byteOf, heard}
-use Rattle.frame.specs.Frame.{complete, counted, full, headerByte}
+use Rattle.frame.specs.Frame.{complete, counted}
 use Rattle.frame.specs.declared.Header.{Header}
 use Rattle.frame.specs.declared.Header.the-variants.{Command, Data}
 use Rattle.frame.specs.declared.collector.Collector.{Collector}
@@ -35,15 +35,10 @@ use Rattle.frame.specs.inner.Collector.{stored}
 use Rattle.lent.proofs.Laws.{put-lands}
 use Rattle.lent.specs.Lent.{Left, left, putAt, putOf}
 use Rattle.lent.specs.declared.Room.{Room}
-use Rattle.part.specs.Part.{described, size}
-use Rattle.part.specs.Refusal.{_when_, firstOf}
-use Rattle.part.specs.declared.Area.the-variants.{CodeFlash, DataFlash}
 use Rattle.part.specs.declared.Part.{Part}
-use Rattle.part.specs.declared.refusal.Refusal.the-variants.{BadPart, BadState, CodeLength, DataLength, ShortRoom}
 use Rattle.part.specs.declared.refusal.Verdict.{Verdict}
 use Rattle.part.specs.declared.refusal.Verdict.the-variants.{Accepted, Refused}
-use Rattle.words.proofs.Laws.{and-both, and-left, and-right, or-right}
-use Rattle.words.specs.Words.{_and_, _or_, if_then_else_}
+use Rattle.words.specs.Words.{_and_, if_then_else_}
 
 -- How many bytes: no more than there are, and the frame is not complete after them.
 pub record Lacks (count len rest n : ℕ) : Type 0 where
@@ -67,21 +62,21 @@ stretch-accepted Accepted n k e h = (refl, e)
 stretch-accepted (Refused r) n k e h = absurd (omega arith)
 
 -- What a stretch that is not empty may rely on.
-pub record Plain (p : Part) (c : Chip) (code extra room rest n : ℕ) : Type 0 where
-  pub accepted : verdictOf p (c .core) (c .collector .len) (getD (c .collector .bytes) 0 0) (getD (c .collector .bytes) 1 0) code extra room ≡ Accepted
+pub record Plain (p : Part) (c : Chip) (code flash room rest n : ℕ) : Type 0 where
+  pub accepted : verdictOn p c code flash room ≡ Accepted
   pub lacks : Lacks (c .collector .len) (getD (c .collector .bytes) 1 0) rest n
 
-pub plain-is : (p : Part) (c : Chip) (code extra room rest n : ℕ) → n ≡ plainOf p c code extra room rest → 0 < n → Plain p c code extra room rest n
+pub plain-is : (p : Part) (c : Chip) (code flash room rest n : ℕ) → n ≡ plainOf p c code flash room rest → 0 < n → Plain p c code flash room rest n
 unfolding plainOf if_then_else_
-plain-is p c code extra room rest n e h = go (eqb n′ 0) e
+plain-is p c code flash room rest n e h = go (eqb n′ 0) e
   where
     n′ : ℕ
     n′ = lackingOf (c .collector .len) (getD (c .collector .bytes) 1 0) rest
 
     v : Verdict
-    v = verdictOf p (c .core) (c .collector .len) (getD (c .collector .bytes) 0 0) (getD (c .collector .bytes) 1 0) code extra room
+    v = verdictOn p c code flash room
 
-    go : (t : Bool) → n ≡ (if t then 0 else stretchOf v n′) → Plain p c code extra room rest n
+    go : (t : Bool) → n ≡ (if t then 0 else stretchOf v n′) → Plain p c code flash room rest n
     go true e = absurd (omega arith)
     go false e =
         let x = stretch-accepted v n′ n e h in
@@ -90,38 +85,7 @@ plain-is p c code extra room rest n e h = go (eqb n′ 0) e
 -- The verdict depends on what is collected only by whether the state is good.
 abbrev verdictAt : Part → Chip → Flash → List ℕ → Verdict
 verdictAt p c m room =
-    verdictOf p (c .core) (c .collector .len) (getD (c .collector .bytes) 0 0) (getD (c .collector .bytes) 1 0) (length (m .codeFlash)) (length (m .dataFlash)) (length room)
-
-same-verdict : (p : Part) (k : Core) (n i l j g h code extra room : ℕ) → goodState p k n i l ≡ goodState p k j g h
-    → verdictOf p k n i l code extra room ≡ verdictOf p k j g h code extra room
-unfolding verdictOf
-same-verdict p k n i l j g h code extra room e =
-    ap (λ (t : Bool). firstOf (BadPart when not (described p) ∷ CodeLength when not (eqb code (size p CodeFlash)) ∷ DataLength when not (eqb extra (size p DataFlash)) ∷ BadState when not t ∷ ShortRoom when ltb room 32 ∷ [])) e
-
--- One byte more than header and LEN, the frame not complete yet.
-more-begun : (h : Header) (n head len : ℕ) → 2 ≤ n → n + 1 < counted len + 4 → counted len ≤ 256 → goodBegun h n head len ≡ true → goodBegun h (n + 1) head len ≡ true
-unfolding goodBegun _or_
-more-begun h n head len k s c e =
-    let z : eqb n 0 ≡ false = ne-eqb n 0 (λ q. omega arith) in
-    let f : ltb n 260 and eqb head (headerByte h) and not (full n len) ≡ true = drop-or z e in
-    let g : eqb head (headerByte h) ≡ true = and-left _ _ (and-right (ltb n 260) _ f) in
-    or-right (eqb (n + 1) 0) (and-both (lt-ltb (n + 1) 260 (omega arith)) (and-both g (ap not (full-not (n + 1) len s))))
-  where
-    drop-or : {t u : Bool} → t ≡ false → t or u ≡ true → u ≡ true
-    drop-or {t} {u} f e = sym (ap (λ (x : Bool). x or u) f) ∙ e
-
-more-collected : (f : Phase) (n head len : ℕ) → 2 ≤ n → n + 1 < counted len + 4 → counted len ≤ 256 → goodCollected f n head len ≡ true
-    → goodCollected f (n + 1) head len ≡ true
-unfolding goodCollected
-more-collected ModeByte n head len k s c e = absurd (let z : n ≡ 0 = eqb-true n 0 e in omega arith)
-more-collected Setup n head len k s c e = more-begun Command n head len k s c e
-more-collected Ready n head len k s c e = more-begun Command n head len k s c e
-more-collected (Awaiting w) n head len k s c e = more-begun Data n head len k s c e
-
-more-good : (p : Part) (k : Core) (n head len : ℕ) → 2 ≤ n → n + 1 < counted len + 4 → counted len ≤ 256 → goodState p k n head len ≡ true
-    → goodState p k (n + 1) head len ≡ true
-unfolding goodState
-more-good p k n head len h s c e = and-both (more-collected (k .phase) n head len h s c (and-left _ _ e)) (and-right (goodCollected (k .phase) n head len) _ e)
+    verdictOn p c (length (m .codeFlash)) (length (m .dataFlash)) (length room)
 
 -- A byte that is only added: the way of such a byte, in the phase that a good state is in.
 record HeardAs (f : Phase) (n len : ℕ) : Type 0 where
@@ -141,11 +105,11 @@ after c b = record { core = c .core; collector = stored (c .collector) b }
 module _ (p : Part) (c : Chip) (m : Flash) (room : List ℕ) (places : length (c .collector .bytes) ≡ 260) (small : counted (getD (c .collector .bytes) 1 0) ≤ 256)
     (accepted : verdictAt p c m room ≡ Accepted) (begun : 2 ≤ c .collector .len) (short : c .collector .len < counted (getD (c .collector .bytes) 1 0) + 3) where
   good : goodState p (c .core) (c .collector .len) (getD (c .collector .bytes) 0 0) (getD (c .collector .bytes) 1 0) ≡ true
-  good = accepts _ _ _ _ _ _ _ _ accepted .state
+  good = accepts accepted .state
 
   pub byte-heard : (b : ℕ) → before (after c b) m room ≡ stepOf p c (Byte b) m room
   byte-heard b =
-      let a = accepts _ _ _ _ _ _ _ _ accepted in
+      let a = accepts accepted in
       let w = heard-as (c .core .phase) (c .collector .len) (getD (c .collector .bytes) 0 0) (getD (c .collector .bytes) 1 0) begun short (state-collected p (c .core) (c .collector .len) (getD (c .collector .bytes) 0 0) (getD (c .collector .bytes) 1 0) (c .core .phase) good refl) in
       let lacking : complete (heard (c .collector)) ≡ false = complete-within (c .collector) places (omega arith) ∙ full-not _ _ (omega arith) in
       let added : stored (c .collector) b ≡ byteOf (c .collector) (w .header) b = byte-added (c .collector) (w .header) b (λ z. omega arith) places (omega arith) lacking in
@@ -158,12 +122,7 @@ module _ (p : Part) (c : Chip) (m : Flash) (room : List ℕ) (places : length (c
 
   pub still-accepted : (b : ℕ) → verdictAt p (after c b) m room ≡ Accepted
   unfolding stored
-  still-accepted b =
-      let g = more-good p (c .core) (c .collector .len) (getD (c .collector .bytes) 0 0) (getD (c .collector .bytes) 1 0) begun (omega arith) small good in
-      ap (λ (x : ℕ). verdictOf p (c .core) (c .collector .len + 1) x (getD (stored (c .collector) b .bytes) 1 0) (length (m .codeFlash)) (length (m .dataFlash)) (length room)) (stored-at 0 b (omega arith))
-      ∙ ap (λ (x : ℕ). verdictOf p (c .core) (c .collector .len + 1) (getD (c .collector .bytes) 0 0) x (length (m .codeFlash)) (length (m .dataFlash)) (length room)) (stored-at 1 b (omega arith))
-      ∙ same-verdict p (c .core) (c .collector .len + 1) _ _ (c .collector .len) _ _ _ _ _ (g ∙ sym good)
-      ∙ accepted
+  still-accepted b = rw (stored-at 0 b (omega arith), stored-at 1 b (omega arith)) (one-more-accepted _ _ _ accepted begun (omega arith) small)
 
 -- One such byte, as the step adds it.
 pub byte-adds : (p : Part) (c : Chip) (v : Event) (b n : ℕ) (m : Flash) (room : List ℕ) → length (c .collector .bytes) ≡ 260 → counted (getD (c .collector .bytes) 1 0) ≤ 256

@@ -17,6 +17,7 @@ use chip_core::Done;
 use chip_core::Phase;
 use chip_options::Options;
 use chip_state::Chip;
+use chip_state::Handed;
 use frame::Header;
 use frame::collector::Collector;
 use part::Part;
@@ -111,16 +112,15 @@ fn long_step(
     let collector = chip.collector;
     let count = collector.len;
     let len = collector.bytes[1];
-    let v = chip_state::verdict(
-        part,
-        core,
+    let handed = Handed {
         count,
-        collector.bytes[0],
+        head: collector.bytes[0],
         len,
-        code.len(),
-        data.len(),
-        room.len(),
-    );
+        code: code.len(),
+        data: data.len(),
+        room: room.len(),
+    };
+    let v = chip_state::verdict(part, core, handed);
     match v {
         Verdict::Refused(refusal) => Step {
             answer: Answer::Refused(refusal),
@@ -259,16 +259,15 @@ pub fn step(
     let collector = chip.collector;
     let at = collector.len;
     let len = collector.bytes[1];
-    let v = chip_state::verdict(
-        part,
-        core,
-        at,
-        collector.bytes[0],
+    let handed = Handed {
+        count: at,
+        head: collector.bytes[0],
         len,
-        code.len(),
-        data.len(),
-        room.len(),
-    );
+        code: code.len(),
+        data: data.len(),
+        room: room.len(),
+    };
+    let v = chip_state::verdict(part, core, handed);
     match v {
         Verdict::Refused(refusal) => {
             return Step {
@@ -330,7 +329,15 @@ fn plain(part: Part, chip: Chip, code: usize, data: usize, room: usize, rest: us
         return 0;
     }
     let core = chip.core;
-    let v = chip_state::verdict(part, core, count, collector.bytes[0], len, code, data, room);
+    let handed = Handed {
+        count,
+        head: collector.bytes[0],
+        len,
+        code,
+        data,
+        room,
+    };
+    let v = chip_state::verdict(part, core, handed);
     match v {
         Verdict::Accepted => n,
         Verdict::Refused(refusal) => 0,

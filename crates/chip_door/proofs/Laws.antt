@@ -11,6 +11,7 @@ use lib.Seq.{getD-drop, getD-take}
 use borrow.Author.Tests.{eqb-true, not-false}
 use Rattle.chip_state.specs.Refusals.{verdictOf, verdictOn}
 use Rattle.chip_state.specs.declared.Chip.{Chip}
+use Rattle.chip_state.specs.declared.Handed.{Handed}
 use Rattle.chip_door.specs.Calls.{acceptance, accepting, admission}
 use Rattle.chip_door.specs.Layout.{awaitedOf, chipIn, collectorIn, coreIn, headOf, isState, layoutOf, phaseNumber, stateSize}
 use Rattle.chip_core.specs.declared.Awaited.{Awaited}
@@ -102,8 +103,13 @@ chip-accepts p state code extra room e =
 first-collected : (bs : List ℕ) (i : ℕ) → i < 260 → getD (take 260 (drop 33 bs)) i 0 ≡ getD bs (33 + i) 0
 first-collected bs i h = getD-take 260 (drop 33 bs) i 0 h ∙ getD-drop 33 bs i 0
 
-pub verdict-read : (p : Part) (k : Core) (count head len : ℕ) (state : List ℕ) (code extra room : ℕ) (v : Verdict) → v ≡ verdictOf p k count head len code extra room
-    → k ≡ coreIn state → count ≡ numberAt 8 25 state → head ≡ getD state 33 0 → len ≡ getD state 34 0 → v ≡ verdictOn p (chipIn state) code extra room
+same-handed : (h : Handed) {n i j : ℕ} → h .count ≡ n → h .head ≡ i → h .len ≡ j
+    → h ≡ record { count = n; head = i; len = j; code = h .code; «data» = h .«data»; room = h .room }
+same-handed h e f g = rw (← e, ← f, ← g)
+
+pub verdict-read : (p : Part) (k : Core) (h : Handed) (state : List ℕ) (v : Verdict) → v ≡ verdictOf p k h
+    → k ≡ coreIn state → h .count ≡ numberAt 8 25 state → h .head ≡ getD state 33 0 → h .len ≡ getD state 34 0 → v ≡ verdictOn p (chipIn state) (h .code) (h .«data») (h .room)
 unfolding chipIn collectorIn
-verdict-read p k count head len state code extra room v e f g h i =
-    rw (e, f, g, h, i, first-collected state 0 (omega arith), first-collected state 1 (omega arith))
+verdict-read p k h state v e f g i j =
+    let x : h ≡ record { count = numberAt 8 25 state; head = getD state 33 0; len = getD state 34 0; code = h .code; «data» = h .«data»; room = h .room } = same-handed h g i j in
+    rw (e, f, first-collected state 0 (omega arith), first-collected state 1 (omega arith)) (ap (verdictOf p (coreIn state)) x)

@@ -12,6 +12,7 @@ ghost use Rattle.chip_door.specs.Calls.{accepting, admission, bytesTold,
 use chip::Answer;
 use chip::Event;
 use chip::events;
+use chip_state::Handed;
 use part::Area;
 use part::Part;
 use part::refusal::Refusal;
@@ -44,7 +45,15 @@ fn verdict_in(part: Part, state: &[u8], code: usize, data: usize, room: usize) -
 {
     let core = super::core_in(state);
     let count = super::number8(state, 25);
-    chip_state::verdict(part, core, count, state[33], state[34], code, data, room)
+    let handed = Handed {
+        count,
+        head: state[33],
+        len: state[34],
+        code,
+        data,
+        room,
+    };
+    chip_state::verdict(part, core, handed)
 }
 
 // The same, and then the chip's own verdict: before the first of several events.

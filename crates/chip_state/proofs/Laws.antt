@@ -1,13 +1,33 @@
--- A law of the chip's tests over plain numbers.
+-- Laws of the chip's refusals, over plain variables: what an accepted call gives, and that one byte more, where the frame begun still lacks some, is accepted too.
 -- Assumes nothing.
-use mathlib.Core.Path.{_∙_, _≡_, sym}
-use Prim.Native.Nat.{_%_, _+_, _-_, _<_, suc, ℕ}
+use mathlib.Core.Bool.{Bool, false, not, true}
+use mathlib.Core.List.{List, _∷_}
+use mathlib.Core.Path.{_∙_, _≡_, ap, sym}
+use Prim.Native.Nat.{_%_, _+_, _-_, _<_, _≤_, suc, ℕ}
 use native.Mathlib.Decide.{decLt}
 use native.Mathlib.Nat.{mod-eq-of-lt, mod-lt, mod-self, suc-mod}
 use native.Mathlib.Numerals.{add-one}
 use native.Mathlib.Omega.{arith}
-use lib.Dec.{eqb}
-use borrow.Author.Tests.{eq-eqb, ne-eqb}
+use lib.Dec.{eqb, ltb}
+use borrow.Author.Tests.{eq-eqb, eqb-true, le-ltb, lt-ltb, ltb-false, ne-eqb, not-false}
+use Rattle.chip_core.specs.declared.Core.{Core}
+use Rattle.chip_core.specs.declared.Phase.{Phase}
+use Rattle.chip_core.specs.declared.Phase.the-variants.{Awaiting, ModeByte, Ready, Setup}
+use Rattle.chip_state.specs.Refusals.{goodBegun, goodCollected, goodState, verdictOf}
+use Rattle.chip_state.specs.declared.Handed.{Handed}
+use Rattle.frame.proofs.Laws.Frame.{full-not}
+use Rattle.frame.specs.Frame.{counted, full, headerByte}
+use Rattle.frame.specs.declared.Header.{Header}
+use Rattle.frame.specs.declared.Header.the-variants.{Command, Data}
+use Rattle.part.proofs.Laws.{none-held, passed, passes}
+use Rattle.part.specs.Part.{described, size}
+use Rattle.part.specs.Refusal.{Condition, _when_, firstOf}
+use Rattle.part.specs.declared.Area.the-variants.{CodeFlash, DataFlash}
+use Rattle.part.specs.declared.Part.{Part}
+use Rattle.part.specs.declared.refusal.Refusal.{Refusal}
+use Rattle.part.specs.declared.refusal.Verdict.the-variants.{Accepted, Refused}
+use Rattle.words.proofs.Laws.{and-both, and-left, and-right, or-right}
+use Rattle.words.specs.Words.{_and_, _or_, if_then_else_}
 
 -- The last byte of a block, without a sum that could wrap.
 pub block-end-is : (y s : ℕ) → 0 < s → eqb (y % s) (s - 1) ≡ eqb ((y + 1) % s) 0
@@ -25,3 +45,80 @@ block-end-is y s h = go (decLt (y % s) (s - 1))
         let e : suc (y % s) ≡ s = omega arith in
         let z : suc (y % s) % s ≡ 0 = rw e (mod-self s) in
         eq-eqb (y % s) (s - 1) (omega arith) ∙ sym (eq-eqb ((y + 1) % s) 0 (omega (arith, m)))
+
+-- The first refusal whose condition holds decides.
+pub first-here : (r : Refusal) (t : Bool) (xs : List Condition) → t ≡ true → firstOf (r when t ∷ xs) ≡ Refused r
+unfolding firstOf if_then_else_
+first-here r t xs e = rw e
+
+pub first-on : (r : Refusal) (t : Bool) (xs : List Condition) → t ≡ false → firstOf (r when t ∷ xs) ≡ firstOf xs
+unfolding firstOf if_then_else_
+first-on r t xs e = rw e
+
+-- What makes a call accepted, and what acceptance gives.
+pub record Accepts (p : Part) (k : Core) (h : Handed) : Type 0 where
+  pub part : described p ≡ true
+  pub codeLong : h .code ≡ size p CodeFlash
+  pub dataLong : h .«data» ≡ size p DataFlash
+  pub state : goodState p k (h .count) (h .head) (h .len) ≡ true
+  pub roomy : 32 ≤ h .room
+
+pub accepts : {p : Part} {k : Core} {h : Handed} → verdictOf p k h ≡ Accepted → Accepts p k h
+unfolding verdictOf
+accepts {p} {k} {h} e =
+    let a = passed _ _ e in
+    let b = passed _ _ (a .rest) in
+    let c = passed _ _ (b .rest) in
+    let d = passed _ _ (c .rest) in
+    let f = passed _ _ (d .rest) in
+    record {
+      part = not-false _ (a .not-held);
+      codeLong = eqb-true _ _ (not-false _ (b .not-held));
+      dataLong = eqb-true _ _ (not-false _ (c .not-held));
+      state = not-false _ (d .not-held);
+      roomy = ltb-false (h .room) 32 (f .not-held);
+    }
+
+pub accepted : {p : Part} {k : Core} {h : Handed} → Accepts p k h → verdictOf p k h ≡ Accepted
+unfolding verdictOf
+accepted {p} {k} {h} a =
+    passes _ _ (ap not (a .part))
+    (passes _ _ (ap not (eq-eqb _ _ (a .codeLong)))
+    (passes _ _ (ap not (eq-eqb _ _ (a .dataLong))) (passes _ _ (ap not (a .state)) (passes _ _ (le-ltb (h .room) 32 (a .roomy)) none-held))))
+
+-- One byte more than header and LEN, the frame not complete yet.
+more-begun : (h : Header) (n head len : ℕ) → 2 ≤ n → n + 1 < counted len + 4 → counted len ≤ 256 → goodBegun h n head len ≡ true → goodBegun h (n + 1) head len ≡ true
+unfolding goodBegun _or_
+more-begun h n head len k s c e =
+    let z : eqb n 0 ≡ false = ne-eqb n 0 (λ q. omega arith) in
+    let f : ltb n 260 and eqb head (headerByte h) and not (full n len) ≡ true = drop-or z e in
+    let g : eqb head (headerByte h) ≡ true = and-left _ _ (and-right (ltb n 260) _ f) in
+    or-right (eqb (n + 1) 0) (and-both (lt-ltb (n + 1) 260 (omega arith)) (and-both g (ap not (full-not (n + 1) len s))))
+  where
+    drop-or : {t u : Bool} → t ≡ false → t or u ≡ true → u ≡ true
+    drop-or {t} {u} f e = sym (ap (λ (x : Bool). x or u) f) ∙ e
+
+more-collected : (f : Phase) (n head len : ℕ) → 2 ≤ n → n + 1 < counted len + 4 → counted len ≤ 256 → goodCollected f n head len ≡ true
+    → goodCollected f (n + 1) head len ≡ true
+unfolding goodCollected
+more-collected ModeByte n head len k s c e = absurd (let z : n ≡ 0 = eqb-true n 0 e in omega arith)
+more-collected Setup n head len k s c e = more-begun Command n head len k s c e
+more-collected Ready n head len k s c e = more-begun Command n head len k s c e
+more-collected (Awaiting w) n head len k s c e = more-begun Data n head len k s c e
+
+more-good : (p : Part) (k : Core) (n head len : ℕ) → 2 ≤ n → n + 1 < counted len + 4 → counted len ≤ 256 → goodState p k n head len ≡ true
+    → goodState p k (n + 1) head len ≡ true
+unfolding goodState
+more-good p k n head len h s c e = and-both (more-collected (k .phase) n head len h s c (and-left _ _ e)) (and-right (goodCollected (k .phase) n head len) _ e)
+
+pub one-more-accepted : (p : Part) (k : Core) (h : Handed) → verdictOf p k h ≡ Accepted → 2 ≤ h .count → h .count + 1 < counted (h .len) + 4 → counted (h .len) ≤ 256
+    → verdictOf p k (record { count = h .count + 1; head = h .head; len = h .len; code = h .code; «data» = h .«data»; room = h .room }) ≡ Accepted
+one-more-accepted p k h e n s c =
+    let a = accepts e in
+    accepted (record {
+      part = a .part;
+      codeLong = a .codeLong;
+      dataLong = a .dataLong;
+      state = more-good p k (h .count) (h .head) (h .len) n s c (a .state);
+      roomy = a .roomy;
+    })

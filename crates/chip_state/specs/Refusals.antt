@@ -5,6 +5,7 @@ use Prim.Native.Nat.{_%_, _+_, ℕ}
 use lib.Dec.{eqb, leb, ltb}
 use lib.ListN.{getD}
 use Rattle.chip_state.specs.declared.Chip.{Chip}
+use Rattle.chip_state.specs.declared.Handed.{Handed}
 use Rattle.chip_core.specs.declared.Awaited.{Awaited}
 use Rattle.chip_core.specs.declared.Core.{Core}
 use Rattle.chip_core.specs.declared.Phase.{Phase}
@@ -12,6 +13,7 @@ use Rattle.chip_core.specs.declared.Phase.the-variants.{Awaiting, ModeByte, Rea
 use Rattle.frame.specs.Frame.{full, headerByte}
 use Rattle.frame.specs.declared.Header.{Header}
 use Rattle.frame.specs.declared.Header.the-variants.{Command, Data}
+use Rattle.frame.specs.declared.collector.Collector.{Collector}
 use Rattle.chip_options.specs.Options.{goodOptions}
 use Rattle.part.specs.Part.{blockSize, described, pageSize, placeOf, size}
 use Rattle.part.specs.Refusal.{_when_, firstOf}
@@ -66,17 +68,20 @@ goodCore p k = leb (k .rate) 0x03 and goodOptions p (k .options) and goodPhase p
 unfoldable pub goodState : Part → Core → ℕ → ℕ → ℕ → Bool
 goodState p k count head len = goodCollected (k .phase) count head len and goodCore p k
 
--- "Order for the chip: 1, 2, 3, 9, 4": count, first byte and LEN byte of what is collected, and the lengths of what is lent.
-unfoldable pub verdictOf : Part → Core → ℕ → ℕ → ℕ → ℕ → ℕ → ℕ → Verdict
-verdictOf p k count head len code extra room =
+-- "Order for the chip: 1, 2, 3, 9, 4".
+unfoldable pub verdictOf : Part → Core → Handed → Verdict
+verdictOf p k h =
     firstOf
     (BadPart when not (described p)
-    ∷ CodeLength when not (eqb code (size p CodeFlash))
-    ∷ DataLength when not (eqb extra (size p DataFlash))
-    ∷ BadState when not (goodState p k count head len)
-    ∷ ShortRoom when ltb room 32
+    ∷ CodeLength when not (eqb (h .code) (size p CodeFlash))
+    ∷ DataLength when not (eqb (h .«data») (size p DataFlash))
+    ∷ BadState when not (goodState p k (h .count) (h .head) (h .len))
+    ∷ ShortRoom when ltb (h .room) 32
     ∷ [])
 
--- The verdict on a chip.
+-- The verdict on a chip, with so many bytes of code flash, data flash and room lent.
+abbrev pub handedWith : Collector → ℕ → ℕ → ℕ → Handed
+handedWith c code «data» room = record { count = c .len; head = getD (c .bytes) 0 0; len = getD (c .bytes) 1 0; code = code; «data» = «data»; room = room }
+
 abbrev pub verdictOn : Part → Chip → ℕ → ℕ → ℕ → Verdict
-verdictOn p c code extra room = verdictOf p (c .core) (c .collector .len) (getD (c .collector .bytes) 0 0) (getD (c .collector .bytes) 1 0) code extra room
+verdictOn p c code «data» room = verdictOf p (c .core) (handedWith (c .collector) code «data» room)

@@ -20,6 +20,16 @@ pub struct Chip {
     pub collector: Collector,
 }
 
+// What a call hands in, as numbers: the count, the first byte and the LEN byte of what is collected, and the lengths of what is lent.
+pub struct Handed {
+    pub count: usize,
+    pub head: u8,
+    pub len: u8,
+    pub code: usize,
+    pub data: usize,
+    pub room: usize,
+}
+
 fn same_area(a: Area, b: Area) -> bool
     ensures { λ r. ⌜ r ≡ sameArea a b ⌝ }
 {
@@ -171,24 +181,15 @@ fn is_good_state(part: Part, core: Core, count: usize, head: u8, len: u8) -> boo
     false
 }
 
-// The verdict on a chip, by its record, the count, first byte and LEN byte of what is collected, and the lengths of what is lent.
-pub fn verdict(
-    part: Part,
-    core: Core,
-    count: usize,
-    head: u8,
-    len: u8,
-    code: usize,
-    extra: usize,
-    room: usize,
-) -> Verdict
-    ensures { λ r. ⌜ r ≡ verdictOf part core count head len code extra room ⌝ }
+// The verdict on a chip, by its record and what the call hands in.
+pub fn verdict(part: Part, core: Core, handed: Handed) -> Verdict
+    ensures { λ r. ⌜ r ≡ verdictOf part core handed ⌝ }
 {
     if part.is_described() {
-        if code == part.size(Area::CodeFlash) {
-            if extra == part.size(Area::DataFlash) {
-                if is_good_state(part, core, count, head, len) {
-                    if room < 32 {
+        if handed.code == part.size(Area::CodeFlash) {
+            if handed.data == part.size(Area::DataFlash) {
+                if is_good_state(part, core, handed.count, handed.head, handed.len) {
+                    if handed.room < 32 {
                         return Verdict::Refused(Refusal::ShortRoom);
                     }
                     return Verdict::Accepted;

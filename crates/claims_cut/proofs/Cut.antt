@@ -8,11 +8,11 @@ use native.Mathlib.Nat.{mul-le-mul-right, suc-mul}
 use native.Mathlib.Numerals.{add-one}
 use native.Mathlib.Omega.{arith}
 use lib.Dec.{eqb}
-use lib.ListN.{drop, getD, length, length-drop, length-replicate, replicate}
+use lib.ListN.{drop, length, length-drop, length-replicate, replicate}
 use lib.Seq.{length-take-le}
 use borrow.Author.Tests.{eqb-true, not-false}
 use Rattle.chip.specs.Step.{Reaction, byteIn, frameDoes, heardByte, reactTo}
-use Rattle.chip_state.specs.Refusals.{goodAwaited, goodPhase, goodState}
+use Rattle.chip_state.specs.Refusals.{goodAwaited, goodPhase, goodState, handedWith}
 use Rattle.chip.specs.declared.Event.{Event}
 use Rattle.chip.specs.declared.Event.the-variants.{Byte, Gap, PowerOn}
 use Rattle.claims_cut.proofs.Put.{put-becomes}
@@ -20,7 +20,7 @@ use Rattle.claims_cut.specs.Cut.{Change, OneEvent, PowerOnKeeps, nothing
 use Rattle.claims_good.proofs.Awaited.{Pages, good-walk}
 use Rattle.claims_good.proofs.Core.{core-is}
 use Rattle.claims_good.proofs.Rooms.{leaves, reactionOf}
-use Rattle.claims_good.proofs.Verdict.{Conditions, conditions}
+use Rattle.chip_state.proofs.Laws.{Accepts, accepts}
 use Rattle.chip_work.specs.Work.{blockErase, erasedIn}
 use Rattle.chip_commands.specs.Commands.{commandDoes, work}
 use Rattle.chip_core.specs.Effect.{Effect, Flash, bytesIn, effect}
@@ -180,12 +180,12 @@ reaction-does p k m hs PowerOn l d g = record { change = nothing refl }
 pub one-event : OneEvent
 unfolding reactionOf goodState
 one-event p o v s q =
-    let a = conditions p _ _ _ _ _ _ _ (s .accepted) in
+    let a = accepts (s .accepted) in
     let g = core-is p (o .chip .core) (and-right _ _ (a .state)) in
     rw (leaves p o v s .memory) (reaction-does p (o .chip .core) (o .memory) (heard (o .chip .collector)) v (lengths a) (a .part) (g .phase) .change)
   where
-    lengths : Conditions p (o .chip .core) (o .chip .collector .len) (getD (o .chip .collector .bytes) 0 0) (getD (o .chip .collector .bytes) 1 0)
-        (length (o .memory .codeFlash)) (length (o .memory .dataFlash)) (length (o .room)) → (a : Area) → length (bytesIn a (o .memory)) ≡ size p a
+    lengths : Accepts p (o .chip .core) (handedWith (o .chip .collector) (length (o .memory .codeFlash)) (length (o .memory .dataFlash)) (length (o .room)))
+        → (a : Area) → length (bytesIn a (o .memory)) ≡ size p a
     lengths c CodeFlash = c .codeLong
     lengths c DataFlash = c .dataLong
 

@@ -17,7 +17,7 @@ use Rattle.chip.specs.declared.Event.{Event}
 use Rattle.chip.specs.declared.Event.the-variants.{Byte}
 use Rattle.claims_door.specs.Kept.{FeedKept}
 use Rattle.claims_good.proofs.Stays.{onward-is, stays}
-use Rattle.claims_good.proofs.Verdict.{accepted}
+use Rattle.chip_state.proofs.Laws.{accepted}
 use Rattle.claims_good.specs.Good.{Stands, aByte, verdictIn}
 use Rattle.chip_door.proofs.Laws.{accepted-admits, chip-accepts}
 use Rattle.chip_door.specs.Calls.{accepting, fedBy, fedThrough, refusalNumber, replayTold, replayedBy, replayedThrough}

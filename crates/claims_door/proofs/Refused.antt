@@ -4,9 +4,9 @@ use mathlib.Core.Bool.{true}
 use mathlib.Core.List.{List}
 use mathlib.Core.Path.{_≡_, refl}
 use Prim.Native.Nat.{ℕ}
-use lib.ListN.{getD, length}
+use lib.ListN.{length}
 use Rattle.chip.specs.Step.{Reaction, reactTo, settled, stepOf}
-use Rattle.chip_state.specs.Refusals.{verdictOf}
+use Rattle.chip_state.specs.Refusals.{verdictOn}
 use Rattle.chip.specs.declared.Event.{Event}
 use Rattle.claims_door.proofs.Back.{written-back}
 use Rattle.claims_door.specs.Kept.{Kept}
@@ -34,7 +34,7 @@ unfolding steppedBy stepOf
 admits-kept (Refused r) p v state m room b e h = record { stateStays = refl; flashStays = refl; roomStays = refl }
 admits-kept Accepted p v state m room b e h =
     let c = chipIn state in
-    asked (verdictOf p (c .core) (c .collector .len) (getD (c .collector .bytes) 0 0) (getD (c .collector .bytes) 1 0) (length (m .codeFlash)) (length (m .dataFlash)) (length room)) p (reactTo v p (c .core) (heard (c .collector)) m) state m room b (e refl) h
+    asked (verdictOn p c (length (m .codeFlash)) (length (m .dataFlash)) (length room)) p (reactTo v p (c .core) (heard (c .collector)) m) state m room b (e refl) h
 
 -- Every event's call, whatever part and whatever bytes are handed in.
 pub refused-keeps : (p : Part) (v : Event) (state : List ℕ) (m : Flash) (room : List ℕ) → Below 256 state → (steppedThrough p v state m room .refusal ≡ 0 → ⊥)

@@ -11,7 +11,7 @@ use Rattle.chip.specs.Step.{freshChip}
 use Rattle.chip_state.specs.Refusals.{goodPhase, goodState}
 use Rattle.claims_good.proofs.Collected.{none-good}
 use Rattle.claims_good.proofs.Core.{GoodCore, is-core}
-use Rattle.claims_good.proofs.Verdict.{accepted}
+use Rattle.chip_state.proofs.Laws.{accepted}
 use Rattle.chip.proofs.Saying.{Arrays}
 use Rattle.claims_good.specs.Good.{Stands}
 use Rattle.claims_stars.specs.Table.{thePart}

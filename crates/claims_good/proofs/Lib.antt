@@ -1,4 +1,3 @@
-pub mod Verdict
 pub mod Core
 pub mod Awaited
 pub mod Effects

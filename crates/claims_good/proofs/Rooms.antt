@@ -11,7 +11,7 @@ use Rattle.chip.specs.declared.Answer.the-variants.{Replied}
 use Rattle.chip_state.specs.declared.Chip.{Chip}
 use Rattle.chip.specs.declared.Event.{Event}
 use Rattle.claims_good.proofs.Stays.{onward-is, stays}
-use Rattle.claims_good.proofs.Verdict.{accepted, conditions}
+use Rattle.chip_state.proofs.Laws.{accepted, accepts}
 use Rattle.claims_good.specs.Good.{Alike, AllAnswered, AllProper, Answered, SameChip, SameStep, Stands, Utterance, andAnswer, andEvent, noAnswer, noEvent, utterances, uttered}
 use Rattle.chip_core.specs.Effect.{Flash}
 use Rattle.chip_core.specs.declared.Core.{Core}
@@ -39,7 +39,7 @@ settled-utters p x c m room h =
     (take-append-seam (framesOf rs) (drop (length (framesOf rs)) room))
 
 roomy : {p : Part} {o : Outcome} → Stands p o → 32 ≤ length (o .room)
-roomy {p} s = conditions p _ _ _ _ _ _ _ (s .accepted) .roomy
+roomy {p} s = accepts (s .accepted) .roomy
 
 -- The reaction to an event, from what stands.
 unfoldable pub reactionOf : Part → Outcome → Event → Reaction
@@ -135,7 +135,7 @@ alike-utterances p (v ∷ vs) o u so su (andEvent h q) a =
 -- The room does not matter: with any other of at least 32 bytes the chip stands, and an event leaves the same chip and flash and says the same.
 pub stands-anywhere : (p : Part) (o u : Outcome) → Stands p o → SameChip o u → 32 ≤ length (u .room) → Stands p u
 stands-anywhere p o u s e r =
-    let a = conditions p _ _ _ _ _ _ _ (s .accepted) in
+    let a = accepts (s .accepted) in
     record {
       accepted =
           accepted (record {

@@ -16,7 +16,7 @@ use Rattle.chip.specs.declared.Event.the-variants.{Byte, Gap, PowerOn}
 use Rattle.claims_good.proofs.Collected.{Holds, begins-good, below-hear, below-heard, good-begins, hear-begins, holds, none-good}
 use Rattle.claims_good.proofs.Core.{GoodCore, core-is, enters, is-core}
 use Rattle.claims_good.proofs.Effects.{Keeps, command-keeps, data-keeps, stays-so}
-use Rattle.claims_good.proofs.Verdict.{accepted, conditions}
+use Rattle.chip_state.proofs.Laws.{accepted, accepts}
 use Rattle.claims_good.specs.Good.{AllProper, Proper, Stands, aByte, aGap, aPowerOn, andEvent, verdictIn}
 use Rattle.chip_core.specs.Effect.{Effect, Flash}
 use Rattle.chip_core.specs.declared.Core.{Core}
@@ -109,7 +109,7 @@ settled-stands : (p : Part) (o : Outcome) (x : Reaction) → Stands p o → Reac
     → Stands p (settled Accepted p x (o .chip) (o .memory) (o .room))
 unfolding settled goodState
 settled-stands p o x s r =
-    let a = conditions p _ _ _ _ _ _ _ (s .accepted) in
+    let a = accepts (s .accepted) in
     let n = s .arrays in
     let l : length (sendOf (payloads p (x .does .core .options) (x .does .reply)) (o .room) .room) ≡ length (o .room) =
     send-keeps _ (o .room) (omega (arith, reply-long p (x .does .core .options) (x .does .reply) (n .deviceLong) (n .nameLong) (n .versionLong))) in
@@ -131,7 +131,7 @@ settled-stands p o x s r =
 pub stays : (p : Part) (o : Outcome) (v : Event) → Stands p o → Proper v → Stands p (onward p o v)
 unfolding goodState
 stays p o v s q =
-    let a = conditions p _ _ _ _ _ _ _ (s .accepted) in
+    let a = accepts (s .accepted) in
     let c = o .chip .collector in
     rw (onward-is p o v (s .accepted))
     (settled-stands p o _ s

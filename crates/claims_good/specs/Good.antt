@@ -2,11 +2,11 @@
 use mathlib.Core.List.{List, [], _∷_, map}
 use mathlib.Core.Path.{_≡_}
 use Prim.Native.Nat.{_<_, _≤_, ℕ}
-use lib.ListN.{getD, length}
+use lib.ListN.{length}
 use Rattle.chip.proofs.Saying.{Arrays}
 use Rattle.chip.specs.Run.{Spoken, answers, bytesSaid, spokenIn}
 use Rattle.chip.specs.Step.{Outcome}
-use Rattle.chip_state.specs.Refusals.{verdictOf}
+use Rattle.chip_state.specs.Refusals.{verdictOn}
 use Rattle.chip.specs.declared.Answer.{Answer}
 use Rattle.chip.specs.declared.Answer.the-variants.{Replied}
 use Rattle.chip.specs.declared.Event.{Event}
@@ -19,9 +19,7 @@ use Rattle.part.specs.declared.refusal.Verdict.the-variants.{Accepted}
 
 -- The verdict on a call with what an outcome left: its chip, its flash and its room.
 abbrev pub verdictIn : Part → Outcome → Verdict
-verdictIn p o =
-    verdictOf p (o .chip .core) (o .chip .collector .len) (getD (o .chip .collector .bytes) 0 0) (getD (o .chip .collector .bytes) 1 0)
-    (length (o .memory .codeFlash)) (length (o .memory .dataFlash)) (length (o .room))
+verdictIn p o = verdictOn p (o .chip) (length (o .memory .codeFlash)) (length (o .memory .dataFlash)) (length (o .room))
 
 -- None of the refusals 1, 2, 3, 9 and 4 is given. The rest holds of all that the language can hand in: the collector's array has 260 places, each a
 -- byte, and the description's arrays have their lengths.

@@ -12,7 +12,7 @@ use Rattle.chip_state.specs.Refusals.{goodState}
 use Rattle.claims_good.proofs.Collected.{none-good}
 use Rattle.claims_good.proofs.Core.{core-is, is-core, made-ready}
 use Rattle.claims_good.proofs.Stays.{stays}
-use Rattle.claims_good.proofs.Verdict.{accepted, conditions}
+use Rattle.chip_state.proofs.Laws.{accepted, accepts}
 use Rattle.claims_good.specs.Good.{Alike, Stands}
 use Rattle.claims_noise.proofs.Noise.{NoiseLeaves, as-if, leftCore, leftIn, noise-leaves, run-by}
 use Rattle.claims_noise.specs.Claims.{AsIf, AwaitsCommand, Noise, NoiseAtCommand, NoiseAtData, NoiseBranches, command, commandOver, inReady, inSetup, leftBy, page, runBy}
@@ -65,7 +65,7 @@ over-memory o = refl
 pub over-stands : (p : Part) (o : Outcome) → Stands p o → o .chip .collector .len ≡ 0 → Stands p (commandOver o)
 unfolding commandOver goodState
 over-stands p o s n =
-    let a = conditions p _ _ _ _ _ _ _ (s .accepted) in
+    let a = accepts (s .accepted) in
     record {
       accepted =
           accepted (record {

@@ -21,7 +21,7 @@ use Rattle.chip.specs.declared.Event.{Event}
 use Rattle.chip.specs.declared.Event.the-variants.{Byte, Gap}
 use Rattle.claims_good.proofs.Rooms.{never-refused}
 use Rattle.claims_good.proofs.Stays.{stays}
-use Rattle.claims_good.proofs.Verdict.{accepted}
+use Rattle.chip_state.proofs.Laws.{accepted}
 use Rattle.claims_good.specs.Good.{AllAnswered, AllProper, Answered, Proper, Stands, aByte, aGap, andAnswer, andEvent, noEvent}
 use Rattle.chip_core.specs.Effect.{Flash}
 use Rattle.frame.proofs.Laws.Sum.{Below, below-drop, below-take, more, none}

@@ -4,7 +4,7 @@ use mathlib.Core.List.{List, [], _∷_}
 use Prim.Native.Nat.{_+_, _-_, ℕ}
 use lib.Dec.{eqb, leb, ltb}
 use lib.ListN.{getD}
-use Rattle.chip_state.specs.Refusals.{verdictOf}
+use Rattle.chip_state.specs.Refusals.{verdictOn}
 use Rattle.chip_state.specs.declared.Chip.{Chip}
 use Rattle.chip.specs.declared.events.Way.{Way}
 use Rattle.chip.specs.declared.events.Way.the-variants.{Completes, Hears, Mode}
@@ -45,9 +45,9 @@ stretchOf Accepted n = n
 stretchOf (Refused r) n = 0
 
 unfoldable pub plainOf : Part → Chip → ℕ → ℕ → ℕ → ℕ → ℕ
-plainOf p c code extra room rest =
-    if eqb (lackingOf (c .collector .len) (getD (c .collector .bytes) 1 0) rest) 0 then 0
-    else stretchOf (verdictOf p (c .core) (c .collector .len) (getD (c .collector .bytes) 0 0) (getD (c .collector .bytes) 1 0) code extra room) (lackingOf (c .collector .len) (getD (c .collector .bytes) 1 0) rest)
+plainOf p c code «data» room rest =
+    let n = lackingOf (c .collector .len) (getD (c .collector .bytes) 1 0) rest in
+    if eqb n 0 then 0 else stretchOf (verdictOn p c code «data» room) n
 
 -- The collector after a stretch, byte by byte.
 unfoldable pub stretchedBy : Collector → List ℕ → Collector

@@ -4,7 +4,8 @@ use mathlib.Core.Path.{_∙_, _≡_, sym}
 use native.Mathlib.Omega.{arith}
 use lib.ListN.{length}
 use borrow.Author.Needs.{needs}
-use Rattle.chip.proofs.Settling.{accepts, at-byte, at-gap, at-power-on, completes-settles, emptied, hears-settles, mode-settles, next-in-array, step-accepted, step-barred}
+use Rattle.chip_state.proofs.Laws.{accepts}
+use Rattle.chip.proofs.Settling.{at-byte, at-gap, at-power-on, completes-settles, emptied, hears-settles, mode-settles, next-in-array, step-accepted, step-barred}
 use Rattle.chip.specs.declared.Event.the-variants.{Byte, Gap, PowerOn}
 use Rattle.chip.proofs.events.long_step.Statement.{statement}
 use Rattle.chip.proofs.events.long_step.Tie as tie
@@ -17,7 +18,7 @@ next-long c = search needs
 
 part-frame-does-end : tie.Need-part-frame-does-end
 part-frame-does-end c =
-    omega (arith, next-long (c .before .before), next-in-array _ _ _ _ _ _ _ (long (c .before .before .before .before .before .before .before .before .before .before .before .before .before .before .before .before .before .before .before .before)) (accepts _ _ _ _ _ _ _ _ (sym (c .before .before .before .before .before .before .before .before .before .before .before .before .verdict .ensures) ∙ c .before .before .before .before .before .before .before .before .before .before .enum-told .given .1)) (sym (c .before .before .before .before .before .before .way-in .ensures) ∙ c .before .before .before .before .w2 .given .1) (c .before .before .byte2 .ensures))
+    omega (arith, next-long (c .before .before), next-in-array _ _ _ _ _ _ _ _ _ (long (c .before .before .before .before .before .before .before .before .before .before .before .before .before .before .before .before .before .before .before .before)) (accepts (sym (c .before .before .before .before .before .before .before .before .before .before .before .before .verdict .ensures) ∙ c .before .before .before .before .before .before .before .before .before .before .enum-told .given .1)) (sym (c .before .before .before .before .before .before .way-in .ensures) ∙ c .before .before .before .before .w2 .given .1) (c .before .before .byte2 .ensures))
 
 returns : tie.Need-returns
 returns c =
@@ -26,27 +27,27 @@ returns c =
 returns-2 : tie.Need-returns-2
 returns-2 c =
     step-accepted _ _ _ _ _ Gap _ _ (sym (c .before .before .before .before .before .verdict .ensures) ∙ c .before .before .before .enum-told .given .1) (c .before .enum-told2 .given .1) (at-gap _ _ _ _)
-    (emptied _ _ _ _ _ _ _ (c .gap .ensures) ((accepts _ _ _ _ _ _ _ _ (sym (c .before .before .before .before .before .verdict .ensures) ∙ c .before .before .before .enum-told .given .1)) .roomy))
+    (emptied _ _ _ _ _ _ _ (c .gap .ensures) ((accepts (sym (c .before .before .before .before .before .verdict .ensures) ∙ c .before .before .before .enum-told .given .1)) .roomy))
 
 returns-3 : tie.Need-returns-3
 returns-3 c =
     step-accepted _ _ _ _ _ PowerOn _ _ (sym (c .before .before .before .before .before .before .verdict .ensures) ∙ c .before .before .before .before .enum-told .given .1) (c .before .before .enum-told3 .given .1) (at-power-on _ _ _ _ _ (c .before .restarted .ensures))
-    (emptied _ _ _ _ _ _ _ (c .power-on .ensures) ((accepts _ _ _ _ _ _ _ _ (sym (c .before .before .before .before .before .before .verdict .ensures) ∙ c .before .before .before .before .enum-told .given .1)) .roomy))
+    (emptied _ _ _ _ _ _ _ (c .power-on .ensures) ((accepts (sym (c .before .before .before .before .before .before .verdict .ensures) ∙ c .before .before .before .before .enum-told .given .1)) .roomy))
 
 returns-4 : tie.Need-returns-4
 returns-4 c =
     step-accepted _ _ _ _ _ (Byte _) _ _ (sym (c .before .before .before .before .before .before .before .before .before .verdict .ensures) ∙ c .before .before .before .before .before .before .before .enum-told .given .1) (c .before .before .before .before .before .event .given .1) (at-byte _ _ _ _ _)
-    (mode-settles _ _ _ _ _ _ _ (accepts _ _ _ _ _ _ _ _ (sym (c .before .before .before .before .before .before .before .before .before .verdict .ensures) ∙ c .before .before .before .before .before .before .before .enum-told .given .1)) (sym (c .before .before .before .way-in .ensures) ∙ c .before .enum-told4 .given .1) (c .mode-byte .ensures))
+    (mode-settles _ _ _ _ _ _ _ (accepts (sym (c .before .before .before .before .before .before .before .before .before .verdict .ensures) ∙ c .before .before .before .before .before .before .before .enum-told .given .1)) (sym (c .before .before .before .way-in .ensures) ∙ c .before .enum-told4 .given .1) (c .mode-byte .ensures))
 
 returns-5 : tie.Need-returns-5
 returns-5 c =
     step-accepted _ _ _ _ _ (Byte _) _ _ (sym (c .before .before .before .before .before .before .before .before .before .before .verdict .ensures) ∙ c .before .before .before .before .before .before .before .before .enum-told .given .1) (c .before .before .before .before .before .before .event .given .1) (at-byte _ _ _ _ _)
-    (hears-settles _ _ _ _ _ _ _ _ (long (c .before .before .before .before .before .before .before .before .before .before .before .before .before .before .before .before .before .before)) (accepts _ _ _ _ _ _ _ _ (sym (c .before .before .before .before .before .before .before .before .before .before .verdict .ensures) ∙ c .before .before .before .before .before .before .before .before .enum-told .given .1)) (sym (c .before .before .before .before .way-in .ensures) ∙ c .before .before .w .given .1) (c .byte .ensures))
+    (hears-settles _ _ _ _ _ _ _ _ (long (c .before .before .before .before .before .before .before .before .before .before .before .before .before .before .before .before .before .before)) (accepts (sym (c .before .before .before .before .before .before .before .before .before .before .verdict .ensures) ∙ c .before .before .before .before .before .before .before .before .enum-told .given .1)) (sym (c .before .before .before .before .way-in .ensures) ∙ c .before .before .w .given .1) (c .byte .ensures))
 
 returns-6 : tie.Need-returns-6
 returns-6 c =
     step-accepted _ _ _ _ _ (Byte _) _ _ (sym (c .before .before .before .before .before .before .before .before .before .before .before .before .before .before .before .before .before .before .before .before .before .before .before .before .before .before .before .verdict .ensures) ∙ c .before .before .before .before .before .before .before .before .before .before .before .before .before .before .before .before .before .before .before .before .before .before .before .before .before .enum-told .given .1) (c .before .before .before .before .before .before .before .before .before .before .before .before .before .before .before .before .before .before .before .before .before .before .before .event .given .1) (at-byte _ _ _ _ _)
-    (completes-settles _ _ _ _ _ _ _ _ _ _ _ _ _ (long (c .before .before .before .before .before .before .before .before .before .before .before .before .before .before .before .before .before .before .before .before .before .before .before .before .before .before .before .before .before .before .before .before .before .before .before)) (accepts _ _ _ _ _ _ _ _ (sym (c .before .before .before .before .before .before .before .before .before .before .before .before .before .before .before .before .before .before .before .before .before .before .before .before .before .before .before .verdict .ensures) ∙ c .before .before .before .before .before .before .before .before .before .before .before .before .before .before .before .before .before .before .before .before .before .before .before .before .before .enum-told .given .1)) (sym (c .before .before .before .before .before .before .before .before .before .before .before .before .before .before .before .before .before .before .before .before .before .way-in .ensures) ∙ c .before .before .before .before .before .before .before .before .before .before .before .before .before .before .before .before .before .before .before .w2 .given .1) (c .before .before .before .before .before .before .before .before .before .before .before .before .before .before .before .before .before .byte2 .ensures)
+    (completes-settles _ _ _ _ _ _ _ _ _ _ _ _ _ (long (c .before .before .before .before .before .before .before .before .before .before .before .before .before .before .before .before .before .before .before .before .before .before .before .before .before .before .before .before .before .before .before .before .before .before .before)) (accepts (sym (c .before .before .before .before .before .before .before .before .before .before .before .before .before .before .before .before .before .before .before .before .before .before .before .before .before .before .before .verdict .ensures) ∙ c .before .before .before .before .before .before .before .before .before .before .before .before .before .before .before .before .before .before .before .before .before .before .before .before .before .enum-told .given .1)) (sym (c .before .before .before .before .before .before .before .before .before .before .before .before .before .before .before .before .before .before .before .before .before .way-in .ensures) ∙ c .before .before .before .before .before .before .before .before .before .before .before .before .before .before .before .before .before .before .before .w2 .given .1) (c .before .before .before .before .before .before .before .before .before .before .before .before .before .before .before .before .before .byte2 .ensures)
     (c .before .before .before .before .before .before .before .before .before .before .before .frame-does .ensures) (c .before .before .before .send .ensures) (c .gap2 .ensures))
 
 pub long-step-spec : {M : Type 1} → statement M

@@ -5,7 +5,8 @@ use Prim.Native.Nat.{_<_}
 use native.Mathlib.Omega.{arith}
 use lib.ListN.{length}
 use borrow.Author.Needs.{needs}
-use Rattle.chip.proofs.Settling.{accepts, at-gap, emptied, same-event, step-accepted, step-barred}
+use Rattle.chip_state.proofs.Laws.{accepts}
+use Rattle.chip.proofs.Settling.{at-gap, emptied, same-event, step-accepted, step-barred}
 use Rattle.chip.proofs.Stretching.{byte-adds, lacks}
 use Rattle.chip.specs.declared.Event.the-variants.{Gap}
 use Rattle.chip.proofs.events.step.Statement.{statement}
@@ -20,7 +21,7 @@ returns c = step-barred _ _ _ _ _ _ (sym (c .before .before .before .verdict .en
 returns-2 : tie.Need-returns-2
 returns-2 c =
     step-accepted _ _ _ _ _ Gap _ _ (sym (c .before .before .before .before .before .verdict .ensures) ∙ c .before .before .before .enum-told .given .1) (c .before .enum-told2 .given .1) (at-gap _ _ _ _)
-    (emptied _ _ _ _ _ _ _ (c .gap .ensures) ((accepts _ _ _ _ _ _ _ _ (sym (c .before .before .before .before .before .verdict .ensures) ∙ c .before .before .before .enum-told .given .1)) .roomy))
+    (emptied _ _ _ _ _ _ _ (c .gap .ensures) ((accepts (sym (c .before .before .before .before .before .verdict .ensures) ∙ c .before .before .before .enum-told .given .1)) .roomy))
 
 -- There is a place for the byte: what LEN counts is at most 256, and the frame is not complete.
 place : (c : tie.Then1) → c .before .before .before .before .before .before .before .before .before .before .before .before .before .before .before .args .chip .collector .len < 259
