@@ -12,7 +12,7 @@ use Rattle.claims_dock.specs.Examples.{at}
 use Rattle.dock.specs.Calls.{askOf, asked, asking, freshDock, hearOf, moved, sending, standing, startOf, starting, stepped, turning}
 use Rattle.dock.specs.declared.Report.the-variants as Report
 use Rattle.dock_flow.proofs.Laws.{heard-within}
-use Rattle.dock_flow.specs.Flow.{Heard, afterHeard, exchanges, flow, frameAt, framesIn, setupFrom, spentIn}
+use Rattle.dock_flow.specs.Flow.{Heard, afterHeard, exchanges, flow, frameAt, framesIn, firstStage, spentIn}
 use Rattle.dock_job.proofs.Laws.{GoodDock, accepts, asked-is, dock-yes, told-is}
 use Rattle.dock_job.specs.Job.{blocksOf, bound, isOver, perBlock, setup}
 use Rattle.dock_job.specs.Refusals.{callVerdict, goodDock, goodStage}
@@ -53,9 +53,9 @@ frames-paid j image used st (h ∷ hs) u g =
 pub frames-within : (j : Job) (image : List ℕ) (hs : List Heard) → length (flow j image hs .sent) ≤ 3 + 12 * (blocksOf j + j .retries)
 unfolding flow
 frames-within j image hs =
-    let p = frames-paid j image 0 (setupFrom j setup) hs (omega arith) (start-good j) in
+    let p = frames-paid j image 0 (firstStage j) hs (omega arith) (start-good j) in
     let z : j .retries - 0 ≡ j .retries = omega arith in
-    let q : length (framesIn (exchanges j image 0 (setupFrom j setup) hs)) ≤ needs j (setupFrom j setup) + perBlock j * j .retries = rw z at p in
+    let q : length (framesIn (exchanges j image 0 (firstStage j) hs)) ≤ needs j (firstStage j) + perBlock j * j .retries = rw z at p in
     rw (← bound-12 j, ← start-needs j) q
 
 spent-allowed : (j : Job) (image : List ℕ) (used : ℕ) (st : Stage) (hs : List Heard) → used ≤ j .retries
@@ -75,7 +75,7 @@ spent-allowed j image used st (h ∷ hs) u =
 
 pub retries-within : (j : Job) (image : List ℕ) (hs : List Heard) → flow j image hs .spent ≤ j .retries
 unfolding flow
-retries-within j image hs = omega (arith, spent-allowed j image 0 (setupFrom j setup) hs (omega arith))
+retries-within j image hs = omega (arith, spent-allowed j image 0 (firstStage j) hs (omega arith))
 
 -- A state that is handed in and accepted is left accepted, by each call.
 pub start-keeps : (j : Job) (image : List ℕ) → goodDock j (startOf j image .dock) ≡ true

@@ -14,7 +14,7 @@ use Rattle.dock_answer.specs.declared.Decoded.{Decoded}
 use Rattle.dock_answer.specs.declared.Decoded.the-variants.{Garbled, Said}
 use Rattle.claims_dock.specs.Examples.{at}
 use Rattle.dock_flow.proofs.Laws.{not-last}
-use Rattle.dock_flow.specs.Flow.{Heard, afterAnswer, afterHeard, afterSetup, afterStatus, afterWork, answered, blockAt, blockFrom, erasing, failing, fails, formAt, isBlankCheck, lastPage, leads, next, pageAt, pageOfWork, restart, retried, saysNotBlank, setupCommand, setupFrom, silence}
+use Rattle.dock_flow.specs.Flow.{Heard, afterAnswer, afterHeard, afterSetup, afterStatus, afterWork, answered, blockAt, blockFrom, erasing, failing, fails, formAt, isBlankCheck, lastPage, leads, next, pageAt, pageOfWork, restart, retried, saysNotBlank, setupCommand, setupFrom, firstStage, silence}
 use Rattle.dock_flow.specs.declared.Turned.{Turned}
 use Rattle.dock_job.proofs.Laws.{block-yes, page-is, page-yes, pages-some, place-is, verified-is}
 use Rattle.dock_job.specs.Job.{blocksOf, bound, isOver, pagesOf, perBlock, setup}
@@ -45,18 +45,18 @@ leftIn s [] = 0
 leftIn s (x ∷ xs) = if eqb (setupCommand s) (setupCommand x) then length (x ∷ xs) else leftIn s xs
 
 unfoldable pub needs : Job → Stage → ℕ
-needs j (SetUp s) = leftIn s setup + perBlock j * blocksOf j
+needs j (SetUp s) = leftIn s (setup j) + perBlock j * blocksOf j
 needs j (InBlock k w) = workNeeds (pagesOf j) w + perBlock j * (blocksOf j - (k + 1))
 needs j (Over e) = 0
 
 one-more : (q a b : ℕ) → a ≡ b + 1 → q * a ≡ q * b + q
 one-more q a b e = rw e (omega arith)
 
-setup-some : (s : Setup) → 1 ≤ leftIn s setup
+setup-some : (j : Job) (s : Setup) → 1 ≤ leftIn s (setup j)
 unfolding leftIn setup if_then_else_
-setup-some BaudRate = omega arith
-setup-some ResetChip = omega arith
-setup-some SiliconSignature = omega arith
+setup-some j BaudRate = omega arith
+setup-some j ResetChip = omega arith
+setup-some j SiliconSignature = omega arith
 
 work-some : (j : Job) (w : Work) → goodWork j w ≡ true → 1 ≤ workNeeds (pagesOf j) w
 unfolding workNeeds
@@ -69,7 +69,7 @@ work-some j (VerifyPage p) g = omega (arith, page-is j p (verified-is j p g))
 
 pub needs-some : (j : Job) (st : Stage) → goodStage j st ≡ true → isOver st ≡ false → 1 ≤ needs j st
 unfolding needs isOver
-needs-some j (SetUp s) g o = omega (arith, setup-some s)
+needs-some j (SetUp s) g o = omega (arith, setup-some j s)
 needs-some j (InBlock k w) g o = omega (arith, work-some j w (place-is j k w g .in-block))
 needs-some j (Over e) g o = absurd (true≢false o)
 
@@ -102,7 +102,7 @@ the-rest j k = go (ltb k (blocksOf j)) refl
         record { good = and-both (block-yes j k h) refl; few = omega arith }
     go false e = record { good = refl; few = omega arith }
 
-setup-kept : (j : Job) (used : ℕ) (s : Setup) → used ≤ j .retries → Kept j used (SetUp s) (leads (afterSetup j s setup) 0)
+setup-kept : (j : Job) (used : ℕ) (s : Setup) → used ≤ j .retries → Kept j used (SetUp s) (leads (afterSetup j s (setup j)) 0)
 unfolding afterSetup setupFrom setup leftIn if_then_else_ needs goodStage
 setup-kept j used BaudRate u = free j used (SetUp BaudRate) (SetUp ResetChip) u refl (omega arith)
 setup-kept j used ResetChip u = free j used (SetUp ResetChip) (SetUp SiliconSignature) u refl (omega arith)
@@ -240,10 +240,10 @@ heard-kept j used st (answered bs) u g o = go (readAnswer (j .part) (j .supply) 
 heard-kept j used st silence u g o = fails-kept j used st TimedOut 0x00 u g o
 
 -- At the start what is needed, and a block's frames for each retry allowed, are the bound.
-pub start-needs : (j : Job) → needs j (setupFrom j setup) + perBlock j * j .retries ≡ bound j
+pub start-needs : (j : Job) → needs j (firstStage j) + perBlock j * j .retries ≡ bound j
 unfolding needs setupFrom setup leftIn if_then_else_ bound
 start-needs j = omega arith
 
-pub start-good : (j : Job) → goodStage j (setupFrom j setup) ≡ true
+pub start-good : (j : Job) → goodStage j (firstStage j) ≡ true
 unfolding goodStage setupFrom setup
 start-good j = refl

@@ -16,10 +16,10 @@ use Rattle.dock.specs.Calls.{Asking, askOf, asked, asking, freshDock, hearOf, p
 use Rattle.dock.specs.declared.Report.the-variants.{Put}
 use Rattle.dock.specs.declared.Report.the-variants as Report
 use Rattle.dock.specs.declared.Stepped.{Stepped}
-use Rattle.dock_flow.specs.Flow.{Exchange, Flow, Heard, afterHeard, exchanges, flow, frameAt, framesIn, placeAfter, setupFrom, spentIn}
+use Rattle.dock_flow.specs.Flow.{Exchange, Flow, Heard, afterHeard, exchanges, flow, frameAt, framesIn, placeAfter, firstStage, spentIn}
 use Rattle.frame.proofs.Laws.Sum.{none}
 use Rattle.dock_job.proofs.Laws.{Accepts, GoodDock, accepts, ask-accepted, asked-is, tell-accepted, told-is}
-use Rattle.dock_job.specs.Job.{bound, isOver, perBlock, setup}
+use Rattle.dock_job.specs.Job.{bound, isOver, perBlock}
 use Rattle.dock_job.specs.Refusals.{callVerdict, goodStage}
 use Rattle.dock_job.specs.declared.Dock.{Dock}
 use Rattle.dock_job.specs.declared.Job.{Job}
@@ -185,8 +185,8 @@ unfolding startOf starting freshDock flow
 dock-is-flow j image room hs v r =
     let b = accepts j (length image) Begins v in
     let z : j .retries - 0 ≡ j .retries = omega arith in
-    let n : 0 + needs j (setupFrom j setup) + perBlock j * (j .retries - 0) ≤ bound j = rw z (omega (arith, start-needs j)) in
-    let s = steps j image hs room (setupFrom j setup) 0 0 b r (start-good j) (omega arith) n in
+    let n : 0 + needs j (firstStage j) + perBlock j * (j .retries - 0) ≤ bound j = rw z (omega (arith, start-needs j)) in
+    let s = steps j image hs room (firstStage j) 0 0 b r (start-good j) (omega arith) n in
     rw v
     (record {
       same-frames = ap (λ (c : Course). c .sent) s;

@@ -8,10 +8,9 @@ use Rattle.dock.specs.declared.Report.{Report}
 use Rattle.dock.specs.declared.Report.the-variants.{Due, Ended, Put}
 use Rattle.dock.specs.declared.Report.the-variants as Report
 use Rattle.dock.specs.declared.Stepped.{Stepped}
-use Rattle.dock_flow.specs.Flow.{Heard, afterHeard, frameAt, setupFrom}
+use Rattle.dock_flow.specs.Flow.{Heard, afterHeard, firstStage, frameAt}
 use Rattle.dock_flow.specs.declared.Turned.{Turned}
 use Rattle.frame.specs.Framing.{frames}
-use Rattle.dock_job.specs.Job.{setup}
 use Rattle.dock_job.specs.Refusals.{callVerdict}
 use Rattle.dock_job.specs.declared.Dock.{Dock}
 use Rattle.dock_job.specs.declared.Job.{Job}
@@ -33,7 +32,7 @@ stepped r d = record { report = r; dock = d }
 
 -- A dock before its first frame.
 unfoldable pub freshDock : Job → Dock
-freshDock j = record { stage = setupFrom j setup; awaited = false; retries = 0; frames = 0 }
+freshDock j = record { stage = firstStage j; awaited = false; retries = 0; frames = 0 }
 
 unfoldable pub starting : Verdict → Dock → Stepped
 starting (Verdict.Refused r) d = stepped (Report.Refused r) d

@@ -11,7 +11,6 @@ use super::frames;
 use dock_flow::Turned;
 use dock_job::Dock;
 use dock_job::Job;
-use dock_job::Setup;
 use dock_job::Stage;
 use dock_job::refusals;
 use dock_job::refusals::Call;
@@ -22,8 +21,9 @@ pub fn start(job: Job, image: &[u8]) -> Stepped
     ensures { λ r. ⌜ r ≡ startOf job (now (image .entry)) ⌝ }
 {
     let v = refusals::verdict(job, image.len(), Call::Begins);
+    let stage = dock_flow::first_stage(job);
     let dock = Dock {
-        stage: Stage::SetUp(Setup::BaudRate),
+        stage,
         awaited: false,
         retries: 0,
         frames: 0,

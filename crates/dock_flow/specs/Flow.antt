@@ -116,6 +116,10 @@ unfoldable pub setupFrom : Job → List Setup → Stage
 setupFrom j [] = blockFrom j 0
 setupFrom j (s ∷ ss) = SetUp s
 
+-- The stage at which a job begins.
+abbrev pub firstStage : Job → Stage
+firstStage j = setupFrom j (setup j)
+
 unfoldable pub afterSetup : Job → Setup → List Setup → Stage
 afterSetup j s [] = blockFrom j 0
 afterSetup j s (x ∷ xs) = if eqb (setupCommand s) (setupCommand x) then setupFrom j xs else afterSetup j s xs
@@ -131,7 +135,7 @@ afterWork j k (VerifyPage p) = if lastPage j p then blockFrom j (k + 1) else InB
 
 -- What follows where the answer was as expected.
 unfoldable pub next : Job → Stage → Stage
-next j (SetUp s) = afterSetup j s setup
+next j (SetUp s) = afterSetup j s (setup j)
 next j (InBlock k w) = afterWork j k w
 next j (Over e) = Over e
 
@@ -251,5 +255,5 @@ pub record Flow : Type 0 where
 
 unfoldable pub flow : Job → List ℕ → List Heard → Flow
 flow j image hs =
-    let xs = exchanges j image 0 (setupFrom j setup) hs in
-    record { sent = framesIn xs; spent = spentIn xs; place = placeAfter j 0 (setupFrom j setup) hs }
+    let xs = exchanges j image 0 (firstStage j) hs in
+    record { sent = framesIn xs; spent = spentIn xs; place = placeAfter j 0 (firstStage j) hs }

@@ -1,7 +1,7 @@
 // The dock's flow, document 01: what answer a stage expects, and what follows it. On numbers and enums alone; nothing is lent.
 ghost use mathlib.Core.Path.{_≡_};
 ghost use Rattle.dock_job.specs.Job.{setup};
-ghost use Rattle.dock_flow.specs.Flow.{setupCommand, workCommand, commandAt, lastPage, setupForm, workForm, formAt, blockFrom, afterSetup, afterWork, next, isBlankCheck, saysNotBlank, erasing, restart, pageOfWork, pageAt, blockAt, fails, retried, afterStatus, afterAnswer, afterTimeout};
+ghost use Rattle.dock_flow.specs.Flow.{setupCommand, workCommand, commandAt, lastPage, setupForm, workForm, formAt, blockFrom, firstStage, afterSetup, afterWork, next, isBlankCheck, saysNotBlank, erasing, restart, pageOfWork, pageAt, blockAt, fails, retried, afterStatus, afterAnswer, afterTimeout};
 use dock_answer::Decoded;
 use dock_answer::Form;
 use dock_job::Cause;
@@ -109,8 +109,14 @@ fn block_from(job: Job, block: usize) -> Stage
     Stage::Over(Ending::Finished)
 }
 
+pub fn first_stage(job: Job) -> Stage
+    ensures { λ r. ⌜ r ≡ firstStage job ⌝ }
+{
+    Stage::SetUp(Setup::BaudRate)
+}
+
 fn after_setup(job: Job, s: Setup) -> Stage
-    ensures { λ r. ⌜ r ≡ afterSetup job s setup ⌝ }
+    ensures { λ r. ⌜ r ≡ afterSetup job s (setup job) ⌝ }
 {
     match s {
         Setup::BaudRate => Stage::SetUp(Setup::ResetChip),

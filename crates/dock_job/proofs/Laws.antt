@@ -1,6 +1,7 @@
 -- Laws about a job: its numbers do not wrap, and what an accepted call says of job, state and room.
 -- Assumes nothing.
 use mathlib.Core.Bool.{Bool, false, not, true, true≢false}
+use mathlib.Core.List.{[], _∷_}
 use mathlib.Core.Path.{_≡_, ap, refl}
 use Prim.Native.Nat.{_*_, _+_, _<_, _^_, _≤_, ℕ}
 use native.Mathlib.Nat.{mul-le-mul-left, mul-le-mul-right, suc-mul}
@@ -12,6 +13,7 @@ use Rattle.dock_job.specs.Job.{areaOf, blocksIn, blocksOf, bound, isOver
 use Rattle.dock_job.specs.Refusals.{badJob, badState, callVerdict, due, goodBlock, goodDock, goodPage, goodStage, goodWork, isBad, outOfTurn, shortRoom, spent}
 use Rattle.dock_job.specs.declared.Dock.{Dock}
 use Rattle.dock_job.specs.declared.Job.{Job}
+use Rattle.dock_job.specs.declared.Setup.the-variants.{BaudRate, ResetChip, SiliconSignature}
 use Rattle.dock_job.specs.declared.Stage.the-variants.{InBlock}
 use Rattle.dock_job.specs.declared.Work.{Work}
 use Rattle.dock_job.specs.declared.Work.the-variants.{ProgramPage, VerifyPage}
@@ -44,6 +46,10 @@ length-small j h k =
 
 pub frames-small : (p n : ℕ) → p ≤ 256 → n ≤ 2 ^ 33 → (4 + 2 * p) * n ≤ 2 ^ 43
 frames-small p n h k = let l : (4 + 2 * p) * n ≤ 516 * n = mul-le-mul-right n (omega arith) in omega arith
+
+pub setup-is : (j : Job) → setup j ≡ BaudRate ∷ ResetChip ∷ SiliconSignature ∷ []
+unfolding setup
+setup-is j = refl
 
 -- "3 + 12(B + R)", with the pages of the part.
 pub bound-is : (j : Job) → 3 + (4 + 2 * pagesOf j) * (blocksOf j + j .retries) ≡ bound j

@@ -43,9 +43,9 @@ pagesOf j = pages (j .part) (areaOf j)
 abbrev pub lengthOf : Job → ℕ
 lengthOf j = blocksOf j * sizeOf j
 
--- "Frames: 9Ah .., 00h, C0h ..": the setup's commands, in order.
-unfoldable pub setup : List Setup
-setup = BaudRate ∷ ResetChip ∷ SiliconSignature ∷ []
+-- "Frames: 9Ah .., 00h, C0h ..": the setup's commands of a job, in order.
+unfoldable pub setup : Job → List Setup
+setup j = BaudRate ∷ ResetChip ∷ SiliconSignature ∷ []
 
 -- "per block ..: 32h with 00h; 22h if that said 1Bh; 40h and four pages; 13h and four pages": at most so many frames.
 abbrev pub perBlock : Job → ℕ
@@ -53,7 +53,7 @@ perBlock j = 1 + 1 + (1 + pagesOf j) + (1 + pagesOf j)
 
 -- "for B blocks and R retries allowed, at most 3 + 12(B + R) frames"
 unfoldable pub bound : Job → ℕ
-bound j = length setup + perBlock j * (blocksOf j + j .retries)
+bound j = length (setup j) + perBlock j * (blocksOf j + j .retries)
 
 unfoldable pub isOver : Stage → Bool
 isOver (SetUp s) = false
