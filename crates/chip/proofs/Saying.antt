@@ -21,6 +21,7 @@ use Rattle.frame.proofs.Laws.Wire.{framed-long}
 use Rattle.frame.specs.declared.Footer.the-variants.{Last}
 use Rattle.frame.specs.declared.Header.the-variants.{Data}
 use Rattle.chip_options.specs.declared.Options.{Options}
+use Rattle.part.specs.Part.{Arrays}
 use Rattle.part.specs.declared.Part.{Part}
 use Rattle.part.specs.declared.refusal.Refusal.{Refusal}
 use Rattle.part.specs.declared.refusal.Verdict.{Verdict}
@@ -31,12 +32,6 @@ use Rattle.chip_reply.specs.Reply.{framesOf, payloads, sendOf}
 use Rattle.chip_reply.specs.declared.Reply.{Reply}
 use Rattle.chip_reply.specs.declared.Reply.the-variants.{LastStored, Pair, Rate, Security, Signature, Silence, Status, Sum}
 use Rattle.words.specs.Words.{if_then_else_}
-
--- "The description also holds device code (3 bytes), name (10), firmware version (3)." The types of the code's arrays give these lengths.
-pub record Arrays (p : Part) : Type 0 where
-  pub deviceLong : length (p .device) ≡ 3
-  pub nameLong : length (p .name) ≡ 10
-  pub versionLong : length (p .version) ≡ 3
 
 pub record Fitting (a : Answer) (room : ℕ) : Type 0 where
   pub long : (n k : ℕ) → a ≡ Replied n k → n ≤ 31

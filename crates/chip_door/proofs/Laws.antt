@@ -16,8 +16,8 @@ use Rattle.chip_door.specs.Calls.{acceptance, accepting, admission}
 use Rattle.chip_door.specs.Layout.{awaitedOf, chipIn, collectorIn, coreIn, headOf, isState, layoutOf, phaseNumber, stateSize}
 use Rattle.chip_core.specs.declared.Awaited.{Awaited}
 use Rattle.chip_core.specs.declared.Core.{Core}
-use Rattle.numbers.proofs.Laws.{little-long}
-use Rattle.numbers.specs.Numbers.{little, numberAt}
+use Rattle.numbers.proofs.Laws.{low-long}
+use Rattle.numbers.specs.Numbers.{lowFirst, numberAt}
 use Rattle.lent.proofs.Laws.{Written, written-full, written-put, written-start}
 use Rattle.lent.specs.Lent.{left, putOf}
 use Rattle.lent.specs.declared.Room.{Room}
@@ -40,14 +40,14 @@ head-long o rate phase cmd = refl
 -- The pieces of a state, put one after the other, are the state.
 pub layout-is : (c : Chip) (w : Awaited) (q : ℕ) (first next last count r k l m n o : List ℕ) (a b d e f : Room) → left a k ≡ putOf r 0 first → left b l ≡ putOf k 9 next
     → left d m ≡ putOf l 17 last → left e n ≡ putOf m 25 count → left f o ≡ putOf n 33 (c .collector .bytes) → w ≡ awaitedOf (c .core .phase)
-    → q ≡ phaseNumber (c .core .phase) → first ≡ headOf (c .core .options) (c .core .rate) q (w .command) → next ≡ little 8 (w .next) → last ≡ little 8 (w .last)
-    → count ≡ little 8 (c .collector .len) → length r ≡ stateSize → length (c .collector .bytes) ≡ 260 → o ≡ layoutOf c
+    → q ≡ phaseNumber (c .core .phase) → first ≡ headOf (c .core .options) (c .core .rate) q (w .command) → next ≡ lowFirst 8 (w .next) → last ≡ lowFirst 8 (w .last)
+    → count ≡ lowFirst 8 (c .collector .len) → length r ≡ stateSize → length (c .collector .bytes) ≡ 260 → o ≡ layoutOf c
 unfolding layoutOf
 layout-is c w q first next last count r k l m n o a b d e f s t u v z A B g h i j x y =
     let G : length first ≡ 9 = ap length g ∙ head-long _ _ _ _ in
-    let H : length next ≡ 8 = ap length h ∙ little-long 8 _ in
-    let I : length last ≡ 8 = ap length i ∙ little-long 8 _ in
-    let J : length count ≡ 8 = ap length j ∙ little-long 8 _ in
+    let H : length next ≡ 8 = ap length h ∙ low-long 8 _ in
+    let I : length last ≡ 8 = ap length i ∙ low-long 8 _ in
+    let J : length count ≡ 8 = ap length j ∙ low-long 8 _ in
     let K : Written first r k = written-put 0 first (written-start r) s refl (omega arith) in
     let L : Written (first ++ next) r l = written-put 9 next K t (omega arith) (omega arith) in
     let M : Written (first ++ next ++ last) r m = written-put 17 last L u (simp length-append (omega arith)) (omega arith) in

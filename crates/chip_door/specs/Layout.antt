@@ -10,7 +10,7 @@ use Rattle.chip_core.specs.declared.Core.{Core}
 use Rattle.chip_core.specs.declared.Phase.{Phase}
 use Rattle.chip_core.specs.declared.Phase.the-variants.{Awaiting, ModeByte, Ready, Setup}
 use Rattle.frame.specs.declared.collector.Collector.{Collector}
-use Rattle.numbers.specs.Numbers.{little, numberAt}
+use Rattle.numbers.specs.Numbers.{lowFirst, numberAt}
 use Rattle.lent.specs.Lent.{allAre}
 use Rattle.chip_options.specs.declared.Options.{Options}
 use Rattle.words.specs.Words.{_and_, _from_to_, _or_, if_then_else_}
@@ -37,7 +37,7 @@ unfoldable pub layoutOf : Chip → List ℕ
 layoutOf c =
     let w = awaitedOf (c .core .phase) in
     headOf (c .core .options) (c .core .rate) (phaseNumber (c .core .phase)) (w .command)
-    ++ little 8 (w .next) ++ little 8 (w .last) ++ little 8 (c .collector .len) ++ c .collector .bytes
+    ++ lowFirst 8 (w .next) ++ lowFirst 8 (w .last) ++ lowFirst 8 (c .collector .len) ++ c .collector .bytes
 
 abbrev pub stateSize : ℕ
 stateSize = 293

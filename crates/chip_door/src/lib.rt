@@ -203,9 +203,9 @@ fn lay(chip: Chip, state: &mut [u8])
     let awaited = awaited_of(phase);
     let options = core.options;
     let first = head(options, core.rate, phase_number(phase), awaited.command);
-    let next = numbers::little8(awaited.next);
-    let last = numbers::little8(awaited.last);
-    let count = numbers::little8(collector.len);
+    let next = numbers::low8(awaited.next);
+    let last = numbers::low8(awaited.last);
+    let count = numbers::low8(collector.len);
     let bytes = collector.bytes;
     lent::put(state, 0, &first);
     lent::put(state, 9, &next);

@@ -1,7 +1,6 @@
 -- Laws of the chip's refusals, over plain variables: what an accepted call gives, and that one byte more, where the frame begun still lacks some, is accepted too.
 -- Assumes nothing.
 use mathlib.Core.Bool.{Bool, false, not, true}
-use mathlib.Core.List.{List, _∷_}
 use mathlib.Core.Path.{_∙_, _≡_, ap, sym}
 use Prim.Native.Nat.{_%_, _+_, _-_, _<_, _≤_, suc, ℕ}
 use native.Mathlib.Decide.{decLt}
@@ -21,13 +20,11 @@ use Rattle.frame.specs.declared.Header.{Header}
 use Rattle.frame.specs.declared.Header.the-variants.{Command, Data}
 use Rattle.part.proofs.Laws.{none-held, passed, passes}
 use Rattle.part.specs.Part.{described, size}
-use Rattle.part.specs.Refusal.{Condition, _when_, firstOf}
 use Rattle.part.specs.declared.Area.the-variants.{CodeFlash, DataFlash}
 use Rattle.part.specs.declared.Part.{Part}
-use Rattle.part.specs.declared.refusal.Refusal.{Refusal}
-use Rattle.part.specs.declared.refusal.Verdict.the-variants.{Accepted, Refused}
+use Rattle.part.specs.declared.refusal.Verdict.the-variants.{Accepted}
 use Rattle.words.proofs.Laws.{and-both, and-left, and-right, or-right}
-use Rattle.words.specs.Words.{_and_, _or_, if_then_else_}
+use Rattle.words.specs.Words.{_and_, _or_}
 
 -- The last byte of a block, without a sum that could wrap.
 pub block-end-is : (y s : ℕ) → 0 < s → eqb (y % s) (s - 1) ≡ eqb ((y + 1) % s) 0
@@ -45,15 +42,6 @@ block-end-is y s h = go (decLt (y % s) (s - 1))
         let e : suc (y % s) ≡ s = omega arith in
         let z : suc (y % s) % s ≡ 0 = rw e (mod-self s) in
         eq-eqb (y % s) (s - 1) (omega arith) ∙ sym (eq-eqb ((y + 1) % s) 0 (omega (arith, m)))
-
--- The first refusal whose condition holds decides.
-pub first-here : (r : Refusal) (t : Bool) (xs : List Condition) → t ≡ true → firstOf (r when t ∷ xs) ≡ Refused r
-unfolding firstOf if_then_else_
-first-here r t xs e = rw e
-
-pub first-on : (r : Refusal) (t : Bool) (xs : List Condition) → t ≡ false → firstOf (r when t ∷ xs) ≡ firstOf xs
-unfolding firstOf if_then_else_
-first-on r t xs e = rw e
 
 -- What makes a call accepted, and what acceptance gives.
 pub record Accepts (p : Part) (k : Core) (h : Handed) : Type 0 where

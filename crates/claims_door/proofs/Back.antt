@@ -16,7 +16,8 @@ use Rattle.chip_core.specs.declared.Awaited.{Awaited}
 use Rattle.chip_core.specs.declared.Phase.{Phase}
 use Rattle.chip_core.specs.declared.Phase.the-variants.{Awaiting, ModeByte, Ready, Setup}
 use Rattle.frame.proofs.Laws.Sum.{Below, below-at}
-use Rattle.numbers.specs.Numbers.{little, numberAt}
+use Rattle.numbers.proofs.Laws.{low-number}
+use Rattle.numbers.specs.Numbers.{lowFirst, numberAt}
 use Rattle.lent.specs.Lent.{allAre}
 use Rattle.chip_options.specs.declared.Options.{Options}
 use Rattle.words.proofs.Laws.{and-left, and-right, or-right}
@@ -57,7 +58,7 @@ same-waits {n} {m} {l} {k} cmd e f = ap (λ (x : ℕ). waits cmd x l) e ∙ ap (
 back : (flags boot start end rate : ℕ) (f : Phase) (bytes : List ℕ) (len : ℕ) → start < 256 ^ 2 → end < 256 ^ 2 → awaitedOf f .next < 256 ^ 8
     → awaitedOf f .last < 256 ^ 8 → len < 256 ^ 8 → length bytes ≡ 260
     → chipIn (layoutOf (made flags boot start end rate f bytes len)) ≡ made flags boot start end rate f bytes len
-unfolding chipIn layoutOf headOf little numberAt optionsHeld awaitedIn collectorIn phaseIn if_then_else_ together
+unfolding chipIn layoutOf headOf lowFirst numberAt optionsHeld awaitedIn collectorIn phaseIn if_then_else_ together
 back flags boot start end rate ModeByte bytes len s e n l c p =
     same flags boot rate (together-is 2 start s) (together-is 2 end e) (refl {a = ModeByte}) (take-all 260 bytes (omega arith)) (together-is 8 len c)
 back flags boot start end rate Setup bytes len s e n l c p =
@@ -75,7 +76,7 @@ read-back c h =
 -- What is written is a state.
 state : (o : Options) (rate : ℕ) (f : Phase) (bytes : List ℕ) (len : ℕ) → length bytes ≡ 260
     → isState (layoutOf (record { core = record { options = o; rate = rate; phase = f }; collector = record { bytes = bytes; len = len } })) ≡ true
-unfolding isState layoutOf headOf little allAre _and_ _or_ _from_to_
+unfolding isState layoutOf headOf lowFirst allAre _and_ _or_ _from_to_
 state o rate ModeByte bytes len p = rw p
 state o rate Setup bytes len p = rw p
 state o rate Ready bytes len p = rw p
@@ -83,17 +84,6 @@ state o rate (Awaiting w) bytes len p = rw p
 
 pub written-state : (c : Chip) → length (c .collector .bytes) ≡ 260 → isState (layoutOf c) ≡ true
 written-state c p = state (c .core .options) (c .core .rate) (c .core .phase) (c .collector .bytes) (c .collector .len) p
-
--- The other way round: what k bytes from a place on are as a number is written as those bytes.
-number-back : (k at : ℕ) (bs : List ℕ) → Below 256 bs → at + k ≤ length bs → little k (numberAt k at bs) ≡ take k (drop at bs)
-unfolding little numberAt
-number-back zero at bs b h = refl
-number-back (suc k) at bs b h =
-    let x : getD bs at 0 < 256 = below-at at (omega arith) b in
-    let n : ℕ = numberAt k (at + 1) bs in
-    let low : (getD bs at 0 + 256 * n) % 256 ≡ getD bs at 0 = omega arith in
-    let high : (getD bs at 0 + 256 * n) / 256 ≡ n = omega arith in
-    rw (low, high, number-back k (at + 1) bs b (omega arith), drop-cons bs at 0 (omega arith), add-one)
 
 -- Bytes from a place on, one by one.
 unfoldable bytesAt : ℕ → ℕ → List ℕ → List ℕ
@@ -195,6 +185,7 @@ written-back bs b e =
     or-right {t} {u} f e = sym (ap (λ (x : Bool). x or u) f) ∙ e
 
     pieces : (bs : List ℕ) (w : Awaited) (q : ℕ) → Below 256 bs → length bs ≡ 293 → w ≡ awaitedIn bs → q ≡ getD bs 7 0
-        → headOf (optionsHeld bs) (getD bs 6 0) q (w .command) ++ little 8 (w .next) ++ little 8 (w .last) ++ little 8 (numberAt 8 25 bs) ++ take 260 (drop 33 bs) ≡ bs
+        → headOf (optionsHeld bs) (getD bs 6 0) q (w .command) ++ lowFirst 8 (w .next) ++ lowFirst 8 (w .last) ++ lowFirst 8 (numberAt 8 25 bs) ++ take 260 (drop 33 bs) ≡ bs
     pieces bs w q b h e f =
-        rw (head-back bs q (w .command) b (omega arith) f (ap (λ (x : Awaited). x .command) e), ap (λ (x : Awaited). little 8 (x .next)) e, ap (λ (x : Awaited). little 8 (x .last)) e, number-back 8 9 bs b (omega arith), number-back 8 17 bs b (omega arith), number-back 8 25 bs b (omega arith)) (joined bs h)
+        let each : (i : ℕ) → getD bs i 0 < 256 = λ i. below-at i (omega arith) b in
+        rw (head-back bs q (w .command) b (omega arith) f (ap (λ (x : Awaited). x .command) e), ap (λ (x : Awaited). lowFirst 8 (x .next)) e, ap (λ (x : Awaited). lowFirst 8 (x .last)) e, low-number 8 9 bs each (omega arith), low-number 8 17 bs each (omega arith), low-number 8 25 bs each (omega arith)) (joined bs h)

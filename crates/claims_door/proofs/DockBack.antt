@@ -21,7 +21,7 @@ use Rattle.dock_job.specs.declared.Setup.the-variants.{BaudRate, ResetChip, Sil
 use Rattle.dock_job.specs.declared.Stage.{Stage}
 use Rattle.dock_job.specs.declared.Stage.the-variants.{InBlock, Over, SetUp}
 use Rattle.dock_job.specs.declared.Work.the-variants.{Blank, Erase, Program, ProgramPage, VerifyBlock, VerifyPage}
-use Rattle.numbers.specs.Numbers.{little, numberAt}
+use Rattle.numbers.specs.Numbers.{lowFirst, numberAt}
 use Rattle.lent.proofs.Laws.{same-is, same-self}
 use Rattle.words.proofs.Laws.{and-both, and-right}
 use Rattle.words.specs.Words.{if_then_else_}
@@ -32,7 +32,7 @@ named-back (It n) h = ap It (together-is 4 n h)
 named-back Unnamed h = refl
 
 flat-back : (f : Flat) (awaited retries frames : ℕ) → named (f .block) < 256 ^ 4 → named (f .page) < 256 ^ 4 → flatIn (layoutWith f awaited retries frames) ≡ f
-unfolding flatIn layoutWith little numberAt together
+unfolding flatIn layoutWith lowFirst numberAt together
 flat-back f awaited retries frames h i =
     ap (λ (b : Named). flat (f .stage) b (namedIn (isNamed (f .page)) (together 4 (named (f .page)))) (f .cause) (f .command) (f .status)) (named-back (f .block) h)
     ∙ ap (λ (p : Named). flat (f .stage) (f .block) p (f .cause) (f .command) (f .status)) (named-back (f .page) i)
@@ -70,7 +70,7 @@ held s awaited retries frames = record { stage = s; awaited = awaited; retries =
 
 back : (f : Flat) (awaited : Bool) (retries frames : ℕ) → named (f .block) < 256 ^ 4 → named (f .page) < 256 ^ 4 → retries < 256 ^ 4 → frames < 256 ^ 4
     → dockIn (layoutWith f (bit awaited) retries frames) ≡ held (stageIn f) awaited retries frames
-unfolding dockIn layoutWith little numberAt together
+unfolding dockIn layoutWith lowFirst numberAt together
 back f awaited retries frames h i j k =
     ap (λ (g : Flat). held (stageIn g) (eqb (bit awaited) 1) (together 4 retries) (together 4 frames)) (flat-back f (bit awaited) retries frames h i)
     ∙ ap (λ (b : Bool). held (stageIn f) b (together 4 retries) (together 4 frames)) (bit-back awaited)
@@ -85,7 +85,7 @@ dock-read-back d h =
     ∙ ap (λ (s : Stage). held s (d .awaited) (d .retries) (d .frames)) (stage-back (d .stage))
 
 long : (f : Flat) (awaited retries frames : ℕ) → length (layoutWith f awaited retries frames) ≡ dockSize
-unfolding layoutWith little
+unfolding layoutWith lowFirst
 long f awaited retries frames = refl
 
 -- What is written is a state.

@@ -71,12 +71,11 @@ stands : (codes extras clock : ℕ) (names state : List ℕ) (m : Flash) (room :
     → verdictIn (partOf codes extras clock names) (before (chipIn state) m room) ≡ Accepted → Stands (partOf codes extras clock names) (before (chipIn state) m room)
 unfolding chipIn collectorIn
 stands codes extras clock names state m room b l e =
-    let a = part-long codes extras clock names in
     record {
       accepted = e;
       places = length-take-le 260 (drop 33 state) (rw length-drop (omega arith));
       bytes = below-take 256 260 (below-drop 256 33 b);
-      arrays = record { deviceLong = a .deviceLong; nameLong = a .nameLong; versionLong = a .versionLong };
+      arrays = part-long codes extras clock names;
     }
 
 fed-kept : (u : Verdict) (p : Part) (bs state : List ℕ) (m : Flash) (room : List ℕ) → Below 256 bs → (u ≡ Accepted → Stands p (before (chipIn state) m room))

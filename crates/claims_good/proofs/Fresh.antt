@@ -12,7 +12,7 @@ use Rattle.chip_state.specs.Refusals.{goodPhase, goodState}
 use Rattle.claims_good.proofs.Collected.{none-good}
 use Rattle.claims_good.proofs.Core.{GoodCore, is-core}
 use Rattle.chip_state.proofs.Laws.{accepted}
-use Rattle.chip.proofs.Saying.{Arrays}
+use Rattle.part.specs.Part.{Arrays}
 use Rattle.claims_good.specs.Good.{Stands}
 use Rattle.claims_stars.specs.Table.{thePart}
 use Rattle.chip_core.specs.Effect.{Flash, flash}
@@ -20,7 +20,6 @@ use Rattle.chip_core.specs.declared.Core.{Core}
 use Rattle.frame.proofs.Laws.Sum.{Below, more, none}
 use Rattle.frame.specs.Collector.{fresh}
 use Rattle.chip_options.proofs.Laws.{fresh-good}
-use Rattle.part.specs.Part.{blockSize, described, size}
 use Rattle.part.specs.declared.Area.the-variants.{CodeFlash, DataFlash}
 use Rattle.part.specs.declared.Part.{Part}
 use Rattle.words.proofs.Laws.{and-both}

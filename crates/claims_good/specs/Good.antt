@@ -3,7 +3,7 @@ use mathlib.Core.List.{List, [], _∷_, map}
 use mathlib.Core.Path.{_≡_}
 use Prim.Native.Nat.{_<_, _≤_, ℕ}
 use lib.ListN.{length}
-use Rattle.chip.proofs.Saying.{Arrays}
+use Rattle.part.specs.Part.{Arrays}
 use Rattle.chip.specs.Run.{Spoken, answers, bytesSaid, spokenIn}
 use Rattle.chip.specs.Step.{Outcome}
 use Rattle.chip_state.specs.Refusals.{verdictOn}

@@ -13,7 +13,7 @@ use Rattle.chip_state.specs.Refusals.{goodAwaited, goodBegun, goodCollected, go
 use Rattle.chip.specs.declared.Event.the-variants.{Byte}
 use Rattle.claims_frame.proofs.Framing.{header, nothing}
 use Rattle.claims_good.proofs.Fresh.{new-stands, the-part-is}
-use Rattle.chip.proofs.Saying.{Arrays}
+use Rattle.part.specs.Part.{Arrays, blockOf, blockSize, described, liesIn, pageOf, placeIn, placeOf}
 use Rattle.claims_good.specs.Good.{AllProper, Stands, aByte, aGap, andEvent, noEvent}
 use Rattle.claims_noise.proofs.Claims.{noise-at-command}
 use Rattle.claims_noise.proofs.OneByte.{one-byte-changed}
@@ -35,7 +35,6 @@ use Rattle.frame.specs.declared.Header.the-variants.{Command}
 use Rattle.lent.specs.Lent.{allAre, putAt, putOf, same}
 use Rattle.chip_options.proofs.Laws.{fresh-good}
 use Rattle.chip_options.specs.Options.{fixedBits, freshOptions, goodOptions, lastBlock}
-use Rattle.part.specs.Part.{blockOf, blockSize, described, liesIn, pageOf, placeIn, placeOf}
 use Rattle.part.specs.Refusal.{firstOf}
 use Rattle.chip_reply.specs.Reply.{framesOf, payloads, sendOf}
 use Rattle.words.proofs.Laws.{and-left, and-right}

@@ -13,7 +13,7 @@ use Rattle.dock_door.specs.declared.Flat.{Flat}
 use Rattle.dock_job.specs.Refusals.{callVerdict}
 use Rattle.dock_job.specs.declared.Job.{Job}
 use Rattle.dock_job.specs.declared.refusals.Call.the-variants.{Begins}
-use Rattle.numbers.specs.Numbers.{little}
+use Rattle.numbers.specs.Numbers.{lowFirst}
 use Rattle.part.specs.declared.refusal.Refusal.the-variants.{BadState}
 use Rattle.part.specs.declared.refusal.Verdict.{Verdict}
 use Rattle.part.specs.declared.refusal.Verdict.the-variants.{Accepted, Refused}
@@ -24,10 +24,10 @@ use Rattle.words.specs.Words.{if_then_else_}
 abbrev four : List ℕ → List ℕ → List ℕ
 four l rest = getD l 0 0 ∷ getD l 1 0 ∷ getD l 2 0 ∷ getD l 3 0 ∷ rest
 
-pub layout-is : (f : Flat) (awaited retries frames : ℕ) (r k b p : List ℕ) (m n x y : ℕ) → r ≡ little 4 retries → k ≡ little 4 frames → m ≡ named (f .block)
-    → b ≡ little 4 m → n ≡ named (f .page) → p ≡ little 4 n → x ≡ isNamed (f .block) → y ≡ isNamed (f .page)
+pub layout-is : (f : Flat) (awaited retries frames : ℕ) (r k b p : List ℕ) (m n x y : ℕ) → r ≡ lowFirst 4 retries → k ≡ lowFirst 4 frames → m ≡ named (f .block)
+    → b ≡ lowFirst 4 m → n ≡ named (f .page) → p ≡ lowFirst 4 n → x ≡ isNamed (f .block) → y ≡ isNamed (f .page)
     → f .stage ∷ awaited ∷ four r (four k (x ∷ four b (y ∷ four p (f .cause ∷ f .command ∷ f .status ∷ [])))) ≡ layoutWith f awaited retries frames
-unfolding layoutWith little
+unfolding layoutWith lowFirst
 layout-is f awaited retries frames r k b p m n x y g h i j l o q s = rw (g, h, j, i, o, l, q, s)
 
 -- A call that is admitted has bytes that are a state.

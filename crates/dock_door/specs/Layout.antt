@@ -18,7 +18,7 @@ use Rattle.dock_job.specs.declared.Stage.{Stage}
 use Rattle.dock_job.specs.declared.Stage.the-variants.{InBlock, Over, SetUp}
 use Rattle.dock_job.specs.declared.Work.{Work}
 use Rattle.dock_job.specs.declared.Work.the-variants.{Blank, Erase, Program, ProgramPage, VerifyBlock, VerifyPage}
-use Rattle.numbers.specs.Numbers.{little, numberAt}
+use Rattle.numbers.specs.Numbers.{lowFirst, numberAt}
 use Rattle.lent.specs.Lent.{same}
 use Rattle.words.specs.Words.{_and_, if_then_else_}
 
@@ -81,12 +81,12 @@ unfoldable pub layoutWith : Flat → ℕ → ℕ → ℕ → List ℕ
 layoutWith f awaited retries frames =
     f .stage
     ∷ awaited
-    ∷ little 4 retries
-    ++ little 4 frames
+    ∷ lowFirst 4 retries
+    ++ lowFirst 4 frames
     ++ isNamed (f .block)
-    ∷ little 4 (named (f .block))
+    ∷ lowFirst 4 (named (f .block))
     ++ isNamed (f .page)
-    ∷ little 4 (named (f .page))
+    ∷ lowFirst 4 (named (f .page))
     ++ f .cause
     ∷ f .command
     ∷ f .status

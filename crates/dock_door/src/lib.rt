@@ -146,12 +146,12 @@ fn bit(b: bool) -> u8
 fn layout_with(flat: Flat, awaited: u8, retries: u32, frames: u32) -> [u8; 23]
     ensures { λ r. ⌜ r ≡ layoutWith flat awaited retries frames ⌝ }
 {
-    let r = numbers::little4(retries);
-    let f = numbers::little4(frames);
+    let r = numbers::low4(retries);
+    let f = numbers::low4(frames);
     let block = flat.block;
-    let b = numbers::little4(named(block));
+    let b = numbers::low4(named(block));
     let page = flat.page;
-    let p = numbers::little4(named(page));
+    let p = numbers::low4(named(page));
     [
         flat.stage,
         awaited,

@@ -4,9 +4,9 @@ use Prim.Native.Nat.{_%_, _*_, _+_, _/_, suc, zero, ℕ}
 use lib.ListN.{getD}
 
 -- A number in k bytes, and the number that k bytes from a place on are; bytes that are not there count as 0.
-unfoldable pub little : ℕ → ℕ → List ℕ
-little zero n = []
-little (suc k) n = n % 256 ∷ little k (n / 256)
+unfoldable pub lowFirst : ℕ → ℕ → List ℕ
+lowFirst zero n = []
+lowFirst (suc k) n = n % 256 ∷ lowFirst k (n / 256)
 
 unfoldable pub numberAt : ℕ → ℕ → List ℕ → ℕ
 numberAt zero at bs = 0

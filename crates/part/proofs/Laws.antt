@@ -12,7 +12,7 @@ use borrow.Author.Tests.{eq-eqb, eqb-true, le-leb, le-ltb, leb-true, lt-ltb, ltb
 use Rattle.part.proofs.Blocks.{Whole, below, below-page, whole, whole-inside, whole-read}
 use Rattle.part.specs.Part.{blockOf, blockSize, blocks, described, endsBlock, first, liesIn, pageOf, pageSize, pages, placeIn, placeOf, rangeOf, size, startsBlock, stretch, wholeBlocks}
 use Rattle.part.specs.Rate.{acceptsRate}
-use Rattle.part.specs.Refusal.{Condition, firstOf}
+use Rattle.part.specs.Refusal.{Condition, _when_, firstOf}
 use Rattle.part.specs.declared.Area.{Area}
 use Rattle.part.specs.declared.Area.the-variants.{CodeFlash, DataFlash}
 use Rattle.part.specs.declared.Part.{Part}
@@ -281,6 +281,23 @@ pub blocks-most : (p : Part) (a : Area) → described p ≡ true → blocks p a 
 blocks-most p CodeFlash d = described-is p d .code-most
 blocks-most p DataFlash d = omega (arith, described-is p d)
 
+-- A row of refusals, condition by condition: the first that holds decides, one that does not hold leaves it to the rest, and a row of none accepts.
+pub first-row : (x : Condition) (xs : List Condition) → firstOf (x ∷ xs) ≡ (if x .holds then Refused (x .refusal) else firstOf xs)
+unfolding firstOf
+first-row x xs = refl
+
+pub first-here : (r : Refusal) (t : Bool) (xs : List Condition) → t ≡ true → firstOf (r when t ∷ xs) ≡ Refused r
+unfolding if_then_else_
+first-here r t xs h = rw (first-row, h)
+
+pub first-on : (r : Refusal) (t : Bool) (xs : List Condition) → t ≡ false → firstOf (r when t ∷ xs) ≡ firstOf xs
+unfolding if_then_else_
+first-on r t xs h = rw (first-row, h)
+
+pub none-held : firstOf [] ≡ Accepted
+unfolding firstOf
+none-held = refl
+
 -- What accepts holds in no condition of the row, and a row of which no condition holds accepts.
 pub record Passed (x : Condition) (xs : List Condition) : Type 0 where
   pub not-held : x .holds ≡ false
@@ -290,20 +307,15 @@ barred : (r : Refusal) → Refused r ≡ Accepted → ⊥
 barred r e = let z : _≡_ {A = ℕ} 0 1 = cc in omega arith
 
 pub passed : (x : Condition) (xs : List Condition) → firstOf (x ∷ xs) ≡ Accepted → Passed x xs
-unfolding firstOf if_then_else_
-passed x xs e = go (x .holds) refl e
+unfolding if_then_else_
+passed x xs e = go (x .holds) refl (sym (first-row x xs) ∙ e)
   where
     go : (t : Bool) → x .holds ≡ t → (if t then Refused (x .refusal) else firstOf xs) ≡ Accepted → Passed x xs
     go true h e = absurd (barred (x .refusal) e)
     go false h e = record { not-held = h; rest = e }
 
 pub passes : (x : Condition) (xs : List Condition) → x .holds ≡ false → firstOf xs ≡ Accepted → firstOf (x ∷ xs) ≡ Accepted
-unfolding firstOf if_then_else_
-passes x xs h e = rw h e
-
-pub none-held : firstOf [] ≡ Accepted
-unfolding firstOf
-none-held = refl
+passes x xs h e = first-on (x .refusal) (x .holds) xs h ∙ e
 
 -- An accepted rate and supply are bytes.
 pub record RateIs (rate supply : ℕ) : Type 0 where

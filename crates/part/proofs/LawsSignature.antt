@@ -8,6 +8,7 @@ use lib.ListN.{length, length-append}
 use Rattle.lent.proofs.Laws.{Written, written-full, written-put, written-start}
 use Rattle.lent.specs.Lent.{left, putOf}
 use Rattle.lent.specs.declared.Room.{Room}
+use Rattle.numbers.proofs.Laws.{low-long}
 use Rattle.part.specs.Part.{lastOf}
 use Rattle.part.specs.Signature.{lastBytes, signature}
 use Rattle.part.specs.declared.Area.the-variants.{CodeFlash, DataFlash}
@@ -16,7 +17,7 @@ use Rattle.part.specs.declared.LastAddress.the-variants.{At, Nothing}
 use Rattle.part.specs.declared.Part.{Part}
 
 last-bytes-long : (x : LastAddress) → length (lastBytes x) ≡ 3
-last-bytes-long (At n) = refl
+last-bytes-long (At n) = low-long 3 n
 last-bytes-long Nothing = refl
 
 -- The pieces of a signature, put one after the other, are the signature.

@@ -2,7 +2,9 @@
 use Prim.Native.Nat.{ℕ, _+_, _-_, _*_, _/_, _%_}
 use mathlib.Core.Bool.{Bool}
 use mathlib.Core.List.{List, [], _∷_}
+use mathlib.Core.Path.{_≡_}
 use lib.Dec.{leb, ltb, eqb}
+use lib.ListN.{length}
 use Rattle.words.specs.Words.{_and_, _from_to_, if_then_else_}
 use Rattle.part.specs.declared.Part.{Part}
 use Rattle.part.specs.declared.Area.{Area}
@@ -17,6 +19,12 @@ use Rattle.part.specs.declared.Range.the-variants.{Blocks, Bad}
 -- "Code flash: 8 to 64 blocks .. Data flash: 0 to 8 blocks .. Clock 1 to 32." Device code, name and firmware version are any bytes.
 unfoldable pub described : Part → Bool
 described p = p .«code_blocks» from 8 to 64 and p .«data_blocks» from 0 to 8 and p .clock from 1 to 32
+
+-- "The description also holds device code (3 bytes), name (10), firmware version (3)." The types of the code's arrays give these lengths.
+pub record Arrays (p : Part) : Type 0 where
+  pub deviceLong : length (p .device) ≡ 3
+  pub nameLong : length (p .name) ≡ 10
+  pub versionLong : length (p .version) ≡ 3
 
 abbrev pub blocks : Part → Area → ℕ
 blocks p CodeFlash = p .«code_blocks»

@@ -9,11 +9,7 @@ fn last_bytes(last: LastAddress) -> [u8; 3]
     ensures { λ r. ⌜ r ≡ lastBytes last ⌝ }
 {
     match last {
-        LastAddress::At(n) => [
-            (n % 256) as u8,
-            (n / 256 % 256) as u8,
-            (n / 65536 % 256) as u8,
-        ],
+        LastAddress::At(n) => numbers::low3(n),
         LastAddress::Nothing => [0x00, 0x00, 0x00],
     }
 }

@@ -14,7 +14,8 @@ use Rattle.replay_capture.specs.Capture.{carried, recordOf, recordSize, six}
 use Rattle.replay_capture.specs.declared.Record.{Record}
 use Rattle.replay_capture.specs.declared.Record.the-variants.{BadRecord, BytesRecord, GapRecord}
 use Rattle.chip.proofs.Feeding.{feed-is, feed-next, feed-none, feed-takes, feed-within, on-refused, on-said, on-silent}
-use Rattle.chip.proofs.Saying.{Arrays, Fitting, feed-fits, step-fits}
+use Rattle.part.specs.Part.{Arrays}
+use Rattle.chip.proofs.Saying.{Fitting, feed-fits, step-fits}
 use Rattle.chip.specs.Run.{Feeding, before, fedOn, feedFrom, feedOf, onward}
 use Rattle.chip.specs.Step.{Outcome, stepOf}
 use Rattle.chip.specs.declared.Answer.{Answer}

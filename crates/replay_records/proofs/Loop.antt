@@ -11,7 +11,7 @@ use lib.Seq.{drop-drop, drop-length, length-take-le, take-all}
 use borrow.Author.Tests.{le-ltb, lt-ltb}
 use Rattle.replay_capture.proofs.Laws.{records-is, records-next, records-none}
 use Rattle.replay_capture.specs.Capture.{recordSize, recordsIn}
-use Rattle.chip.proofs.Saying.{Arrays}
+use Rattle.part.specs.Part.{Arrays}
 use Rattle.chip_state.specs.declared.Chip.{Chip}
 use Rattle.chip_core.specs.Effect.{Flash}
 use Rattle.part.specs.declared.Part.{Part}

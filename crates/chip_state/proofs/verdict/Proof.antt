@@ -5,9 +5,8 @@ use mathlib.Core.Path.{_∙_, ap, sym}
 use lib.Dec.{eqb}
 use borrow.Author.Needs.{needs}
 use borrow.Author.Tests.{eq-eqb, le-ltb, lt-ltb, ne-eqb}
-use Rattle.chip_state.proofs.Laws.{first-here, first-on}
+use Rattle.part.proofs.Laws.{first-here, first-on, none-held}
 use Rattle.chip_state.specs.Refusals.{verdictOf}
-use Rattle.part.proofs.Laws.{none-held}
 use Rattle.part.specs.Part.{described, size}
 use Rattle.chip_state.proofs.verdict.Statement.{statement}
 use Rattle.chip_state.proofs.verdict.Tie as tie

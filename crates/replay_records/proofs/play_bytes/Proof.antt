@@ -6,7 +6,7 @@ use Prim.Native.Nat.{_-_, _≤_}
 use native.Mathlib.Omega.{arith}
 use lib.ListN.{length}
 use borrow.Author.Needs.{needs}
-use Rattle.chip.proofs.Saying.{Arrays}
+use Rattle.part.specs.Part.{Arrays}
 use Rattle.chip.specs.declared.Event.the-variants.{Byte}
 use Rattle.chip_core.specs.Effect.{flash}
 use Rattle.frame.specs.Framing.{frames}

@@ -2,7 +2,7 @@
 -- Assumes nothing.
 use native.Mathlib.Omega.{arith}
 use borrow.Author.Needs.{needs}
-use Rattle.chip.proofs.Saying.{Arrays}
+use Rattle.part.specs.Part.{Arrays}
 use Rattle.replay_records.proofs.Laws.{one-lies, one-refused, one-said}
 use Rattle.replay_records.proofs.play_gap.Statement.{statement}
 use Rattle.replay_records.proofs.play_gap.Tie as tie

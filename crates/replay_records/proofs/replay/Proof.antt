@@ -5,7 +5,7 @@ use Prim.Native.Nat.{_-_, _<_, _^_}
 use native.Mathlib.Omega.{arith}
 use lib.ListN.{length}
 use borrow.Author.Needs.{needs}
-use Rattle.chip.proofs.Saying.{Arrays}
+use Rattle.part.specs.Part.{Arrays}
 use Rattle.chip_core.specs.Effect.{flash}
 use Rattle.frame.specs.Framing.{frames}
 use Rattle.replay_records.proofs.Loop.{ReplayedFrom, end-after, end-within, output-kept, replayed-bad, replayed-end, replayed-halted, replayed-start, replayed-turn, turn-lies}

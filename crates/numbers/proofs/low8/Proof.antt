@@ -1,16 +1,16 @@
--- `numbers::little8` meets its contract: the lowest byte first.
+-- `numbers::low8` meets its contract: the lowest byte first.
 -- Assumes nothing.
 use mathlib.Core.Path.{refl}
-use Rattle.numbers.specs.Numbers.{little}
+use Rattle.numbers.specs.Numbers.{lowFirst}
 use borrow.Author.Needs.{needs}
-use Rattle.numbers.proofs.little8.Statement.{statement}
-use Rattle.numbers.proofs.little8.Tie as tie
+use Rattle.numbers.proofs.low8.Statement.{statement}
+use Rattle.numbers.proofs.low8.Tie as tie
 
 returns : tie.Need-returns
-unfolding little
+unfolding lowFirst
 returns c = refl
 
-pub little8-spec : {M : Type 1} → statement M
-little8-spec =
+pub low8-spec : {M : Type 1} → statement M
+low8-spec =
     tie.close
     (tie.spec (λ c. search needs) (λ c. search needs) (λ c. search needs) (λ c. search needs) (λ c. search needs) (λ c. search needs) (λ c. search needs) (λ c. search needs) returns)

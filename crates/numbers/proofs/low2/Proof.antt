@@ -1,0 +1,14 @@
+-- `numbers::low2` meets its contract: the lowest byte first.
+-- Assumes nothing.
+use mathlib.Core.Path.{refl}
+use Rattle.numbers.specs.Numbers.{lowFirst}
+use borrow.Author.Needs.{needs}
+use Rattle.numbers.proofs.low2.Statement.{statement}
+use Rattle.numbers.proofs.low2.Tie as tie
+
+returns : tie.Need-returns
+unfolding lowFirst
+returns c = refl
+
+pub low2-spec : {M : Type 1} → statement M
+low2-spec = tie.close (tie.spec (λ c. search needs) (λ c. search needs) returns)
