@@ -3,19 +3,19 @@
 use denote.Ref.{now}
 use Rattle.claims_outcome.proofs.Outcome.{OneOutcome, one-outcome}
 use Rattle.chip_core.specs.Effect.{flash}
-use Rattle.replay_records.specs.Records.{replaying, turning}
+use Rattle.replay_records.specs.Records.{recordPlaying, replaying}
 use contract.Lifetimes.{Lfts}
 use denote.Triple.Clauses.{AtExit}
 use borrow.Fn.Kinds.{Dens, endedOf, resT}
-use Rattle.replay_records.proofs.record.Reads as «record»
-use Rattle.replay_records.proofs.record.Kinds as record-kinds
+use Rattle.replay_records.proofs.play.Reads as play
+use Rattle.replay_records.proofs.play.Kinds as play-kinds
 use Rattle.replay_records.proofs.replay.Reads as replay
 use Rattle.replay_records.proofs.replay.Kinds as replay-kinds
 use Rattle.replay_records.proofs.replay_part.Reads as replay-part
 use Rattle.replay_records.proofs.replay_part.Kinds as replay-part-kinds
 
-pub record-once : (κs : Lfts 5) (a : Dens κs record-kinds.ps) → OneOutcome {R = resT record-kinds.r κs .Denot} {X = AtExit (endedOf 5 record-kinds.ps record-kinds.r) κs} («record».Post κs a) (λ r x. turning r (flash (now (x .1 .1 .1 .0)) (now (x .1 .1 .1 .1 .0))) (now (x .1 .1 .1 .1 .1 .0)) (now (x .1 .1 .1 .1 .1 .1 .0)))
-record-once κs a = one-outcome («record».Post κs a) (λ r x. turning r (flash (now (x .1 .1 .1 .0)) (now (x .1 .1 .1 .1 .0))) (now (x .1 .1 .1 .1 .1 .0)) (now (x .1 .1 .1 .1 .1 .1 .0))) _ (λ r x p. p)
+pub play-once : (κs : Lfts 5) (a : Dens κs play-kinds.ps) → OneOutcome {R = resT play-kinds.r κs .Denot} {X = AtExit (endedOf 5 play-kinds.ps play-kinds.r) κs} (play.Post κs a) (λ r x. recordPlaying r (flash (now (x .1 .1 .1 .0)) (now (x .1 .1 .1 .1 .0))) (now (x .1 .1 .1 .1 .1 .0)) (now (x .1 .1 .1 .1 .1 .1 .0)))
+play-once κs a = one-outcome (play.Post κs a) (λ r x. recordPlaying r (flash (now (x .1 .1 .1 .0)) (now (x .1 .1 .1 .1 .0))) (now (x .1 .1 .1 .1 .1 .0)) (now (x .1 .1 .1 .1 .1 .1 .0))) _ (λ r x p. p)
 
 pub replay-once : (κs : Lfts 5) (a : Dens κs replay-kinds.ps) → OneOutcome {R = resT replay-kinds.r κs .Denot} {X = AtExit (endedOf 5 replay-kinds.ps replay-kinds.r) κs} (replay.Post κs a) (λ r x. replaying r (flash (now (x .1 .1 .1 .0)) (now (x .1 .1 .1 .1 .0))) (now (x .1 .1 .1 .1 .1 .0)) (now (x .1 .1 .1 .1 .1 .1 .0)))
 replay-once κs a = one-outcome (replay.Post κs a) (λ r x. replaying r (flash (now (x .1 .1 .1 .0)) (now (x .1 .1 .1 .1 .0))) (now (x .1 .1 .1 .1 .1 .0)) (now (x .1 .1 .1 .1 .1 .1 .0))) _ (λ r x p. p)

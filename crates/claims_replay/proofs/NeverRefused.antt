@@ -8,7 +8,7 @@ use native.Mathlib.Omega.{arith}
 use lib.ListN.{drop, length, length-append, length-drop, take}
 use lib.Seq.{length-take-le}
 use borrow.Author.Tests.{le-ltb}
-use Rattle.replay_capture.specs.Capture.{carried, recordOf, recordSize, recordsIn, recordsOf}
+use Rattle.replay_capture.specs.Capture.{carriedBytes, recordOf, recordSize, recordsIn, recordsOf}
 use Rattle.replay_capture.specs.declared.Record.{Record}
 use Rattle.replay_capture.specs.declared.Record.the-variants.{BadRecord, BytesRecord, GapRecord}
 use Rattle.chip.specs.Run.{answers, before, onward, spokenIn}
@@ -27,14 +27,14 @@ use Rattle.chip_core.specs.Effect.{Flash}
 use Rattle.frame.proofs.Laws.Sum.{Below, below-drop, below-take, more, none}
 use Rattle.part.specs.declared.Part.{Part}
 use Rattle.part.specs.declared.refusal.Refusal.{Refusal}
-use Rattle.replay_records.proofs.Laws.{goes-replied, turn-fits, turn-keeps}
-use Rattle.replay_records.specs.Records.{Playing, Replaying, Turning, afterTurn, eventsOf, kept, nextBy, outputLeast, played, replayOf, replayedFrom, saying, starting, turnBy, turnOf, turnWith, turnedBy, whileWhole}
+use Rattle.replay_records.proofs.Laws.{goes-replied, play-fits, play-keeps}
+use Rattle.replay_records.specs.Records.{Playing, Replaying, RecordPlaying, afterRecord, eventsOf, playedInto, nextBy, outputLeast, played, replayOf, replayedFrom, answering, beforePlaying, playBy, playOf, playWith, endedBy, whileWhole}
 use Rattle.replay_records.specs.declared.Ended.{Ended}
 use Rattle.replay_records.specs.declared.Ended.the-variants.{Whole}
 use Rattle.replay_records.specs.declared.Ended.the-variants as Ended
-use Rattle.replay_records.specs.declared.Turned.{Turned}
-use Rattle.replay_records.specs.declared.Turned.the-variants.{NotGood, Played}
-use Rattle.replay_records.specs.declared.Turned.the-variants as Turned
+use Rattle.replay_records.specs.declared.RecordEnded.{RecordEnded}
+use Rattle.replay_records.specs.declared.RecordEnded.the-variants.{NotGood, Played}
+use Rattle.replay_records.specs.declared.RecordEnded.the-variants as RecordEnded
 use Rattle.words.specs.Words.{if_then_else_}
 
 -- An outcome stands whatever its last answer was.
@@ -55,8 +55,8 @@ pub record Plays (p : Part) (x : Playing) : Type 0 where
   pub replied : x .left .answer ≡ Replied bytes frames
   pub stands : Stands p (x .left)
 
-saying-left : (a : Answer) (o : Outcome) (x : Playing) → saying a o x .left ≡ o
-unfolding saying
+saying-left : (a : Answer) (o : Outcome) (x : Playing) → answering a o x .left ≡ o
+unfolding answering
 saying-left (Replied n k) o x = refl
 saying-left (Answer.Refused r) o x = refl
 
@@ -66,7 +66,7 @@ plays p [] x w noEvent = w
 plays p (v ∷ vs) x w (andEvent e es) =
     let o = onward p (x .left) v in
     let a = one-answered p v (x .left) (w .stands) e in
-    let y = saying (o .answer) o x in
+    let y = answering (o .answer) o x in
     let l : y .left ≡ o = saying-left (o .answer) o x in
     let z : Plays p y =
     record {
@@ -82,34 +82,34 @@ all-bytes [] none = noEvent
 all-bytes (b ∷ bs) (more h r) = andEvent (aByte h) (all-bytes bs r)
 
 -- What a record's turn leaves, where its output suffices.
-pub record Turns (p : Part) (t : Turning) : Type 0 where
-  pub goes : (r : Refusal) → t .turned ≡ Turned.Refused r → ⊥
+pub record Turns (p : Part) (t : RecordPlaying) : Type 0 where
+  pub goes : (r : Refusal) → t .ended ≡ RecordEnded.Refused r → ⊥
   pub stands : Stands p (before (t .chip) (t .memory) (t .room))
 
-by-goes : (a : Answer) (n k : ℕ) (x : Playing) → a ≡ Replied n k → (r : Refusal) → turnedBy a x ≡ Turned.Refused r → ⊥
-unfolding turnedBy
+by-goes : (a : Answer) (n k : ℕ) (x : Playing) → a ≡ Replied n k → (r : Refusal) → endedBy a x ≡ RecordEnded.Refused r → ⊥
+unfolding endedBy
 by-goes (Replied i j) n k x e r q = let z : _≡_ {A = ℕ} 0 1 = cc in omega arith
 by-goes (Answer.Refused s) n k x e r q = let z : _≡_ {A = ℕ} 0 1 = cc in omega arith
 
-kept-turns : (p : Part) (x : Playing) (output : List ℕ) → Plays p x → Turns p (kept x output)
-unfolding kept
+kept-turns : (p : Part) (x : Playing) (output : List ℕ) → Plays p x → Turns p (playedInto x output)
+unfolding playedInto
 kept-turns p x output w = record { goes = λ r e. by-goes (x .left .answer) (w .bytes) (w .frames) x (w .replied) r e; stands = again (w .stands) }
 
 with-turns : (p : Part) (vs : List Event) (c : Chip) (m : Flash) (room output : List ℕ) → Stands p (before c m room) → AllProper vs → outputLeast ≤ length output
-    → Turns p (turnWith vs p c m room output)
-unfolding turnWith if_then_else_
+    → Turns p (playWith vs p c m room output)
+unfolding playWith if_then_else_
 with-turns p vs c m room output s e h =
     rw (le-ltb (length output) 192 h)
-    (kept-turns p (played p vs (starting c m room)) output (plays p vs (starting c m room) (record { bytes = 0; frames = 0; replied = refl; stands = s }) e))
+    (kept-turns p (played p vs (beforePlaying c m room)) output (plays p vs (beforePlaying c m room) (record { bytes = 0; frames = 0; replied = refl; stands = s }) e))
 
 pub turn-plays : (p : Part) (bs : List ℕ) (c : Chip) (m : Flash) (room output : List ℕ) → Stands p (before c m room) → Below 256 bs → outputLeast ≤ length output
-    → Turns p (turnOf p bs c m room output)
-unfolding turnOf turnBy eventsOf
+    → Turns p (playOf p bs c m room output)
+unfolding playOf playBy eventsOf
 turn-plays p bs c m room output s b h = go (recordOf recordSize bs)
   where
-    go : (r : Record) → Turns p (turnBy r p bs c m room output)
+    go : (r : Record) → Turns p (playBy r p bs c m room output)
     go GapRecord = with-turns p (Gap ∷ []) c m room output s (andEvent aGap noEvent) h
-    go (BytesRecord n) = with-turns p (map Byte (carried n bs)) c m room output s (all-bytes (carried n bs) (below-take 256 n (below-drop 256 2 b))) h
+    go (BytesRecord n) = with-turns p (map Byte (carriedBytes n bs)) c m room output s (all-bytes (carriedBytes n bs) (below-take 256 n (below-drop 256 2 b))) h
     go BadRecord = record { goes = λ r e. let z : _≡_ {A = ℕ} 0 1 = cc in omega arith; stands = s }
 
 -- A whole capture: with output for every record it is never halted.
@@ -124,17 +124,17 @@ pub record Goes (p : Part) (rs : List (List ℕ)) (x : Replaying) : Type 0 where
   pub enough : outputLeast * length rs + x .bytes ≤ length (x .output)
 
 goes-on : (p : Part) (r : List ℕ) (rs : List (List ℕ)) (x : Replaying) (n k : ℕ) → Goes p (r ∷ rs) x → Below 256 r
-    → turnOf p r (x .chip) (x .memory) (x .room) (drop (x .bytes) (x .output)) .turned ≡ Played n k
-    → Goes p rs (afterTurn Whole 1 n k (turnOf p r (x .chip) (x .memory) (x .room) (drop (x .bytes) (x .output))) x)
+    → playOf p r (x .chip) (x .memory) (x .room) (drop (x .bytes) (x .output)) .ended ≡ Played n k
+    → Goes p rs (afterRecord Whole 1 n k (playOf p r (x .chip) (x .memory) (x .room) (drop (x .bytes) (x .output))) x)
 goes-on p r rs x n k g b e =
     let l = drop (x .bytes) (x .output) in
     let w : length l ≡ length (x .output) - x .bytes = length-drop (x .bytes) (x .output) in
     let a : outputLeast ≤ length l = omega (arith, w, g .enough) in
-    let t = turnOf p r (x .chip) (x .memory) (x .room) l in
-    let f = turn-fits p r (x .chip) (x .memory) (x .room) l (g .stands .arrays) in
+    let t = playOf p r (x .chip) (x .memory) (x .room) l in
+    let f = play-fits p r (x .chip) (x .memory) (x .room) l (g .stands .arrays) in
     let o : length (take (x .bytes) (x .output) ++ t .output) ≡ length (x .output) =
     length-append (take (x .bytes) (x .output)) (t .output)
-    ∙ (rw (length-take-le (x .bytes) (x .output) (g .within), turn-keeps p r (x .chip) (x .memory) (x .room) l (g .stands .arrays)) (omega (arith, w, g .within))) in
+    ∙ (rw (length-take-le (x .bytes) (x .output) (g .within), play-keeps p r (x .chip) (x .memory) (x .room) l (g .stands .arrays)) (omega (arith, w, g .within))) in
     record {
       stands = turn-plays p r (x .chip) (x .memory) (x .room) l (g .stands) b a .stands;
       whole = refl;
@@ -145,19 +145,19 @@ goes-on p r rs x n k g b e =
 pub replayed-never-halted : (p : Part) (rs : List (List ℕ)) (x : Replaying) → AllBelow rs → Goes p rs x → (q : Refusal) → replayedFrom p rs x .ended ≡ Ended.Refused q → ⊥
 unfolding replayedFrom whileWhole nextBy
 replayed-never-halted p [] x noRecord g q h = let z : _≡_ {A = Ended} Whole (Ended.Refused q) = sym (g .whole) ∙ h in let y : _≡_ {A = ℕ} 0 1 = cc in omega arith
-replayed-never-halted p (r ∷ rs) x (andRecord b bs) g q h = go (t .turned) refl (λ y w. replayed-never-halted p rs y bs w q) h
+replayed-never-halted p (r ∷ rs) x (andRecord b bs) g q h = go (t .ended) refl (λ y w. replayed-never-halted p rs y bs w q) h
   where
-    t : Turning
-    t = turnOf p r (x .chip) (x .memory) (x .room) (drop (x .bytes) (x .output))
+    t : RecordPlaying
+    t = playOf p r (x .chip) (x .memory) (x .room) (drop (x .bytes) (x .output))
 
     room : outputLeast ≤ length (drop (x .bytes) (x .output))
     room = let w : length (drop (x .bytes) (x .output)) ≡ length (x .output) - x .bytes = length-drop (x .bytes) (x .output) in omega (arith, w, g .enough)
 
-    go : (a : Turned) → t .turned ≡ a → ((y : Replaying) → Goes p rs y → replayedFrom p rs y .ended ≡ Ended.Refused q → ⊥)
+    go : (a : RecordEnded) → t .ended ≡ a → ((y : Replaying) → Goes p rs y → replayedFrom p rs y .ended ≡ Ended.Refused q → ⊥)
         → whileWhole (nextBy a t x .ended) (replayedFrom p rs (nextBy a t x)) (nextBy a t x) .ended ≡ Ended.Refused q → ⊥
-    go (Played n k) e rest h = rest (afterTurn Whole 1 n k t x) (goes-on p r rs x n k g b e) h
+    go (Played n k) e rest h = rest (afterRecord Whole 1 n k t x) (goes-on p r rs x n k g b e) h
     go NotGood e rest h = let z : _≡_ {A = ℕ} 0 1 = cc in omega arith
-    go (Turned.Refused s) e rest h = turn-plays p r (x .chip) (x .memory) (x .room) (drop (x .bytes) (x .output)) (g .stands) b room .goes s e
+    go (RecordEnded.Refused s) e rest h = turn-plays p r (x .chip) (x .memory) (x .room) (drop (x .bytes) (x .output)) (g .stands) b room .goes s e
 
 records-below : (most : ℕ) (bs : List ℕ) → Below 256 bs → AllBelow (recordsIn recordSize most bs)
 unfolding recordsIn

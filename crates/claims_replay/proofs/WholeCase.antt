@@ -20,7 +20,7 @@ use Rattle.chip_options.specs.Options.{fixedBits, freshOptions, goodOptions, la
 use Rattle.part.specs.Part.{blockSize, described}
 use Rattle.part.specs.Rate.{acceptsRate, modeOf}
 use Rattle.part.specs.Refusal.{firstOf}
-use Rattle.replay_records.specs.Records.{eventsOf, goesOn, kept, nextBy, played, replayOf, replayedFrom, saying, turnBy, turnOf, turnWith, turnedBy, whileWhole}
+use Rattle.replay_records.specs.Records.{eventsOf, goesOn, playedInto, nextBy, played, replayOf, replayedFrom, answering, playBy, playOf, playWith, endedBy, whileWhole}
 use Rattle.chip_reply.specs.Reply.{framesOf, payloads, sendOf}
 use Rattle.words.specs.Words.{_and_, _from_to_, _or_, if_then_else_}
 
@@ -41,7 +41,11 @@ wholePrinted =
     ++ 0x45 ∷ 0x4E ∷ 0x44 ∷ 0x20 ∷ 0x33 ∷ 0x0A ∷ []
 
 pub whole-case : printed wholeCase ≡ wholePrinted
-unfolding printed linesIn digitsIn lastLine replayOf replayedFrom recordsOf recordsIn nextBy whileWhole turnOf turnBy turnWith recordOf gapRecord bytesRecord unused allAre eventsOf played saying goesOn kept turnedBy stepOf settled verdictOf firstOf described blockSize _from_to_ _and_ _or_ if_then_else_ goodState goodCollected goodBegun goodCore goodOptions fixedBits goodPhase lastBlock freshOptions freshChip fresh heard holding hear complete full counted isFrame reactTo byteIn modeByte heardByte frameDoes commandDoes judgeOf summed sumOf lessAll less askedIn commandsIn setupCommands readyCommands fitted work rateSet acceptsRate modeOf number3 sendOf framesOf framed payloads security lineOf digitOf separator
+unfolding printed linesIn digitsIn lastLine replayOf replayedFrom recordsOf recordsIn nextBy whileWhole playOf playBy playWith recordOf gapRecord bytesRecord unused
+    allAre eventsOf played answering goesOn playedInto endedBy stepOf settled verdictOf firstOf described blockSize _from_to_ _and_ _or_ if_then_else_ goodState
+    goodCollected goodBegun goodCore goodOptions fixedBits goodPhase lastBlock freshOptions freshChip fresh heard holding hear complete full counted isFrame reactTo
+    byteIn modeByte heardByte frameDoes commandDoes judgeOf summed sumOf lessAll less askedIn commandsIn setupCommands readyCommands fitted work rateSet acceptsRate
+    modeOf number3 sendOf framesOf framed payloads security lineOf digitOf separator
 whole-case = refl
 
 -- An empty capture prints "END 0", a short record "BAD" and its number.
@@ -50,5 +54,5 @@ unfolding printed linesIn digitsIn lastLine replayOf replayedFrom recordsOf reco
 empty-case = refl
 
 pub short-case : printed (0x00 ∷ []) ≡ 0x42 ∷ 0x41 ∷ 0x44 ∷ 0x20 ∷ 0x30 ∷ 0x0A ∷ []
-unfolding printed linesIn digitsIn lastLine replayOf replayedFrom recordsOf recordsIn nextBy whileWhole turnOf turnBy recordOf if_then_else_
+unfolding printed linesIn digitsIn lastLine replayOf replayedFrom recordsOf recordsIn nextBy whileWhole playOf playBy recordOf if_then_else_
 short-case = refl

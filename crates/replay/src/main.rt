@@ -83,24 +83,24 @@ fn show(frames: &[u8], text: &mut [u8]) -> bool
 }
 
 // How a buffer of the capture went: on to the next; up to a record that is not good; or no further.
-enum Way {
+enum Going {
     On,
     Bad,
     Lost,
 }
 
 struct Went {
-    way: Way,
+    going: Going,
     chip: Chip,
     records: usize,
     frames: usize,
 }
 
 // A refusal is the chip's, which is proved not to occur (claims_replay), or for want of output, which is long enough for the buffer's records.
-fn way_on(ended: Ended) -> Way {
+fn going_on(ended: Ended) -> Going {
     match ended {
-        Ended::Whole => Way::On,
-        Ended::AtBadRecord => Way::Bad,
+        Ended::Whole => Going::On,
+        Ended::AtBadRecord => Going::Bad,
         Ended::Refused(refusal) => {
             io::write_all(
                 STDERR_FILENO,
@@ -108,17 +108,17 @@ fn way_on(ended: Ended) -> Way {
             );
             io::print_decimal(STDERR_FILENO, refusal.number() as u64);
             io::write_all(STDERR_FILENO, b"\n");
-            Way::Lost
+            Going::Lost
         }
     }
 }
 
-fn told(is_shown: bool, way: Way) -> Way {
+fn told(is_shown: bool, going: Going) -> Going {
     if is_shown {
-        return way;
+        return going;
     }
     os::fail(b"replay: standard output");
-    Way::Lost
+    Going::Lost
 }
 
 // The records of one buffer, and the lines of their replies.
@@ -143,7 +143,7 @@ fn turn(
             b"replay: more replies than room for them, which should not occur\n",
         );
         return Went {
-            way: Way::Lost,
+            going: Going::Lost,
             chip: after,
             records: 0,
             frames: 0,
@@ -152,7 +152,7 @@ fn turn(
     let is_shown = show(&output[0..n], text);
     let ended = played.ended;
     Went {
-        way: told(is_shown, way_on(ended)),
+        going: told(is_shown, going_on(ended)),
         chip: after,
         records: played.records,
         frames: played.frames,
@@ -212,19 +212,19 @@ fn replay(fd: i32, name: &[u8]) {
         chip = went.chip;
         records = std::num::wrapping_add_u64(records, went.records as u64);
         frames = std::num::wrapping_add_u64(frames, went.frames as u64);
-        let way = went.way;
-        match way {
-            Way::On => {
+        let going = went.going;
+        match going {
+            Going::On => {
                 if n < 2048 {
                     last_line(b"END ", frames);
                     return;
                 }
             }
-            Way::Bad => {
+            Going::Bad => {
                 last_line(b"BAD ", records);
                 return;
             }
-            Way::Lost => {
+            Going::Lost => {
                 return;
             }
         }

@@ -43,8 +43,8 @@ recordOf size bs =
     else BadRecord
 
 -- The bytes that a good record carries, so many of the six.
-abbrev pub carried : ℕ → List ℕ → List ℕ
-carried n bs = take n (six bs)
+abbrev pub carriedBytes : ℕ → List ℕ → List ℕ
+carriedBytes n bs = take n (six bs)
 
 -- The records of a capture in order, each of so many bytes but for the last, which may be short.
 unfoldable pub recordsIn : ℕ → ℕ → List ℕ → List (List ℕ)

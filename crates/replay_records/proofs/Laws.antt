@@ -10,7 +10,7 @@ use lib.ListN.{drop, drop-of-length-le, getD, length, length-append, length-drop
 use lib.Seq.{drop-cons, drop-drop, length-take-le, take-all}
 use borrow.Author.Tests.{le-ltb, lt-ltb}
 use Rattle.replay_capture.proofs.Laws.{Carries, carries-is}
-use Rattle.replay_capture.specs.Capture.{carried, recordOf, recordSize, six}
+use Rattle.replay_capture.specs.Capture.{carriedBytes, recordOf, recordSize, six}
 use Rattle.replay_capture.specs.declared.Record.{Record}
 use Rattle.replay_capture.specs.declared.Record.the-variants.{BadRecord, BytesRecord, GapRecord}
 use Rattle.chip.proofs.Feeding.{feed-is, feed-next, feed-none, feed-takes, feed-within, on-refused, on-said, on-silent}
@@ -32,19 +32,19 @@ use Rattle.lent.specs.declared.Room.{Room}
 use Rattle.part.specs.declared.Part.{Part}
 use Rattle.part.specs.declared.refusal.Refusal.{Refusal}
 use Rattle.part.specs.declared.refusal.Refusal.the-variants.{ShortRoom}
-use Rattle.replay_records.specs.Records.{Playing, Turning, eventsOf, goesOn, kept, played, saying, starting, turnBy, turnOf, turnWith, turnedBy, turning}
-use Rattle.replay_records.specs.declared.Turned.{Turned}
-use Rattle.replay_records.specs.declared.Turned.the-variants.{NotGood, Played}
-use Rattle.replay_records.specs.declared.Turned.the-variants as Turned
+use Rattle.replay_records.specs.Records.{Playing, RecordPlaying, eventsOf, goesOn, playedInto, played, answering, beforePlaying, playBy, playOf, playWith, endedBy, recordPlaying}
+use Rattle.replay_records.specs.declared.RecordEnded.{RecordEnded}
+use Rattle.replay_records.specs.declared.RecordEnded.the-variants.{NotGood, Played}
+use Rattle.replay_records.specs.declared.RecordEnded.the-variants as RecordEnded
 use Rattle.words.specs.Words.{if_then_else_}
 
 abbrev after : Outcome → Playing → Playing
-after o x = saying (o .answer) o x
+after o x = answering (o .answer) o x
 
-saying-forgets : (a : Answer) (o : Outcome) (x y : Playing) → x .said ≡ y .said → x .frames ≡ y .frames → saying a o x ≡ saying a o y
-unfolding saying
-saying-forgets (Replied n k) o x y e f = rw (e, f)
-saying-forgets (Answer.Refused r) o x y e f = rw (e, f)
+answering-forgets : (a : Answer) (o : Outcome) (x y : Playing) → x .said ≡ y .said → x .frames ≡ y .frames → answering a o x ≡ answering a o y
+unfolding answering
+answering-forgets (Replied n k) o x y e f = rw (e, f)
+answering-forgets (Answer.Refused r) o x y e f = rw (e, f)
 
 -- What a feeding makes of x, when bs is what it was fed and n were taken before.
 abbrev goesFrom : Part → ℕ → List ℕ → Feeding → Playing → Playing
@@ -81,11 +81,11 @@ plays-byte p (Replied j i) n b bs o x rest e s = go (decLe 1 i)
         ∙ ap (λ (f : Feeding). goesFrom p n (b ∷ bs) f x) (on-said (Replied j i) n j i o rest refl u)
 
 silent-after : (o : Outcome) (x : Playing) (j room : ℕ) → Fitting (o .answer) room → o .answer ≡ Replied j 0 → after o x ≡ record { left = o; said = x .said; frames = x .frames }
-unfolding saying
+unfolding answering
 silent-after o x j room f e =
     let z : j ≡ 0 = f .silent j e in
     let a : o .answer ≡ Replied 0 0 = e ∙ ap (λ (q : ℕ). Replied q 0) z in
-    ap (λ (q : Answer). saying q o x) a ∙ rw (append-nil, add-zero)
+    ap (λ (q : Answer). answering q o x) a ∙ rw (append-nil, add-zero)
 
 drop-taken : (p : Part) (n b : ℕ) (bs : List ℕ) (t : ℕ) (x : Playing) → n + 1 ≤ t
     → played p (map Byte (drop (t - (n + 1)) bs)) x ≡ played p (map Byte (drop (t - n) (b ∷ bs))) x
@@ -115,7 +115,7 @@ feed-plays p n b (d ∷ bs) x a =
     plays-byte p (o .answer) n b (d ∷ bs) o x rest refl
     (λ j e.
     let h : n + 1 ≤ rest .taken = feed-within p (n + 1) (d ∷ bs) o .0 in
-    let g : after (rest .left) y ≡ after (rest .left) x = saying-forgets (rest .left .answer) (rest .left) y x refl refl in
+    let g : after (rest .left) y ≡ after (rest .left) x = answering-forgets (rest .left .answer) (rest .left) y x refl refl in
     ap (λ (q : Playing). played p (map Byte (d ∷ bs)) q) (silent-after o x j _ f e)
     ∙ feed-plays p (n + 1) d bs y a
     ∙ ap (λ (q : Playing). goesOn (rest .left .answer) (played p (map Byte (drop (rest .taken - (n + 1)) (d ∷ bs))) q) q) g
@@ -135,7 +135,7 @@ pub record PlayedFrom (p : Part) (bs : List ℕ) (c : Chip) (m : Flash) (room : 
   pub rest : played p (map Byte (drop i bs)) (record { left = record { answer = Replied bytes frames; chip = c; memory = m; room = room }; said = said; frames = k }) ≡ t
 
 pub played-start : (p : Part) (bs : List ℕ) (c : Chip) (m : Flash) (room output : List ℕ)
-    → PlayedFrom p bs c m room 0 0 0 output output (played p (map Byte bs) (starting c m room))
+    → PlayedFrom p bs c m room 0 0 0 output output (played p (map Byte bs) (beforePlaying c m room))
 played-start p bs c m room output =
     record {
       bytes = 0;
@@ -186,24 +186,24 @@ fed-takes p bs o i n k f e h r =
 
 pub played-refused : {p : Part} {bs : List ℕ} {c : Chip} {m : Flash} {room : List ℕ} {i n k : ℕ} {whole output : List ℕ} {t : Playing} {r : Refusal} (f : Feeding)
     → PlayedFrom p bs c m room i n k whole output t → Arrays p → f ≡ feedOf p (take (length bs - i) (drop i bs)) (before c m room) → i < length bs → f .left .answer ≡ Answer.Refused r
-    → turning (record { turned = Turned.Refused r; chip = f .left .chip }) (f .left .memory) (f .left .room) output ≡ kept t whole
-unfolding kept turnedBy saying
+    → recordPlaying (record { ended = RecordEnded.Refused r; chip = f .left .chip }) (f .left .memory) (f .left .room) output ≡ playedInto t whole
+unfolding playedInto endedBy answering
 played-refused {p} {bs} {c} {m} {room} {i} {n} {k} {whole} {output} {t} {r} f q a e h z =
     let x : Playing = record { left = record { answer = Replied (q .bytes) (q .frames); chip = c; memory = m; room = room }; said = q .said; frames = k } in
     let y : Playing = record { left = f .left; said = q .said; frames = k } in
     let g : y ≡ t =
-    sym (ap (λ (v : Answer). saying v (f .left) x) z)
+    sym (ap (λ (v : Answer). answering v (f .left) x) z)
     ∙ sym (goes-refused (f .left .answer) r (played p (map Byte (drop (f .taken - 0) (drop i bs))) (after (f .left) x)) (after (f .left) x) z)
     ∙ fed-plays f q a e h in
-    ap (λ (l : List ℕ). turning (record { turned = Turned.Refused r; chip = f .left .chip }) (f .left .memory) (f .left .room) l) (q .stands .is)
-    ∙ ap (λ (v : Answer). record { turned = turnedBy v y; chip = f .left .chip; memory = f .left .memory; room = f .left .room; output = q .said ++ drop (length (q .said)) whole }) (sym z)
-    ∙ ap (λ (v : Playing). kept v whole) g
+    ap (λ (l : List ℕ). recordPlaying (record { ended = RecordEnded.Refused r; chip = f .left .chip }) (f .left .memory) (f .left .room) l) (q .stands .is)
+    ∙ ap (λ (v : Answer). record { ended = endedBy v y; chip = f .left .chip; memory = f .left .memory; room = f .left .room; output = q .said ++ drop (length (q .said)) whole }) (sym z)
+    ∙ ap (λ (v : Playing). playedInto v whole) g
 
 pub played-turn : {p : Part} {bs : List ℕ} {c : Chip} {m : Flash} {room : List ℕ} {i n k : ℕ} {whole output output′ : List ℕ} {t : Playing} {j l : ℕ} {s : Room} (f : Feeding)
     → PlayedFrom p bs c m room i n k whole output t → Arrays p → f ≡ feedOf p (take (length bs - i) (drop i bs)) (before c m room) → i < length bs → f .left .answer ≡ Replied j l
     → length bs ≤ 6 → 192 ≤ length whole → left s output′ ≡ putOf output n (take (j - 0) (f .left .room))
     → PlayedFrom p bs (f .left .chip) (f .left .memory) (f .left .room) (i + f .taken) (n + j) (k + l) whole output′ t
-unfolding saying
+unfolding answering
 played-turn {p} {bs} {c} {m} {room} {i} {n} {k} {whole} {output} {output′} {t} {j} {l} {s} f q a e h z six w u =
     let x : Playing = record { left = record { answer = Replied (q .bytes) (q .frames); chip = c; memory = m; room = room }; said = q .said; frames = k } in
     let fit : Fitting (f .left .answer) (length (f .left .room)) = rw e (feed-fits p (take (length bs - i) (drop i bs)) c m room a) in
@@ -218,7 +218,7 @@ played-turn {p} {bs} {c} {m} {room} {i} {n} {k} {whole} {output} {output′} {t}
     let v : record { left = record { answer = Replied j l; chip = f .left .chip; memory = f .left .memory; room = f .left .room }; said = q .said ++ take (j - 0) (f .left .room); frames = k + l } ≡ after (f .left) x =
     ap (λ (y : ℕ). record { left = record { answer = Replied j l; chip = f .left .chip; memory = f .left .memory; room = f .left .room }; said = q .said ++ take y (f .left .room); frames = k + l }) zero
     ∙ ap (λ (y : Answer). record { left = record { answer = y; chip = f .left .chip; memory = f .left .memory; room = f .left .room }; said = q .said ++ take j (f .left .room); frames = k + l }) (sym z)
-    ∙ sym (ap (λ (y : Answer). saying y (f .left) x) z) in
+    ∙ sym (ap (λ (y : Answer). answering y (f .left) x) z) in
     record {
       bytes = j;
       frames = l;
@@ -232,25 +232,27 @@ played-turn {p} {bs} {c} {m} {room} {i} {n} {k} {whole} {output} {output′} {t}
     }
 
 pub played-end : {p : Part} {bs : List ℕ} {c : Chip} {m : Flash} {room : List ℕ} {i n k : ℕ} {whole output : List ℕ} {t : Playing} → PlayedFrom p bs c m room i n k whole output t
-    → length bs ≤ i → turning (record { turned = Played n k; chip = c }) m room output ≡ kept t whole
-unfolding kept turnedBy played
+    → length bs ≤ i → recordPlaying (record { ended = Played n k; chip = c }) m room output ≡ playedInto t whole
+unfolding playedInto endedBy played
 played-end {p} {bs} {c} {m} {room} {i} {n} {k} {whole} {output} {t} q h =
     let y : Playing = record { left = record { answer = Replied (q .bytes) (q .frames); chip = c; memory = m; room = room }; said = q .said; frames = k } in
     let g : y ≡ t = sym (ap (λ (l : List ℕ). played p (map Byte l) y) (drop-of-length-le bs h)) ∙ q .rest in
-    ap (λ (l : List ℕ). turning (record { turned = Played n k; chip = c }) m room l) (q .stands .is)
-    ∙ ap (λ (a : ℕ). turning (record { turned = Played a k; chip = c }) m room (q .said ++ drop (length (q .said)) whole)) (q .long)
-    ∙ ap (λ (v : Playing). kept v whole) g
+    ap (λ (l : List ℕ). recordPlaying (record { ended = Played n k; chip = c }) m room l) (q .stands .is)
+    ∙ ap (λ (a : ℕ). recordPlaying (record { ended = Played a k; chip = c }) m room (q .said ++ drop (length (q .said)) whole)) (q .long)
+    ∙ ap (λ (v : Playing). playedInto v whole) g
 
 -- The same of a turn of the loop: it takes bytes that are there, at least one, and what is said lies in the room.
-pub turn-within : {p : Part} {bs : List ℕ} {c : Chip} {m : Flash} {room : List ℕ} {i n k : ℕ} {whole output : List ℕ} {t : Playing} (f : Feeding) → PlayedFrom p bs c m room i n k whole output t → f ≡ feedOf p (take (length bs - i) (drop i bs)) (before c m room)
-    → i + f .taken ≤ length bs
+pub turn-within : {p : Part} {bs : List ℕ} {c : Chip} {m : Flash} {room : List ℕ} {i n k : ℕ} {whole output : List ℕ} {t : Playing} (f : Feeding)
+    → PlayedFrom p bs c m room i n k whole output t → f ≡ feedOf p (take (length bs - i) (drop i bs)) (before c m room) → i + f .taken ≤ length bs
 turn-within {p} {bs} {c} {m} {room} {i} {n} {k} {whole} {output} {t} f q e = fed-taken p bs (before c m room) i f e (q .within)
 
-pub turn-takes : {p : Part} {bs : List ℕ} {c : Chip} {m : Flash} {room : List ℕ} {i n k : ℕ} {whole output : List ℕ} {t : Playing} {j l : ℕ} (f : Feeding) → PlayedFrom p bs c m room i n k whole output t → f ≡ feedOf p (take (length bs - i) (drop i bs)) (before c m room)
+pub turn-takes : {p : Part} {bs : List ℕ} {c : Chip} {m : Flash} {room : List ℕ} {i n k : ℕ} {whole output : List ℕ} {t : Playing} {j l : ℕ} (f : Feeding)
+    → PlayedFrom p bs c m room i n k whole output t → f ≡ feedOf p (take (length bs - i) (drop i bs)) (before c m room)
     → i < length bs → f .left .answer ≡ Replied j l → 1 ≤ f .taken
 turn-takes {p} {bs} {c} {m} {room} {i} {n} {k} {whole} {output} {t} {j} {l} f q e h z = fed-takes p bs (before c m room) i j l f e h z
 
-pub turn-said : {p : Part} {bs : List ℕ} {c : Chip} {m : Flash} {room : List ℕ} {i n k : ℕ} {whole output : List ℕ} {t : Playing} {j l : ℕ} (f : Feeding) → PlayedFrom p bs c m room i n k whole output t → Arrays p → f ≡ feedOf p (take (length bs - i) (drop i bs)) (before c m room)
+pub turn-said : {p : Part} {bs : List ℕ} {c : Chip} {m : Flash} {room : List ℕ} {i n k : ℕ} {whole output : List ℕ} {t : Playing} {j l : ℕ} (f : Feeding)
+    → PlayedFrom p bs c m room i n k whole output t → Arrays p → f ≡ feedOf p (take (length bs - i) (drop i bs)) (before c m room)
     → f .left .answer ≡ Replied j l → (j ≤ 31) × (j ≤ length (f .left .room)) × (l ≤ 2)
 turn-said {p} {bs} {c} {m} {room} {i} {n} {k} {whole} {output} {t} {j} {l} f q a e z =
     let fit : Fitting (f .left .answer) (length (f .left .room)) = rw e (feed-fits p (take (length bs - i) (drop i bs)) c m room a) in
@@ -259,8 +261,8 @@ turn-said {p} {bs} {c} {m} {room} {i} {n} {k} {whole} {output} {t} {j} {l} f q a
 -- One event alone.
 pub one-said : (p : Part) (v : Event) (c : Chip) (m : Flash) (room output output′ : List ℕ) (o : Outcome) (n k : ℕ) (s : Room) → Arrays p → o ≡ stepOf p c v m room
     → o .answer ≡ Replied n k → 192 ≤ length output → left s output′ ≡ putOf output 0 (take (n - 0) (o .room))
-    → turning (record { turned = Played n k; chip = o .chip }) (o .memory) (o .room) output′ ≡ kept (played p (v ∷ []) (starting c m room)) output
-unfolding kept turnedBy played goesOn saying
+    → recordPlaying (record { ended = Played n k; chip = o .chip }) (o .memory) (o .room) output′ ≡ playedInto (played p (v ∷ []) (beforePlaying c m room)) output
+unfolding playedInto endedBy played goesOn answering
 one-said p v c m room output output′ o n k s a e z w u =
     let fit : Fitting (o .answer) (length (o .room)) = rw e (step-fits p c v m room a) in
     let zero : n - 0 ≡ n = omega arith in
@@ -268,21 +270,21 @@ one-said p v c m room output output′ o n k s a e z w u =
     let put : Written ([] ++ take n (o .room)) output output′ =
     written-put 0 (take n (o .room)) (written-start output) (u ∙ ap (λ (j : ℕ). putOf output 0 (take j (o .room))) zero) refl (omega (arith, long, fit .long n k z)) in
     let y : Playing = record { left = o; said = take n (o .room); frames = 0 + k } in
-    ap (λ (l : List ℕ). turning (record { turned = Played n k; chip = o .chip }) (o .memory) (o .room) l) (put .is)
-    ∙ ap (λ (j : ℕ). record { turned = Played n j; chip = o .chip; memory = o .memory; room = o .room; output = take n (o .room) ++ drop (length (take n (o .room))) output }) (sym (zero-add k))
-    ∙ ap (λ (j : ℕ). record { turned = Played j (0 + k); chip = o .chip; memory = o .memory; room = o .room; output = take n (o .room) ++ drop (length (take n (o .room))) output }) (sym long)
-    ∙ ap (λ (b : Answer). record { turned = turnedBy b y; chip = o .chip; memory = o .memory; room = o .room; output = take n (o .room) ++ drop (length (take n (o .room))) output }) (sym z)
-    ∙ ap (λ (b : Answer). kept (goesOn b (saying b o (starting c m room)) (saying b o (starting c m room))) output) (sym z)
-    ∙ ap (λ (q : Outcome). kept (goesOn (q .answer) (saying (q .answer) q (starting c m room)) (saying (q .answer) q (starting c m room))) output) e
+    ap (λ (l : List ℕ). recordPlaying (record { ended = Played n k; chip = o .chip }) (o .memory) (o .room) l) (put .is)
+    ∙ ap (λ (j : ℕ). record { ended = Played n j; chip = o .chip; memory = o .memory; room = o .room; output = take n (o .room) ++ drop (length (take n (o .room))) output }) (sym (zero-add k))
+    ∙ ap (λ (j : ℕ). record { ended = Played j (0 + k); chip = o .chip; memory = o .memory; room = o .room; output = take n (o .room) ++ drop (length (take n (o .room))) output }) (sym long)
+    ∙ ap (λ (b : Answer). record { ended = endedBy b y; chip = o .chip; memory = o .memory; room = o .room; output = take n (o .room) ++ drop (length (take n (o .room))) output }) (sym z)
+    ∙ ap (λ (b : Answer). playedInto (goesOn b (answering b o (beforePlaying c m room)) (answering b o (beforePlaying c m room))) output) (sym z)
+    ∙ ap (λ (q : Outcome). playedInto (goesOn (q .answer) (answering (q .answer) q (beforePlaying c m room)) (answering (q .answer) q (beforePlaying c m room))) output) e
 
 pub one-refused : (p : Part) (v : Event) (c : Chip) (m : Flash) (room output : List ℕ) (o : Outcome) (r : Refusal) → o ≡ stepOf p c v m room → o .answer ≡ Answer.Refused r
-    → turning (record { turned = Turned.Refused r; chip = o .chip }) (o .memory) (o .room) output ≡ kept (played p (v ∷ []) (starting c m room)) output
-unfolding kept turnedBy played goesOn saying
+    → recordPlaying (record { ended = RecordEnded.Refused r; chip = o .chip }) (o .memory) (o .room) output ≡ playedInto (played p (v ∷ []) (beforePlaying c m room)) output
+unfolding playedInto endedBy played goesOn answering
 one-refused p v c m room output o r e z =
     let y : Playing = record { left = o; said = []; frames = 0 } in
-    ap (λ (b : Answer). record { turned = turnedBy b y; chip = o .chip; memory = o .memory; room = o .room; output = output }) (sym z)
-    ∙ ap (λ (b : Answer). kept (goesOn b (saying b o (starting c m room)) (saying b o (starting c m room))) output) (sym z)
-    ∙ ap (λ (q : Outcome). kept (goesOn (q .answer) (saying (q .answer) q (starting c m room)) (saying (q .answer) q (starting c m room))) output) e
+    ap (λ (b : Answer). record { ended = endedBy b y; chip = o .chip; memory = o .memory; room = o .room; output = output }) (sym z)
+    ∙ ap (λ (b : Answer). playedInto (goesOn b (answering b o (beforePlaying c m room)) (answering b o (beforePlaying c m room))) output) (sym z)
+    ∙ ap (λ (q : Outcome). playedInto (goesOn (q .answer) (answering (q .answer) q (beforePlaying c m room)) (answering (q .answer) q (beforePlaying c m room))) output) e
 
 pub one-lies : (p : Part) (v : Event) (c : Chip) (m : Flash) (room : List ℕ) (o : Outcome) (n k : ℕ) → Arrays p → o ≡ stepOf p c v m room → o .answer ≡ Replied n k
     → n ≤ length (o .room)
@@ -296,27 +298,27 @@ carried-short {n} {bs} k =
     let two : n + 2 - 2 ≡ n = omega arith in
     rw (length-take, two) (omega (arith, k .most))
 
-pub turn-bytes : (x : Turning) (n : ℕ) (p : Part) (bs : List ℕ) (c : Chip) (m : Flash) (room output : List ℕ) → recordOf recordSize bs ≡ BytesRecord n → 192 ≤ length output
-    → x ≡ kept (played p (map Byte (take (n + 2 - 2) (drop 2 bs))) (starting c m room)) output → x ≡ turnOf p bs c m room output
-unfolding turnOf turnBy turnWith eventsOf if_then_else_
-turn-bytes x n p bs c m room output e h g =
+pub play-bytes-is : (x : RecordPlaying) (n : ℕ) (p : Part) (bs : List ℕ) (c : Chip) (m : Flash) (room output : List ℕ) → recordOf recordSize bs ≡ BytesRecord n → 192 ≤ length output
+    → x ≡ playedInto (played p (map Byte (take (n + 2 - 2) (drop 2 bs))) (beforePlaying c m room)) output → x ≡ playOf p bs c m room output
+unfolding playOf playBy playWith eventsOf if_then_else_
+play-bytes-is x n p bs c m room output e h g =
     let two : n + 2 - 2 ≡ n = omega arith in
-    let y : x ≡ kept (played p (map Byte (take n (drop 2 bs))) (starting c m room)) output =
-    g ∙ ap (λ (k : ℕ). kept (played p (map Byte (take k (drop 2 bs))) (starting c m room)) output) two in
+    let y : x ≡ playedInto (played p (map Byte (take n (drop 2 bs))) (beforePlaying c m room)) output =
+    g ∙ ap (λ (k : ℕ). playedInto (played p (map Byte (take k (drop 2 bs))) (beforePlaying c m room)) output) two in
     simp (e, le-ltb (length output) 192 h) y
 
 -- How long what is said gets: 31 bytes for an event at most, and no frame without a byte.
-saying-long : (a : Answer) (o : Outcome) (x : Playing) (room : ℕ) → Fitting a room → (length (saying a o x .said) ≤ length (x .said) + 31)
-unfolding saying
-saying-long (Replied n k) o x room f = rw (length-append, length-take) (omega (arith, f .long n k refl))
-saying-long (Answer.Refused r) o x room f = omega arith
+answering-long : (a : Answer) (o : Outcome) (x : Playing) (room : ℕ) → Fitting a room → (length (answering a o x .said) ≤ length (x .said) + 31)
+unfolding answering
+answering-long (Replied n k) o x room f = rw (length-append, length-take) (omega (arith, f .long n k refl))
+answering-long (Answer.Refused r) o x room f = omega arith
 
-saying-framed : (a : Answer) (o : Outcome) (x : Playing) → Fitting a (length (o .room)) → x .frames ≤ length (x .said) → saying a o x .frames ≤ length (saying a o x .said)
-unfolding saying
-saying-framed (Replied n k) o x f h =
+answering-framed : (a : Answer) (o : Outcome) (x : Playing) → Fitting a (length (o .room)) → x .frames ≤ length (x .said) → answering a o x .frames ≤ length (answering a o x .said)
+unfolding answering
+answering-framed (Replied n k) o x f h =
     let l : length (take n (o .room)) ≡ n = length-take-le n (o .room) (f .lies n k refl) in
     rw (length-append, l) (omega (arith, f .framed n k refl))
-saying-framed (Answer.Refused r) o x f h = h
+answering-framed (Answer.Refused r) o x f h = h
 
 goes-all : (P : Playing → Type 0) (a : Answer) (x y : Playing) → P x → P y → P (goesOn a x y)
 unfolding goesOn
@@ -328,8 +330,8 @@ unfolding played
 played-long p [] x a = omega arith
 played-long p (v ∷ vs) x a =
     let o = onward p (x .left) v in
-    let y = saying (o .answer) o x in
-    let l : length (y .said) ≤ length (x .said) + 31 = saying-long (o .answer) o x _ (step-fits p (x .left .chip) v (x .left .memory) (x .left .room) a) in
+    let y = answering (o .answer) o x in
+    let l : length (y .said) ≤ length (x .said) + 31 = answering-long (o .answer) o x _ (step-fits p (x .left .chip) v (x .left .memory) (x .left .room) a) in
     goes-all (λ z. length (z .said) ≤ length (x .said) + 31 * length (v ∷ vs)) (o .answer) (played p vs y) y (omega (arith, played-long p vs y a, l)) (omega (arith, l))
 
 pub played-framed : (p : Part) (vs : List Event) (x : Playing) → Arrays p → x .frames ≤ length (x .said) → played p vs x .frames ≤ length (played p vs x .said)
@@ -337,18 +339,18 @@ unfolding played
 played-framed p [] x a h = h
 played-framed p (v ∷ vs) x a h =
     let o = onward p (x .left) v in
-    let y = saying (o .answer) o x in
-    let l : y .frames ≤ length (y .said) = saying-framed (o .answer) o x (step-fits p (x .left .chip) v (x .left .memory) (x .left .room) a) h in
+    let y = answering (o .answer) o x in
+    let l : y .frames ≤ length (y .said) = answering-framed (o .answer) o x (step-fits p (x .left .chip) v (x .left .memory) (x .left .room) a) h in
     goes-all (λ z. z .frames ≤ length (z .said)) (o .answer) (played p vs y) y (played-framed p vs y a l) l
 
 -- What a record's turn may claim to have said.
-pub record Fits (t : Turned) (output : ℕ) : Type 0 where
+pub record Fits (t : RecordEnded) (output : ℕ) : Type 0 where
   pub bytes : (n k : ℕ) → t ≡ Played n k → n ≤ output
   pub frames : (n k : ℕ) → t ≡ Played n k → k ≤ n
   pub short : (n k : ℕ) → t ≡ Played n k → n ≤ 192
 
-by-fits : (a : Answer) (x : Playing) (output : ℕ) → length (x .said) ≤ 192 → 192 ≤ output → x .frames ≤ length (x .said) → Fits (turnedBy a x) output
-unfolding turnedBy
+by-fits : (a : Answer) (x : Playing) (output : ℕ) → length (x .said) ≤ 192 → 192 ≤ output → x .frames ≤ length (x .said) → Fits (endedBy a x) output
+unfolding endedBy
 by-fits (Replied n k) x output l h f =
     record {
       bytes = λ i j e. let u : length (x .said) ≡ i = cc in omega arith;
@@ -362,46 +364,46 @@ by-fits (Answer.Refused r) x output l h f =
       short = λ i j e. absurd (let z : _≡_ {A = ℕ} 0 1 = cc in omega arith);
     }
 
-none-fits : (t : Turned) (output : ℕ) → ((n k : ℕ) → t ≡ Played n k → ⊥) → Fits t output
+none-fits : (t : RecordEnded) (output : ℕ) → ((n k : ℕ) → t ≡ Played n k → ⊥) → Fits t output
 none-fits t output h = record { bytes = λ n k e. absurd (h n k e); frames = λ n k e. absurd (h n k e); short = λ n k e. absurd (h n k e) }
 
-with-fits : (vs : List Event) (p : Part) (c : Chip) (m : Flash) (room output : List ℕ) → Arrays p → length vs ≤ 6 → Fits (turnWith vs p c m room output .turned) (length output)
-unfolding turnWith kept if_then_else_
+with-fits : (vs : List Event) (p : Part) (c : Chip) (m : Flash) (room output : List ℕ) → Arrays p → length vs ≤ 6 → Fits (playWith vs p c m room output .ended) (length output)
+unfolding playWith playedInto if_then_else_
 with-fits vs p c m room output a h = go (decLe 192 (length output))
   where
-    go : Dec (192 ≤ length output) → Fits (turnWith vs p c m room output .turned) (length output)
+    go : Dec (192 ≤ length output) → Fits (playWith vs p c m room output .ended) (length output)
     go (yes k) =
-        let x = played p vs (starting c m room) in
+        let x = played p vs (beforePlaying c m room) in
         rw (le-ltb (length output) 192 k)
-        (by-fits (x .left .answer) x (length output) (omega (arith, played-long p vs (starting c m room) a)) k (played-framed p vs (starting c m room) a (omega arith)))
-    go (no k) = rw (lt-ltb (length output) 192 (omega arith)) (none-fits (Turned.Refused ShortRoom) (length output) (λ n i e. let z : _≡_ {A = ℕ} 0 1 = cc in omega arith))
+        (by-fits (x .left .answer) x (length output) (omega (arith, played-long p vs (beforePlaying c m room) a)) k (played-framed p vs (beforePlaying c m room) a (omega arith)))
+    go (no k) = rw (lt-ltb (length output) 192 (omega arith)) (none-fits (RecordEnded.Refused ShortRoom) (length output) (λ n i e. let z : _≡_ {A = ℕ} 0 1 = cc in omega arith))
 
 by-record : (r : Record) (p : Part) (bs : List ℕ) (c : Chip) (m : Flash) (room output : List ℕ) → Arrays p → ((n : ℕ) → r ≡ BytesRecord n → n ≤ 6)
-    → Fits (turnBy r p bs c m room output .turned) (length output)
-unfolding turnBy eventsOf
+    → Fits (playBy r p bs c m room output .ended) (length output)
+unfolding playBy eventsOf
 by-record GapRecord p bs c m room output a h = with-fits (Gap ∷ []) p c m room output a (omega arith)
 by-record (BytesRecord n) p bs c m room output a h =
-    with-fits (map Byte (carried n bs)) p c m room output a (rw (length-map, length-take) (omega (arith, h n refl)))
+    with-fits (map Byte (carriedBytes n bs)) p c m room output a (rw (length-map, length-take) (omega (arith, h n refl)))
 by-record BadRecord p bs c m room output a h = none-fits NotGood (length output) (λ n i e. let z : _≡_ {A = ℕ} 0 1 = cc in omega arith)
 
-pub turn-fits : (p : Part) (bs : List ℕ) (c : Chip) (m : Flash) (room output : List ℕ) → Arrays p → Fits (turnOf p bs c m room output .turned) (length output)
-unfolding turnOf
-turn-fits p bs c m room output a = by-record (recordOf recordSize bs) p bs c m room output a (λ n e. carries-is n bs e .most)
+pub play-fits : (p : Part) (bs : List ℕ) (c : Chip) (m : Flash) (room output : List ℕ) → Arrays p → Fits (playOf p bs c m room output .ended) (length output)
+unfolding playOf
+play-fits p bs c m room output a = by-record (recordOf recordSize bs) p bs c m room output a (λ n e. carries-is n bs e .most)
 
 -- The output keeps its length.
-with-keeps : (vs : List Event) (p : Part) (c : Chip) (m : Flash) (room output : List ℕ) → Arrays p → length vs ≤ 6 → length (turnWith vs p c m room output .output) ≡ length output
-unfolding turnWith kept if_then_else_
+with-keeps : (vs : List Event) (p : Part) (c : Chip) (m : Flash) (room output : List ℕ) → Arrays p → length vs ≤ 6 → length (playWith vs p c m room output .output) ≡ length output
+unfolding playWith playedInto if_then_else_
 with-keeps vs p c m room output a h = go (decLe 192 (length output))
   where
-    go : Dec (192 ≤ length output) → length (turnWith vs p c m room output .output) ≡ length output
-    go (yes k) = rw (le-ltb (length output) 192 k, length-append, length-drop) (omega (arith, played-long p vs (starting c m room) a))
+    go : Dec (192 ≤ length output) → length (playWith vs p c m room output .output) ≡ length output
+    go (yes k) = rw (le-ltb (length output) 192 k, length-append, length-drop) (omega (arith, played-long p vs (beforePlaying c m room) a))
     go (no k) = rw (lt-ltb (length output) 192 (omega arith))
 
-pub turn-keeps : (p : Part) (bs : List ℕ) (c : Chip) (m : Flash) (room output : List ℕ) → Arrays p → length (turnOf p bs c m room output .output) ≡ length output
-unfolding turnOf turnBy eventsOf
-turn-keeps p bs c m room output a = go (recordOf recordSize bs) (λ n e. carries-is n bs e .most)
+pub play-keeps : (p : Part) (bs : List ℕ) (c : Chip) (m : Flash) (room output : List ℕ) → Arrays p → length (playOf p bs c m room output .output) ≡ length output
+unfolding playOf playBy eventsOf
+play-keeps p bs c m room output a = go (recordOf recordSize bs) (λ n e. carries-is n bs e .most)
   where
-    go : (r : Record) → ((n : ℕ) → r ≡ BytesRecord n → n ≤ 6) → length (turnBy r p bs c m room output .output) ≡ length output
+    go : (r : Record) → ((n : ℕ) → r ≡ BytesRecord n → n ≤ 6) → length (playBy r p bs c m room output .output) ≡ length output
     go GapRecord h = with-keeps (Gap ∷ []) p c m room output a (omega arith)
-    go (BytesRecord n) h = with-keeps (map Byte (carried n bs)) p c m room output a (rw (length-map, length-take) (omega (arith, h n refl)))
+    go (BytesRecord n) h = with-keeps (map Byte (carriedBytes n bs)) p c m room output a (rw (length-map, length-take) (omega (arith, h n refl)))
     go BadRecord h = refl

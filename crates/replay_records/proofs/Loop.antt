@@ -16,14 +16,14 @@ use Rattle.chip_state.specs.declared.Chip.{Chip}
 use Rattle.chip_core.specs.Effect.{Flash}
 use Rattle.part.specs.declared.Part.{Part}
 use Rattle.part.specs.declared.refusal.Refusal.{Refusal}
-use Rattle.replay_records.proofs.Laws.{Fits, turn-fits}
-use Rattle.replay_records.specs.Records.{Replaying, Turning, afterTurn, nextBy, replayOf, replayedFrom, turnOf, whileWhole}
+use Rattle.replay_records.proofs.Laws.{Fits, play-fits}
+use Rattle.replay_records.specs.Records.{Replaying, RecordPlaying, afterRecord, nextBy, replayOf, replayedFrom, playOf, whileWhole}
 use Rattle.replay_records.specs.declared.Ended.{Ended}
 use Rattle.replay_records.specs.declared.Ended.the-variants.{AtBadRecord, Whole}
 use Rattle.replay_records.specs.declared.Ended.the-variants as Ended
-use Rattle.replay_records.specs.declared.Turned.{Turned}
-use Rattle.replay_records.specs.declared.Turned.the-variants.{NotGood, Played}
-use Rattle.replay_records.specs.declared.Turned.the-variants as Turned
+use Rattle.replay_records.specs.declared.RecordEnded.{RecordEnded}
+use Rattle.replay_records.specs.declared.RecordEnded.the-variants.{NotGood, Played}
+use Rattle.replay_records.specs.declared.RecordEnded.the-variants as RecordEnded
 use Rattle.replay_records.specs.inner.Loop.{recordEnd}
 use Rattle.words.specs.Words.{if_then_else_}
 
@@ -110,26 +110,26 @@ tail-back l w n =
     ap (λ (z : List ℕ). take n l ++ z) (ap (λ (z : List ℕ). w ++ z) (drop-of-length-le (drop n l) past) ∙ append-nil w)
 
 -- The turn of the record from at to its end, as the code calls it.
-abbrev turnAt : Part → List ℕ → ℕ → ℕ → Replaying → Turning
-turnAt p bs at end x =
-    turnOf p (take (end - at) (drop at bs)) (x .chip) (x .memory) (x .room) (take (length (x .output) - x .bytes) (drop (x .bytes) (x .output)))
+abbrev playAt : Part → List ℕ → ℕ → ℕ → Replaying → RecordPlaying
+playAt p bs at end x =
+    playOf p (take (end - at) (drop at bs)) (x .chip) (x .memory) (x .room) (take (length (x .output) - x .bytes) (drop (x .bytes) (x .output)))
 
-turned-next : {p : Part} {bs : List ℕ} {at end : ℕ} {x t : Replaying} (u : Turning) (q : ReplayedFrom p bs at x t) → at < length bs → end ≡ recordEnd at (length bs) → u ≡ turnAt p bs at end x
-    → whileWhole (nextBy (u .turned) u x .ended) (replayedFrom p (recordsIn recordSize (q .most - 1) (drop (recordEnd at (length bs)) bs)) (nextBy (u .turned) u x)) (nextBy (u .turned) u x) ≡ t
+record-next : {p : Part} {bs : List ℕ} {at end : ℕ} {x t : Replaying} (u : RecordPlaying) (q : ReplayedFrom p bs at x t) → at < length bs → end ≡ recordEnd at (length bs) → u ≡ playAt p bs at end x
+    → whileWhole (nextBy (u .ended) u x .ended) (replayedFrom p (recordsIn recordSize (q .most - 1) (drop (recordEnd at (length bs)) bs)) (nextBy (u .ended) u x)) (nextBy (u .ended) u x) ≡ t
 unfolding replayedFrom
-turned-next {p} {bs} {at} {end} {x} {t} u q h g e =
+record-next {p} {bs} {at} {end} {x} {t} u q h g e =
     let r = take (recordEnd at (length bs) - at) (drop at bs) in
     let rs = recordsIn recordSize (q .most - 1) (drop (recordEnd at (length bs)) bs) in
-    let v : u ≡ turnOf p r (x .chip) (x .memory) (x .room) (drop (x .bytes) (x .output)) =
+    let v : u ≡ playOf p r (x .chip) (x .memory) (x .room) (drop (x .bytes) (x .output)) =
     e
-    ∙ ap (λ (n : ℕ). turnAt p bs at n x) g
-    ∙ ap (λ (l : List ℕ). turnOf p r (x .chip) (x .memory) (x .room) l) (tail-out (x .output) (x .bytes)) in
-    ap (λ (w : Turning). whileWhole (nextBy (w .turned) w x .ended) (replayedFrom p rs (nextBy (w .turned) w x)) (nextBy (w .turned) w x)) v
+    ∙ ap (λ (n : ℕ). playAt p bs at n x) g
+    ∙ ap (λ (l : List ℕ). playOf p r (x .chip) (x .memory) (x .room) l) (tail-out (x .output) (x .bytes)) in
+    ap (λ (w : RecordPlaying). whileWhole (nextBy (w .ended) w x .ended) (replayedFrom p rs (nextBy (w .ended) w x)) (nextBy (w .ended) w x)) v
     ∙ sym (ap (λ (l : List (List ℕ)). replayedFrom p l x) (records-cut (q .most) bs at h (q .enough)))
     ∙ q .rest
 
 -- What a turn leaves, as the code holds it.
-abbrev after : Ended → ℕ → ℕ → ℕ → Turning → Replaying → Replaying
+abbrev after : Ended → ℕ → ℕ → ℕ → RecordPlaying → Replaying → Replaying
 after e records bytes frames u x =
     record {
       ended = e;
@@ -142,8 +142,8 @@ after e records bytes frames u x =
       output = take (x .bytes) (x .output) ++ (u .output ++ drop (length (x .output) - x .bytes) (drop (x .bytes) (x .output)));
     }
 
-after-is : (e : Ended) (records bytes frames : ℕ) (u : Turning) (x : Replaying)
-    → after e (x .records + records) (x .bytes + bytes) (x .frames + frames) u x ≡ afterTurn e records bytes frames u x
+after-is : (e : Ended) (records bytes frames : ℕ) (u : RecordPlaying) (x : Replaying)
+    → after e (x .records + records) (x .bytes + bytes) (x .frames + frames) u x ≡ afterRecord e records bytes frames u x
 after-is e records bytes frames u x =
     ap (λ (l : List ℕ). record {
       ended = e;
@@ -156,7 +156,7 @@ after-is e records bytes frames u x =
       output = l;
     }) (tail-back (x .output) (u .output) (x .bytes))
 
-stopped-is : (e : Ended) (u : Turning) (x : Replaying) → after e (x .records) (x .bytes) (x .frames) u x ≡ afterTurn e 0 0 0 u x
+stopped-is : (e : Ended) (u : RecordPlaying) (x : Replaying) → after e (x .records) (x .bytes) (x .frames) u x ≡ afterRecord e 0 0 0 u x
 stopped-is e u x =
     ap (λ (n : ℕ). after e n (x .bytes) (x .frames) u x) (sym (add-zero (x .records)))
     ∙ ap (λ (n : ℕ). after e (x .records + 0) n (x .frames) u x) (sym (add-zero (x .bytes)))
@@ -164,47 +164,47 @@ stopped-is e u x =
     ∙ after-is e 0 0 0 u x
 
 -- By how a turn ended.
-goes : (p : Part) (rs : List (List ℕ)) (n k : ℕ) (a : Turned) (u : Turning) (x : Replaying) → a ≡ Played n k
-    → whileWhole (nextBy a u x .ended) (replayedFrom p rs (nextBy a u x)) (nextBy a u x) ≡ replayedFrom p rs (afterTurn Whole 1 n k u x)
+goes : (p : Part) (rs : List (List ℕ)) (n k : ℕ) (a : RecordEnded) (u : RecordPlaying) (x : Replaying) → a ≡ Played n k
+    → whileWhole (nextBy a u x .ended) (replayedFrom p rs (nextBy a u x)) (nextBy a u x) ≡ replayedFrom p rs (afterRecord Whole 1 n k u x)
 unfolding whileWhole nextBy
 goes p rs n k a u x e = rw e
 
-ends-bad : (p : Part) (rs : List (List ℕ)) (a : Turned) (u : Turning) (x : Replaying) → a ≡ NotGood
-    → whileWhole (nextBy a u x .ended) (replayedFrom p rs (nextBy a u x)) (nextBy a u x) ≡ afterTurn AtBadRecord 0 0 0 u x
+ends-bad : (p : Part) (rs : List (List ℕ)) (a : RecordEnded) (u : RecordPlaying) (x : Replaying) → a ≡ NotGood
+    → whileWhole (nextBy a u x .ended) (replayedFrom p rs (nextBy a u x)) (nextBy a u x) ≡ afterRecord AtBadRecord 0 0 0 u x
 unfolding whileWhole nextBy
 ends-bad p rs a u x e = rw e
 
-ends-halted : (p : Part) (rs : List (List ℕ)) (r : Refusal) (a : Turned) (u : Turning) (x : Replaying) → a ≡ Turned.Refused r
-    → whileWhole (nextBy a u x .ended) (replayedFrom p rs (nextBy a u x)) (nextBy a u x) ≡ afterTurn (Ended.Refused r) 0 0 0 u x
+ends-refused : (p : Part) (rs : List (List ℕ)) (r : Refusal) (a : RecordEnded) (u : RecordPlaying) (x : Replaying) → a ≡ RecordEnded.Refused r
+    → whileWhole (nextBy a u x .ended) (replayedFrom p rs (nextBy a u x)) (nextBy a u x) ≡ afterRecord (Ended.Refused r) 0 0 0 u x
 unfolding whileWhole nextBy
-ends-halted p rs r a u x e = rw e
+ends-refused p rs r a u x e = rw e
 
-pub replayed-bad : {p : Part} {bs : List ℕ} {at end : ℕ} {x t : Replaying} (u : Turning) → ReplayedFrom p bs at x t → at < length bs → end ≡ recordEnd at (length bs) → u ≡ turnAt p bs at end x → u .turned ≡ NotGood
+pub replayed-bad : {p : Part} {bs : List ℕ} {at end : ℕ} {x t : Replaying} (u : RecordPlaying) → ReplayedFrom p bs at x t → at < length bs → end ≡ recordEnd at (length bs) → u ≡ playAt p bs at end x → u .ended ≡ NotGood
     → after AtBadRecord (x .records) (x .bytes) (x .frames) u x ≡ t
-replayed-bad {p} {bs} {at} {end} {x} {t} u q h g e z = stopped-is AtBadRecord u x ∙ sym (ends-bad p _ (u .turned) u x z) ∙ turned-next u q h g e
+replayed-bad {p} {bs} {at} {end} {x} {t} u q h g e z = stopped-is AtBadRecord u x ∙ sym (ends-bad p _ (u .ended) u x z) ∙ record-next u q h g e
 
-pub replayed-halted : {p : Part} {bs : List ℕ} {at end : ℕ} {x t : Replaying} {r : Refusal} (u : Turning) → ReplayedFrom p bs at x t → at < length bs → end ≡ recordEnd at (length bs) → u ≡ turnAt p bs at end x
-    → u .turned ≡ Turned.Refused r → after (Ended.Refused r) (x .records) (x .bytes) (x .frames) u x ≡ t
-replayed-halted {p} {bs} {at} {end} {x} {t} {r} u q h g e z = stopped-is (Ended.Refused r) u x ∙ sym (ends-halted p _ r (u .turned) u x z) ∙ turned-next u q h g e
+pub replayed-refused : {p : Part} {bs : List ℕ} {at end : ℕ} {x t : Replaying} {r : Refusal} (u : RecordPlaying) → ReplayedFrom p bs at x t → at < length bs → end ≡ recordEnd at (length bs) → u ≡ playAt p bs at end x
+    → u .ended ≡ RecordEnded.Refused r → after (Ended.Refused r) (x .records) (x .bytes) (x .frames) u x ≡ t
+replayed-refused {p} {bs} {at} {end} {x} {t} {r} u q h g e z = stopped-is (Ended.Refused r) u x ∙ sym (ends-refused p _ r (u .ended) u x z) ∙ record-next u q h g e
 
 -- What a turn says lies in the output.
-pub turn-lies : {p : Part} {bs : List ℕ} {at end : ℕ} {x t : Replaying} {n k : ℕ} (u : Turning) → ReplayedFrom p bs at x t → Arrays p → end ≡ recordEnd at (length bs) → u ≡ turnAt p bs at end x → u .turned ≡ Played n k
+pub turn-lies : {p : Part} {bs : List ℕ} {at end : ℕ} {x t : Replaying} {n k : ℕ} (u : RecordPlaying) → ReplayedFrom p bs at x t → Arrays p → end ≡ recordEnd at (length bs) → u ≡ playAt p bs at end x → u .ended ≡ Played n k
     → (x .bytes + n ≤ length (x .output)) × (k ≤ n)
 turn-lies {p} {bs} {at} {end} {x} {t} {n} {k} u q a g e z =
     let l = take (length (x .output) - x .bytes) (drop (x .bytes) (x .output)) in
-    let f : Fits (u .turned) (length l) = rw e (turn-fits p (take (end - at) (drop at bs)) (x .chip) (x .memory) (x .room) l a) in
+    let f : Fits (u .ended) (length l) = rw e (play-fits p (take (end - at) (drop at bs)) (x .chip) (x .memory) (x .room) l a) in
     let w : length l ≡ length (x .output) - x .bytes = ap length (tail-out (x .output) (x .bytes)) ∙ length-drop (x .bytes) (x .output) in
     (omega (arith, f .bytes n k z, q .stands, w), f .frames n k z)
 
-pub output-kept : {p : Part} {bs : List ℕ} {at end : ℕ} {x t : Replaying} (u : Turning) → ReplayedFrom p bs at x t → end ≡ recordEnd at (length bs) → u ≡ turnAt p bs at end x
+pub output-kept : {p : Part} {bs : List ℕ} {at end : ℕ} {x t : Replaying} (u : RecordPlaying) → ReplayedFrom p bs at x t → end ≡ recordEnd at (length bs) → u ≡ playAt p bs at end x
     → length (u .output) ≡ length (take (length (x .output) - x .bytes) (drop (x .bytes) (x .output)))
     → length (take (x .bytes) (x .output) ++ (u .output ++ drop (length (x .output) - x .bytes) (drop (x .bytes) (x .output)))) ≡ length (x .output)
 output-kept {p} {bs} {at} {end} {x} {t} u q g e l =
     let v : length (u .output) ≡ length (x .output) - x .bytes = l ∙ ap length (tail-out (x .output) (x .bytes)) ∙ length-drop (x .bytes) (x .output) in
     rw (tail-back (x .output) (u .output) (x .bytes), length-append, length-take-le (x .bytes) (x .output) (q .stands)) (omega (arith, v, q .stands))
 
-pub replayed-turn : {p : Part} {bs : List ℕ} {at end : ℕ} {x t : Replaying} {n k : ℕ} (u : Turning) → ReplayedFrom p bs at x t → Arrays p → at < length bs → end ≡ recordEnd at (length bs) → u ≡ turnAt p bs at end x
-    → u .turned ≡ Played n k → length (after Whole (x .records + 1) (x .bytes + n) (x .frames + k) u x .output) ≡ length (x .output)
+pub replayed-turn : {p : Part} {bs : List ℕ} {at end : ℕ} {x t : Replaying} {n k : ℕ} (u : RecordPlaying) → ReplayedFrom p bs at x t → Arrays p → at < length bs → end ≡ recordEnd at (length bs) → u ≡ playAt p bs at end x
+    → u .ended ≡ Played n k → length (after Whole (x .records + 1) (x .bytes + n) (x .frames + k) u x .output) ≡ length (x .output)
     → ReplayedFrom p bs end (after Whole (x .records + 1) (x .bytes + n) (x .frames + k) u x) t
 replayed-turn {p} {bs} {at} {end} {x} {t} {n} {k} u q a h g e z long =
     let s = turn-lies u q a g e z in
@@ -220,8 +220,8 @@ replayed-turn {p} {bs} {at} {end} {x} {t} {n} {k} u q a h g e z long =
       stands = omega (arith, s .0, long);
       rest =
           ap (λ (y : Replaying). replayedFrom p (recordsIn recordSize (q .most - 1) (drop (recordEnd at (length bs)) bs)) y) (after-is Whole 1 n k u x)
-          ∙ sym (goes p (recordsIn recordSize (q .most - 1) (drop (recordEnd at (length bs)) bs)) n k (u .turned) u x z)
-          ∙ turned-next u q h g e;
+          ∙ sym (goes p (recordsIn recordSize (q .most - 1) (drop (recordEnd at (length bs)) bs)) n k (u .ended) u x z)
+          ∙ record-next u q h g e;
     })
 
 pub replayed-end : {p : Part} {bs : List ℕ} {at : ℕ} {x t : Replaying} → ReplayedFrom p bs at x t → length bs ≤ at → x ≡ t

@@ -4,7 +4,7 @@ use mathlib.Core.List.{List, [], _++_, _∷_, map}
 use Prim.Native.Nat.{_+_, ℕ}
 use lib.Dec.{ltb}
 use lib.ListN.{drop, length, take}
-use Rattle.replay_capture.specs.Capture.{carried, recordOf, recordSize, recordsOf}
+use Rattle.replay_capture.specs.Capture.{carriedBytes, recordOf, recordSize, recordsOf}
 use Rattle.replay_capture.specs.declared.Record.{Record}
 use Rattle.replay_capture.specs.declared.Record.the-variants.{BadRecord, BytesRecord, GapRecord}
 use Rattle.chip.specs.Run.{before, onward}
@@ -22,10 +22,10 @@ use Rattle.replay_records.specs.declared.Ended.{Ended}
 use Rattle.replay_records.specs.declared.Ended.the-variants.{AtBadRecord, Whole}
 use Rattle.replay_records.specs.declared.Ended.the-variants as Ended
 use Rattle.replay_records.specs.declared.Replayed.{Replayed}
-use Rattle.replay_records.specs.declared.Turn.{Turn}
-use Rattle.replay_records.specs.declared.Turned.{Turned}
-use Rattle.replay_records.specs.declared.Turned.the-variants.{NotGood, Played}
-use Rattle.replay_records.specs.declared.Turned.the-variants as Turned
+use Rattle.replay_records.specs.declared.PlayedRecord.{PlayedRecord}
+use Rattle.replay_records.specs.declared.RecordEnded.{RecordEnded}
+use Rattle.replay_records.specs.declared.RecordEnded.the-variants.{NotGood, Played}
+use Rattle.replay_records.specs.declared.RecordEnded.the-variants as RecordEnded
 use Rattle.words.specs.Words.{if_then_else_}
 
 -- What has been played so far: what the last event left, and all reply frames with their number.
@@ -35,13 +35,13 @@ pub record Playing : Type 0 where
   pub frames : ℕ
 
 -- Before any event nothing has been said.
-abbrev pub starting : Chip → Flash → List ℕ → Playing
-starting c m room = record { left = before c m room; said = []; frames = 0 }
+abbrev pub beforePlaying : Chip → Flash → List ℕ → Playing
+beforePlaying c m room = record { left = before c m room; said = []; frames = 0 }
 
 -- An event was answered: its reply frames are the first bytes of the room.
-unfoldable pub saying : Answer → Outcome → Playing → Playing
-saying (Replied bytes frames) o x = record { left = o; said = x .said ++ take bytes (o .room); frames = x .frames + frames }
-saying (Answer.Refused r) o x = record { left = o; said = x .said; frames = x .frames }
+unfoldable pub answering : Answer → Outcome → Playing → Playing
+answering (Replied bytes frames) o x = record { left = o; said = x .said ++ take bytes (o .room); frames = x .frames + frames }
+answering (Answer.Refused r) o x = record { left = o; said = x .said; frames = x .frames }
 
 -- Only a refusal stops what is played. (From a fresh chip on there is none: claims_good.)
 unfoldable pub goesOn : Answer → Playing → Playing → Playing
@@ -53,34 +53,34 @@ unfoldable pub played : Part → List Event → Playing → Playing
 played p [] x = x
 played p (v ∷ vs) x =
     let o = onward p (x .left) v in
-    let y = saying (o .answer) o x in
+    let y = answering (o .answer) o x in
     goesOn (o .answer) (played p vs y) y
 
 -- The events of a record: "Kind 00h is a gap (count 0); 01h carries 1 to 6 bytes."
 unfoldable pub eventsOf : Record → List ℕ → List Event
 eventsOf GapRecord bs = Gap ∷ []
-eventsOf (BytesRecord n) bs = map Byte (carried n bs)
+eventsOf (BytesRecord n) bs = map Byte (carriedBytes n bs)
 eventsOf BadRecord bs = []
 
 -- What playing leaves: how it ended, the chip, flash, the room, and the reply frames from the start of the lent output.
-pub record Turning : Type 0 where
-  pub turned : Turned
+pub record RecordPlaying : Type 0 where
+  pub ended : RecordEnded
   pub chip : Chip
   pub memory : Flash
   pub room : List ℕ
   pub output : List ℕ
 
-abbrev pub turning : Turn → Flash → List ℕ → List ℕ → Turning
-turning t m room output = record { turned = t .turned; chip = t .chip; memory = m; room = room; output = output }
+abbrev pub recordPlaying : PlayedRecord → Flash → List ℕ → List ℕ → RecordPlaying
+recordPlaying t m room output = record { ended = t .ended; chip = t .chip; memory = m; room = room; output = output }
 
-unfoldable pub turnedBy : Answer → Playing → Turned
-turnedBy (Replied bytes frames) x = Played (length (x .said)) (x .frames)
-turnedBy (Answer.Refused r) x = Turned.Refused r
+unfoldable pub endedBy : Answer → Playing → RecordEnded
+endedBy (Replied bytes frames) x = Played (length (x .said)) (x .frames)
+endedBy (Answer.Refused r) x = RecordEnded.Refused r
 
-unfoldable pub kept : Playing → List ℕ → Turning
-kept x output =
+unfoldable pub playedInto : Playing → List ℕ → RecordPlaying
+playedInto x output =
     record {
-      turned = turnedBy (x .left .answer) x;
+      ended = endedBy (x .left .answer) x;
       chip = x .left .chip;
       memory = x .left .memory;
       room = x .left .room;
@@ -91,22 +91,22 @@ kept x output =
 abbrev pub outputLeast : ℕ
 outputLeast = 192
 
-abbrev pub unchanged : Turned → Chip → Flash → List ℕ → List ℕ → Turning
-unchanged t c m room output = record { turned = t; chip = c; memory = m; room = room; output = output }
+abbrev pub unchanged : RecordEnded → Chip → Flash → List ℕ → List ℕ → RecordPlaying
+unchanged t c m room output = record { ended = t; chip = c; memory = m; room = room; output = output }
 
-unfoldable pub turnWith : List Event → Part → Chip → Flash → List ℕ → List ℕ → Turning
-turnWith vs p c m room output =
-    if ltb (length output) outputLeast then unchanged (Turned.Refused ShortRoom) c m room output
-    else kept (played p vs (starting c m room)) output
+unfoldable pub playWith : List Event → Part → Chip → Flash → List ℕ → List ℕ → RecordPlaying
+playWith vs p c m room output =
+    if ltb (length output) outputLeast then unchanged (RecordEnded.Refused ShortRoom) c m room output
+    else playedInto (played p vs (beforePlaying c m room)) output
 
 -- A record is judged whole before any of its bytes is fed.
-unfoldable pub turnBy : Record → Part → List ℕ → Chip → Flash → List ℕ → List ℕ → Turning
-turnBy GapRecord p bs c m room output = turnWith (eventsOf GapRecord bs) p c m room output
-turnBy (BytesRecord n) p bs c m room output = turnWith (eventsOf (BytesRecord n) bs) p c m room output
-turnBy BadRecord p bs c m room output = unchanged NotGood c m room output
+unfoldable pub playBy : Record → Part → List ℕ → Chip → Flash → List ℕ → List ℕ → RecordPlaying
+playBy GapRecord p bs c m room output = playWith (eventsOf GapRecord bs) p c m room output
+playBy (BytesRecord n) p bs c m room output = playWith (eventsOf (BytesRecord n) bs) p c m room output
+playBy BadRecord p bs c m room output = unchanged NotGood c m room output
 
-unfoldable pub turnOf : Part → List ℕ → Chip → Flash → List ℕ → List ℕ → Turning
-turnOf p bs c m room output = turnBy (recordOf recordSize bs) p bs c m room output
+unfoldable pub playOf : Part → List ℕ → Chip → Flash → List ℕ → List ℕ → RecordPlaying
+playOf p bs c m room output = playBy (recordOf recordSize bs) p bs c m room output
 
 -- A capture's records one after the other: how it ended, how many records were played, how many bytes and frames of replies stand in the output, and what
 -- the last record left.
@@ -134,8 +134,8 @@ replaying r m room output =
     }
 
 -- A record's replies follow those of the records before it.
-abbrev pub afterTurn : Ended → ℕ → ℕ → ℕ → Turning → Replaying → Replaying
-afterTurn e records bytes frames t x =
+abbrev pub afterRecord : Ended → ℕ → ℕ → ℕ → RecordPlaying → Replaying → Replaying
+afterRecord e records bytes frames t x =
     record {
       ended = e;
       records = x .records + records;
@@ -147,15 +147,15 @@ afterTurn e records bytes frames t x =
       output = take (x .bytes) (x .output) ++ t .output;
     }
 
-unfoldable pub nextBy : Turned → Turning → Replaying → Replaying
-nextBy (Played bytes frames) t x = afterTurn Whole 1 bytes frames t x
-nextBy NotGood t x = afterTurn AtBadRecord 0 0 0 t x
-nextBy (Turned.Refused r) t x = afterTurn (Ended.Refused r) 0 0 0 t x
+unfoldable pub nextBy : RecordEnded → RecordPlaying → Replaying → Replaying
+nextBy (Played bytes frames) t x = afterRecord Whole 1 bytes frames t x
+nextBy NotGood t x = afterRecord AtBadRecord 0 0 0 t x
+nextBy (RecordEnded.Refused r) t x = afterRecord (Ended.Refused r) 0 0 0 t x
 
 abbrev pub nextOf : Part → List ℕ → Replaying → Replaying
 nextOf p r x =
-    let t = turnOf p r (x .chip) (x .memory) (x .room) (drop (x .bytes) (x .output)) in
-    nextBy (t .turned) t x
+    let t = playOf p r (x .chip) (x .memory) (x .room) (drop (x .bytes) (x .output)) in
+    nextBy (t .ended) t x
 
 -- "a bad or short record prints `BAD`, a space and its number from 0, and stops there": its number is that of the records played.
 unfoldable pub whileWhole : Ended → Replaying → Replaying → Replaying

@@ -6,7 +6,7 @@ ghost use Prim.Native.Nat.{_<_, _≤_};
 ghost use lib.ListN.{length};
 ghost use Rattle.chip.specs.declared.Event.the-variants.{Byte, Gap};
 ghost use Rattle.chip_core.specs.Effect.{flash};
-ghost use Rattle.replay_records.specs.Records.{kept, played, replaying, replayOf, replayPart, starting, turning, turnOf};
+ghost use Rattle.replay_records.specs.Records.{beforePlaying, playOf, played, playedInto, recordPlaying, replayOf, replayPart, replaying};
 ghost use Rattle.replay_records.specs.inner.Loop.{recordEnd};
 use chip::Answer;
 use chip::Event;
@@ -17,14 +17,14 @@ use part::refusal::Refusal;
 use replay_capture::Record;
 
 // How playing ended: with so many bytes and frames of replies; at a record that is not good; or at a call that the chip refused.
-pub enum Turned {
+pub enum RecordEnded {
     Played { bytes: usize, frames: usize },
     NotGood,
     Refused(Refusal),
 }
 
-pub struct Turn {
-    pub turned: Turned,
+pub struct PlayedRecord {
+    pub ended: RecordEnded,
     pub chip: Chip,
 }
 
@@ -35,16 +35,17 @@ fn play_gap(
     data: &mut [u8],
     room: &mut [u8],
     output: &mut [u8],
-) -> Turn
+) -> PlayedRecord
     requires { ⌜ 192 ≤ length (now output) ⌝ }
-    ensures { λ r. ⌜ turning r (flash (now (code .exit)) (now («data» .exit))) (now (room .exit)) (now (output .exit)) ≡ kept (played part (Gap ∷ []) (starting chip (flash (now (code .entry)) (now («data» .entry))) (now (room .entry)))) (now (output .entry)) ⌝ }
+    ensures { λ r. ⌜ recordPlaying r (flash (now (code .exit)) (now («data» .exit))) (now (room .exit)) (now (output .exit))
+        ≡ playedInto (played part (Gap ∷ []) (beforePlaying chip (flash (now (code .entry)) (now («data» .entry))) (now (room .entry)))) (now (output .entry)) ⌝ }
 {
     let step = events::step(part, chip, Event::Gap, code, data, room);
     let answer = step.answer;
     let chip = step.chip;
     match answer {
-        Answer::Refused(refusal) => Turn {
-            turned: Turned::Refused(refusal),
+        Answer::Refused(refusal) => PlayedRecord {
+            ended: RecordEnded::Refused(refusal),
             chip,
         },
         Answer::Replied {
@@ -52,8 +53,8 @@ fn play_gap(
             frames: k,
         } => {
             lent::put(output, 0, &room[0..n]);
-            Turn {
-                turned: Turned::Played {
+            PlayedRecord {
+                ended: RecordEnded::Played {
                     bytes: n,
                     frames: k,
                 },
@@ -71,9 +72,11 @@ fn play_bytes(
     data: &mut [u8],
     room: &mut [u8],
     output: &mut [u8],
-) -> Turn
+) -> PlayedRecord
     requires { ⌜ (length (now bytes) ≤ 6) × (192 ≤ length (now output)) ⌝ }
-    ensures { λ r. ⌜ turning r (flash (now (code .exit)) (now («data» .exit))) (now (room .exit)) (now (output .exit)) ≡ kept (played part (map Byte (now (bytes .entry))) (starting chip (flash (now (code .entry)) (now («data» .entry))) (now (room .entry)))) (now (output .entry)) ⌝ }
+    ensures { λ r. ⌜ recordPlaying r (flash (now (code .exit)) (now («data» .exit))) (now (room .exit)) (now (output .exit))
+        ≡ playedInto (played part (map Byte (now (bytes .entry))) (beforePlaying chip (flash (now (code .entry)) (now («data» .entry))) (now (room .entry))))
+        (now (output .entry)) ⌝ }
 {
     let mut last = chip;
     let mut i = 0;
@@ -86,8 +89,8 @@ fn play_bytes(
         let answer = fed.answer;
         match answer {
             Answer::Refused(refusal) => {
-                return Turn {
-                    turned: Turned::Refused(refusal),
+                return PlayedRecord {
+                    ended: RecordEnded::Refused(refusal),
                     chip: last,
                 };
             }
@@ -101,8 +104,8 @@ fn play_bytes(
             }
         }
     }
-    Turn {
-        turned: Turned::Played {
+    PlayedRecord {
+        ended: RecordEnded::Played {
             bytes: said,
             frames,
         },
@@ -111,7 +114,7 @@ fn play_bytes(
 }
 
 // One record: judged whole, then its events one after the other. Output under 192 bytes is refused.
-pub fn record(
+pub fn play(
     part: Part,
     chip: Chip,
     bytes: &[u8],
@@ -119,19 +122,20 @@ pub fn record(
     data: &mut [u8],
     room: &mut [u8],
     output: &mut [u8],
-) -> Turn
-    ensures { λ r. ⌜ turning r (flash (now (code .exit)) (now («data» .exit))) (now (room .exit)) (now (output .exit)) ≡ turnOf part (now (bytes .entry)) chip (flash (now (code .entry)) (now («data» .entry))) (now (room .entry)) (now (output .entry)) ⌝ }
+) -> PlayedRecord
+    ensures { λ r. ⌜ recordPlaying r (flash (now (code .exit)) (now («data» .exit))) (now (room .exit)) (now (output .exit))
+        ≡ playOf part (now (bytes .entry)) chip (flash (now (code .entry)) (now («data» .entry))) (now (room .entry)) (now (output .entry)) ⌝ }
 {
     let judged = replay_capture::read(bytes);
     match judged {
-        Record::BadRecord => Turn {
-            turned: Turned::NotGood,
+        Record::BadRecord => PlayedRecord {
+            ended: RecordEnded::NotGood,
             chip,
         },
         Record::GapRecord => {
             if output.len() < 192 {
-                return Turn {
-                    turned: Turned::Refused(Refusal::ShortRoom),
+                return PlayedRecord {
+                    ended: RecordEnded::Refused(Refusal::ShortRoom),
                     chip,
                 };
             }
@@ -139,8 +143,8 @@ pub fn record(
         }
         Record::BytesRecord(n) => {
             if output.len() < 192 {
-                return Turn {
-                    turned: Turned::Refused(Refusal::ShortRoom),
+                return PlayedRecord {
+                    ended: RecordEnded::Refused(Refusal::ShortRoom),
                     chip,
                 };
             }
@@ -188,7 +192,8 @@ pub fn replay(
     room: &mut [u8],
     output: &mut [u8],
 ) -> Replayed
-    ensures { λ r. ⌜ replaying r (flash (now (code .exit)) (now («data» .exit))) (now (room .exit)) (now (output .exit)) ≡ replayOf part (now (capture .entry)) chip (flash (now (code .entry)) (now («data» .entry))) (now (room .entry)) (now (output .entry)) ⌝ }
+    ensures { λ r. ⌜ replaying r (flash (now (code .exit)) (now («data» .exit))) (now (room .exit)) (now (output .exit))
+        ≡ replayOf part (now (capture .entry)) chip (flash (now (code .entry)) (now («data» .entry))) (now (room .entry)) (now (output .entry)) ⌝ }
 {
     let mut last = chip;
     let mut at = 0;
@@ -197,7 +202,7 @@ pub fn replay(
     let mut frames = 0;
     while at < capture.len() {
         let end = record_end(at, capture.len());
-        let t = record(
+        let t = play(
             part,
             last,
             &capture[at..end],
@@ -207,9 +212,9 @@ pub fn replay(
             &mut output[bytes..],
         );
         last = t.chip;
-        let turned = t.turned;
-        match turned {
-            Turned::Played {
+        let ended = t.ended;
+        match ended {
+            RecordEnded::Played {
                 bytes: n,
                 frames: k,
             } => {
@@ -218,7 +223,7 @@ pub fn replay(
                 bytes = bytes + n;
                 frames = frames + k;
             }
-            Turned::NotGood => {
+            RecordEnded::NotGood => {
                 return Replayed {
                     ended: Ended::AtBadRecord,
                     records,
@@ -227,7 +232,7 @@ pub fn replay(
                     chip: last,
                 };
             }
-            Turned::Refused(refusal) => {
+            RecordEnded::Refused(refusal) => {
                 return Replayed {
                     ended: Ended::Refused(refusal),
                     records,

@@ -9,7 +9,13 @@ use Rattle.replay.proofs.replay.Statement.{statement}
 use Rattle.replay.proofs.replay.Tie as tie
 
 abbrev Inv-loop : tie.InvT-loop
-Inv-loop fd name part chip₀ code₀ data₀ room₀ capture₀ output₀ text₀ records₀ frames₀ turns₀ t19 t20 chip code «data» room capture output text records frames turns = (length code ≡ 16384) × (length «data» ≡ 4096) × (length room ≡ 32) × (length capture ≡ 2048) × (length output ≡ 65536) × (length text ≡ 65536)
+Inv-loop fd name part chip₀ code₀ data₀ room₀ capture₀ output₀ text₀ records₀ frames₀ turns₀ t19 t20 chip code «data» room capture output text records frames turns =
+    (length code ≡ 16384)
+    × (length «data» ≡ 4096)
+    × (length room ≡ 32)
+    × (length capture ≡ 2048)
+    × (length output ≡ 65536)
+    × (length text ≡ 65536)
 
 abbrev μ-loop : tie.MeasureT-loop
 μ-loop fd name part chip₀ code₀ data₀ room₀ capture₀ output₀ text₀ records₀ frames₀ turns₀ t19 t20 chip code «data» room capture output text records frames turns = turns

@@ -14,7 +14,10 @@ returns c = simp (eq-eqb _ _ (c .before .before .before .if1 .taken ∙ c .befor
 
 returns-2 : tie.Need-returns-2
 unfolding recordOf if_then_else_
-returns-2 c = simp (eq-eqb _ _ (c .before .before .before .before .if1 .taken ∙ c .before .before .before .before .before .record-size .ensures), ne-eqb _ _ (c .before .before .if2 .left), eq-eqb _ _ (c .before .if3 .taken), ← c .bytes-record .ensures)
+returns-2 c =
+    let record-size = c .before .before .before .before .before .record-size in
+    let if1 = c .before .before .before .before .if1 in
+    simp (eq-eqb _ _ (if1 .taken ∙ record-size .ensures), ne-eqb _ _ (c .before .before .if2 .left), eq-eqb _ _ (c .before .if3 .taken), ← c .bytes-record .ensures)
 
 returns-3 : tie.Need-returns-3
 unfolding recordOf if_then_else_

@@ -28,7 +28,8 @@ slice-write-text-2 c = omega (arith, length-set (c .before .before .before .befo
 
 slice-write-text-3 : tie.Need-slice-write-text-3 Inv-loop μ-loop
 slice-write-text-3 c =
-    omega (arith, length-set (c .before .before .before .before .before .loop .text) (3 * c .before .before .before .before .before .loop .i) (c .before .before .digit .result), length-set (set (c .before .before .before .before .before .loop .text) (3 * c .before .before .before .before .before .loop .i) (c .before .before .digit .result)) (3 * c .before .before .before .before .before .loop .i + 1) (c .before .digit2 .result))
+    let loop = c .before .before .before .before .before .loop in
+    omega (arith, length-set (loop .text) (3 * loop .i) (c .before .before .digit .result), length-set (set (loop .text) (3 * loop .i) (c .before .before .digit .result)) (3 * loop .i + 1) (c .before .digit2 .result))
 
 loop-again : tie.Need-loop-again Inv-loop μ-loop
 loop-again c =

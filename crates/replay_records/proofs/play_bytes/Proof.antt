@@ -11,7 +11,7 @@ use Rattle.chip.specs.declared.Event.the-variants.{Byte}
 use Rattle.chip_core.specs.Effect.{flash}
 use Rattle.frame.specs.Framing.{frames}
 use Rattle.replay_records.proofs.Laws.{PlayedFrom, played-end, played-refused, played-start, played-turn, turn-said, turn-takes, turn-within}
-use Rattle.replay_records.specs.Records.{played, starting}
+use Rattle.replay_records.specs.Records.{played, beforePlaying}
 use Rattle.chip_reply.specs.Reply.{said}
 use Rattle.replay_records.proofs.play_bytes.Statement.{statement}
 use Rattle.replay_records.proofs.play_bytes.Tie as tie
@@ -24,7 +24,7 @@ Inv-loop part bytes code₀ data₀ room₀ output₀ last₀ i₀ said₀ frame
     × (length bytes ≤ 6)
     × (192 ≤ length output₀)
     × Arrays part
-    × PlayedFrom part bytes last (flash code «data») room i said frames output₀ output (played part (map Byte bytes) (starting last₀ (flash code₀ data₀) room₀))
+    × PlayedFrom part bytes last (flash code «data») room i said frames output₀ output (played part (map Byte bytes) (beforePlaying last₀ (flash code₀ data₀) room₀))
 
 abbrev μ-loop : tie.MeasureT-loop
 μ-loop part bytes code₀ data₀ room₀ output₀ last₀ i₀ said₀ frames₀ code «data» room output last i said frames = length bytes - i
@@ -45,35 +45,54 @@ part-put-end c =
 
 add-said : tie.Need-add-said Inv-loop μ-loop
 add-said c =
-    let x = c .before .before .before .before .before .before .before .before .before .before .before .before .before .before .before .before .before .before .before .before .before .before .before .loop .inv in
-    omega (arith, turn-said _ (x .6) (x .5) (c .before .before .before .before .before .before .before .before .before .before .before .before .before .before .before .before .before .feed .ensures) (c .before .before .before .before .before .before .before .answer2 .given .1) .0, x .6 .short, x .3, c .before .before .before .before .before .before .before .before .before .before .before .before .before .before .before .before .before .before .before .before .before .before .loop-test .taken)
+    let loop = c .before .before .before .before .before .before .before .before .before .before .before .before .before .before .before .before .before .before .before .before .before .before .before .loop in
+    let loop-test = c .before .before .before .before .before .before .before .before .before .before .before .before .before .before .before .before .before .before .before .before .before .before .loop-test in
+    let feed = c .before .before .before .before .before .before .before .before .before .before .before .before .before .before .before .before .before .feed in
+    let answer2 = c .before .before .before .before .before .before .before .answer2 in
+    let x = loop .inv in
+    omega (arith, turn-said _ (x .6) (x .5) (feed .ensures) (answer2 .given .1) .0, x .6 .short, x .3, loop-test .taken)
 
 add-frames : tie.Need-add-frames Inv-loop μ-loop
 add-frames c =
-    let x = c .before .before .before .before .before .before .before .before .before .before .before .before .before .before .before .before .before .before .before .before .before .before .before .loop .inv in
-    omega (arith, turn-said _ (x .6) (x .5) (c .before .before .before .before .before .before .before .before .before .before .before .before .before .before .before .before .before .feed .ensures) (c .before .before .before .before .before .before .before .answer2 .given .1) .2, x .6 .few, x .3, c .before .before .before .before .before .before .before .before .before .before .before .before .before .before .before .before .before .before .before .before .before .before .loop-test .taken)
+    let loop = c .before .before .before .before .before .before .before .before .before .before .before .before .before .before .before .before .before .before .before .before .before .before .before .loop in
+    let loop-test = c .before .before .before .before .before .before .before .before .before .before .before .before .before .before .before .before .before .before .before .before .before .before .loop-test in
+    let feed = c .before .before .before .before .before .before .before .before .before .before .before .before .before .before .before .before .before .feed in
+    let answer2 = c .before .before .before .before .before .before .before .answer2 in
+    let x = loop .inv in
+    omega (arith, turn-said _ (x .6) (x .5) (feed .ensures) (answer2 .given .1) .2, x .6 .few, x .3, loop-test .taken)
 
 loop-less : tie.Need-loop-less Inv-loop μ-loop
 loop-less c =
-    let x = c .before .before .before .before .before .before .before .before .before .before .before .before .before .before .before .before .before .before .before .before .before .before .before .loop .inv in
-    omega (arith, turn-takes _ (x .6) (c .before .before .before .before .before .before .before .before .before .before .before .before .before .before .before .before .before .feed .ensures) (c .before .before .before .before .before .before .before .before .before .before .before .before .before .before .before .before .before .before .before .before .before .before .loop-test .taken) (c .before .before .before .before .before .before .before .answer2 .given .1), turn-within _ (x .6) (c .before .before .before .before .before .before .before .before .before .before .before .before .before .before .before .before .before .feed .ensures))
+    let loop = c .before .before .before .before .before .before .before .before .before .before .before .before .before .before .before .before .before .before .before .before .before .before .before .loop in
+    let loop-test = c .before .before .before .before .before .before .before .before .before .before .before .before .before .before .before .before .before .before .before .before .before .before .loop-test in
+    let feed = c .before .before .before .before .before .before .before .before .before .before .before .before .before .before .before .before .before .feed in
+    let answer2 = c .before .before .before .before .before .before .before .answer2 in
+    let x = loop .inv in
+    omega (arith, turn-takes _ (x .6) (feed .ensures) (loop-test .taken) (answer2 .given .1), turn-within _ (x .6) (feed .ensures))
 
 loop-again : tie.Need-loop-again Inv-loop μ-loop
 loop-again c =
-    let x = c .before .before .before .before .before .before .before .before .before .before .before .before .before .before .before .before .before .before .before .before .before .before .before .loop .inv in (
-      c .before .before .before .before .before .before .before .before .before .before .before .before .before .before .before .before .before .feed .kept .1 .1 .1 .0 ∙ x .0,
-      c .before .before .before .before .before .before .before .before .before .before .before .before .before .before .before .before .before .feed .kept .1 .1 .1 .1 .0 ∙ x .1,
-      c .before .before .before .before .before .before .before .before .before .before .before .before .before .before .before .before .before .feed .kept .1 .1 .1 .1 .1 .0 ∙ x .2,
+    let loop = c .before .before .before .before .before .before .before .before .before .before .before .before .before .before .before .before .before .before .before .before .before .before .before .loop in
+    let loop-test = c .before .before .before .before .before .before .before .before .before .before .before .before .before .before .before .before .before .before .before .before .before .before .loop-test in
+    let feed = c .before .before .before .before .before .before .before .before .before .before .before .before .before .before .before .before .before .feed in
+    let answer2 = c .before .before .before .before .before .before .before .answer2 in
+    let x = loop .inv in (
+      feed .kept .1 .1 .1 .0 ∙ x .0,
+      feed .kept .1 .1 .1 .1 .0 ∙ x .1,
+      feed .kept .1 .1 .1 .1 .1 .0 ∙ x .2,
       x .3,
       x .4,
       x .5,
-      played-turn _ (x .6) (x .5) (c .before .before .before .before .before .before .before .before .before .before .before .before .before .before .before .before .before .feed .ensures) (c .before .before .before .before .before .before .before .before .before .before .before .before .before .before .before .before .before .before .before .before .before .before .loop-test .taken) (c .before .before .before .before .before .before .before .answer2 .given .1) (x .3) (x .4) (c .before .before .put .ensures),
+      played-turn _ (x .6) (x .5) (feed .ensures) (loop-test .taken) (answer2 .given .1) (x .3) (x .4) (c .before .before .put .ensures),
     )
 
 returns : tie.Need-returns Inv-loop μ-loop
 returns c =
-    let x = c .before .before .before .before .before .before .before .before .before .before .before .before .before .before .before .before .before .loop .inv in
-    played-refused _ (x .6) (x .5) (c .before .before .before .before .before .before .before .before .before .before .before .feed .ensures) (c .before .before .before .before .before .before .before .before .before .before .before .before .before .before .before .before .loop-test .taken) (c .before .answer .given .1)
+    let loop = c .before .before .before .before .before .before .before .before .before .before .before .before .before .before .before .before .before .loop in
+    let loop-test = c .before .before .before .before .before .before .before .before .before .before .before .before .before .before .before .before .loop-test in
+    let feed = c .before .before .before .before .before .before .before .before .before .before .before .feed in
+    let x = loop .inv in
+    played-refused _ (x .6) (x .5) (feed .ensures) (loop-test .taken) (c .before .answer .given .1)
 
 returns-2 : tie.Need-returns-2 Inv-loop μ-loop
 returns-2 c = played-end (c .before .loop .inv .6) (c .loop-test .left)

@@ -12,13 +12,21 @@ arrays : (c : tie.Start) → Arrays (c .args .part)
 arrays c = record { deviceLong = search needs; nameLong = search needs; versionLong = search needs }
 
 part-put-end : tie.Need-part-put-end
-part-put-end c = omega (arith, one-lies _ _ _ _ _ _ _ _ (arrays (c .before .before .before .before .before .before .before .before .before .before .before .before .before .before .before .before .before .before .before .before)) (c .before .before .before .before .before .before .before .before .before .before .before .before .step .ensures) (c .before .before .before .answer2 .given .1))
+part-put-end c =
+    let start = c .before .before .before .before .before .before .before .before .before .before .before .before .before .before .before .before .before .before .before .before in
+    let step = c .before .before .before .before .before .before .before .before .before .before .before .before .step in
+    let answer2 = c .before .before .before .answer2 in
+    omega (arith, one-lies _ _ _ _ _ _ _ _ (arrays start) (step .ensures) (answer2 .given .1))
 
 returns : tie.Need-returns
 returns c = one-refused _ _ _ _ _ _ _ _ (c .before .before .before .before .before .before .before .before .before .before .step .ensures) (c .before .answer .given .1)
 
 returns-2 : tie.Need-returns-2
-returns-2 c = one-said _ _ _ _ _ _ _ _ _ _ _ (arrays (c .before .before .before .before .before .before .before .before .before .before .before .before .before .before .before .before .before .before .before .before .before .before .before .before)) (c .before .before .before .before .before .before .before .before .before .before .before .before .before .before .before .before .step .ensures) (c .before .before .before .before .before .before .before .answer2 .given .1) (search needs) (c .before .before .put .ensures)
+returns-2 c =
+    let start = c .before .before .before .before .before .before .before .before .before .before .before .before .before .before .before .before .before .before .before .before .before .before .before .before in
+    let step = c .before .before .before .before .before .before .before .before .before .before .before .before .before .before .before .before .step in
+    let answer2 = c .before .before .before .before .before .before .before .answer2 in
+    one-said _ _ _ _ _ _ _ _ _ _ _ (arrays start) (step .ensures) (answer2 .given .1) (search needs) (c .before .before .put .ensures)
 
 pub play-gap-spec : {M : Type 1} → statement M
 play-gap-spec =

@@ -8,7 +8,7 @@ use borrow.Author.Needs.{needs}
 use Rattle.part.specs.Part.{Arrays}
 use Rattle.chip_core.specs.Effect.{flash}
 use Rattle.frame.specs.Framing.{frames}
-use Rattle.replay_records.proofs.Loop.{ReplayedFrom, end-after, end-within, output-kept, replayed-bad, replayed-end, replayed-halted, replayed-start, replayed-turn, turn-lies}
+use Rattle.replay_records.proofs.Loop.{ReplayedFrom, end-after, end-within, output-kept, replayed-bad, replayed-end, replayed-refused, replayed-start, replayed-turn, turn-lies}
 use Rattle.replay_records.specs.Records.{replayOf}
 use Rattle.replay_records.specs.declared.Ended.the-variants.{Whole}
 use Rattle.replay_records.proofs.replay.Statement.{statement}
@@ -30,61 +30,87 @@ abbrev μ-loop : tie.MeasureT-loop
 loop-holds : tie.Need-loop-holds Inv-loop μ-loop
 loop-holds c = (refl, refl, refl, refl, omega arith, record { deviceLong = search needs; nameLong = search needs; versionLong = search needs }, replayed-start _ _ _ _ _ _)
 
-part-record-end : tie.Need-part-record-end Inv-loop μ-loop
-part-record-end c = omega (arith, c .record-end .ensures, end-within _ _ (c .before .loop-test .taken))
+part-play-end : tie.Need-part-play-end Inv-loop μ-loop
+part-play-end c = omega (arith, c .record-end .ensures, end-within _ _ (c .before .loop-test .taken))
 
-part-record-start : tie.Need-part-record-start Inv-loop μ-loop
-part-record-start c = omega (arith, c .record-end .ensures, end-after _ _ (c .before .loop-test .taken))
+part-play-start : tie.Need-part-play-start Inv-loop μ-loop
+part-play-start c = omega (arith, c .record-end .ensures, end-after _ _ (c .before .loop-test .taken))
 
-sub-record : tie.Need-sub-record Inv-loop μ-loop
-sub-record c = omega (arith, c .record-end .ensures, end-after _ _ (c .before .loop-test .taken))
+sub-play : tie.Need-sub-play Inv-loop μ-loop
+sub-play c = omega (arith, c .record-end .ensures, end-after _ _ (c .before .loop-test .taken))
 
-sub-record-2 : tie.Need-sub-record-2 Inv-loop μ-loop
-sub-record-2 c = omega (arith, c .before .before .before .before .before .before .loop .inv .6 .stands)
+sub-play-2 : tie.Need-sub-play-2 Inv-loop μ-loop
+sub-play-2 c = omega (arith, c .before .before .before .before .before .before .loop .inv .6 .stands)
 
-part-record-start-2 : tie.Need-part-record-start-2 Inv-loop μ-loop
-part-record-start-2 c = omega (arith, c .before .before .before .before .before .before .loop .inv .6 .stands)
+part-play-start-2 : tie.Need-part-play-start-2 Inv-loop μ-loop
+part-play-start-2 c = omega (arith, c .before .before .before .before .before .before .loop .inv .6 .stands)
 
-part-record-end-2 : tie.Need-part-record-end-2 Inv-loop μ-loop
-part-record-end-2 c = omega (arith, c .before .before .before .before .before .before .loop .inv .6 .stands)
+part-play-end-2 : tie.Need-part-play-end-2 Inv-loop μ-loop
+part-play-end-2 c = omega (arith, c .before .before .before .before .before .before .loop .inv .6 .stands)
 
 add-records : tie.Need-add-records Inv-loop μ-loop
 add-records c =
-    let x = c .before .before .before .before .before .before .before .before .before .before .before .before .before .before .before .before .before .before .before .before .loop .inv in
-    omega (arith, x .6 .counted, c .before .before .before .before .before .before .before .before .before .before .before .before .before .before .before .before .before .before .record-end .ensures, end-after _ _ (c .before .before .before .before .before .before .before .before .before .before .before .before .before .before .before .before .before .before .before .loop-test .taken))
+    let loop = c .before .before .before .before .before .before .before .before .before .before .before .before .before .before .before .before .before .before .before .before .loop in
+    let loop-test = c .before .before .before .before .before .before .before .before .before .before .before .before .before .before .before .before .before .before .before .loop-test in
+    let record-end = c .before .before .before .before .before .before .before .before .before .before .before .before .before .before .before .before .before .before .record-end in
+    let x = loop .inv in
+    omega (arith, x .6 .counted, record-end .ensures, end-after _ _ (loop-test .taken))
 
 add-bytes : tie.Need-add-bytes Inv-loop μ-loop
 add-bytes c =
-    let x = c .before .before .before .before .before .before .before .before .before .before .before .before .before .before .before .before .before .before .before .before .loop .inv in
-    omega (arith, turn-lies _ (x .6) (x .5) (c .before .before .before .before .before .before .before .before .before .before .before .before .before .before .before .before .before .before .record-end .ensures) (c .before .before .before .before .before .before .before .before .before .before .before .before .«record» .ensures) (c .before .turned .given .1) .0, x .3, x .4)
+    let loop = c .before .before .before .before .before .before .before .before .before .before .before .before .before .before .before .before .before .before .before .before .loop in
+    let record-end = c .before .before .before .before .before .before .before .before .before .before .before .before .before .before .before .before .before .before .record-end in
+    let play = c .before .before .before .before .before .before .before .before .before .before .before .before .play in
+    let x = loop .inv in
+    omega (arith, turn-lies _ (x .6) (x .5) (record-end .ensures) (play .ensures) (c .before .ended .given .1) .0, x .3, x .4)
 
 add-frames : tie.Need-add-frames Inv-loop μ-loop
 add-frames c =
-    let x = c .before .before .before .before .before .before .before .before .before .before .before .before .before .before .before .before .before .before .before .before .loop .inv in
-    let y = turn-lies _ (x .6) (x .5) (c .before .before .before .before .before .before .before .before .before .before .before .before .before .before .before .before .before .before .record-end .ensures) (c .before .before .before .before .before .before .before .before .before .before .before .before .«record» .ensures) (c .before .turned .given .1) in
+    let loop = c .before .before .before .before .before .before .before .before .before .before .before .before .before .before .before .before .before .before .before .before .loop in
+    let record-end = c .before .before .before .before .before .before .before .before .before .before .before .before .before .before .before .before .before .before .record-end in
+    let play = c .before .before .before .before .before .before .before .before .before .before .before .before .play in
+    let x = loop .inv in
+    let y = turn-lies _ (x .6) (x .5) (record-end .ensures) (play .ensures) (c .before .ended .given .1) in
     omega (arith, y .0, y .1, x .6 .framed, x .3, x .4)
 
 loop-less : tie.Need-loop-less Inv-loop μ-loop
-loop-less c = omega (arith, c .before .before .before .before .before .before .before .before .before .before .before .before .before .before .before .before .before .before .record-end .ensures, end-after _ _ (c .before .before .before .before .before .before .before .before .before .before .before .before .before .before .before .before .before .before .before .loop-test .taken), end-within _ _ (c .before .before .before .before .before .before .before .before .before .before .before .before .before .before .before .before .before .before .before .loop-test .taken))
+loop-less c =
+    let loop-test = c .before .before .before .before .before .before .before .before .before .before .before .before .before .before .before .before .before .before .before .loop-test in
+    let record-end = c .before .before .before .before .before .before .before .before .before .before .before .before .before .before .before .before .before .before .record-end in
+    omega (arith, record-end .ensures, end-after _ _ (loop-test .taken), end-within _ _ (loop-test .taken))
 
 loop-again : tie.Need-loop-again Inv-loop μ-loop
 loop-again c =
-    let x = c .before .before .before .before .before .before .before .before .before .before .before .before .before .before .before .before .before .before .before .before .loop .inv in
-    let l = output-kept _ (x .6) (c .before .before .before .before .before .before .before .before .before .before .before .before .before .before .before .before .before .before .record-end .ensures) (c .before .before .before .before .before .before .before .before .before .before .before .before .«record» .ensures) (c .before .before .before .before .before .before .before .before .before .before .before .before .«record» .kept .1 .1 .1 .1 .1 .1 .0) in (
-      c .before .before .before .before .before .before .before .before .before .before .before .before .«record» .kept .1 .1 .1 .0 ∙ x .0,
-      c .before .before .before .before .before .before .before .before .before .before .before .before .«record» .kept .1 .1 .1 .1 .0 ∙ x .1,
-      c .before .before .before .before .before .before .before .before .before .before .before .before .«record» .kept .1 .1 .1 .1 .1 .0 ∙ x .2,
+    let loop = c .before .before .before .before .before .before .before .before .before .before .before .before .before .before .before .before .before .before .before .before .loop in
+    let loop-test = c .before .before .before .before .before .before .before .before .before .before .before .before .before .before .before .before .before .before .before .loop-test in
+    let record-end = c .before .before .before .before .before .before .before .before .before .before .before .before .before .before .before .before .before .before .record-end in
+    let play = c .before .before .before .before .before .before .before .before .before .before .before .before .play in
+    let x = loop .inv in
+    let l = output-kept _ (x .6) (record-end .ensures) (play .ensures) (play .kept .1 .1 .1 .1 .1 .1 .0) in (
+      play .kept .1 .1 .1 .0 ∙ x .0,
+      play .kept .1 .1 .1 .1 .0 ∙ x .1,
+      play .kept .1 .1 .1 .1 .1 .0 ∙ x .2,
       l ∙ x .3,
       x .4,
       x .5,
-      replayed-turn _ (x .6) (x .5) (c .before .before .before .before .before .before .before .before .before .before .before .before .before .before .before .before .before .before .before .loop-test .taken) (c .before .before .before .before .before .before .before .before .before .before .before .before .before .before .before .before .before .before .record-end .ensures) (c .before .before .before .before .before .before .before .before .before .before .before .before .«record» .ensures) (c .before .turned .given .1) l,
+      replayed-turn _ (x .6) (x .5) (loop-test .taken) (record-end .ensures) (play .ensures) (c .before .ended .given .1) l,
     )
 
 returns : tie.Need-returns Inv-loop μ-loop
-returns c = replayed-bad _ (c .before .before .before .before .before .before .before .before .before .before .before .before .before .before .before .before .before .before .before .loop .inv .6) (c .before .before .before .before .before .before .before .before .before .before .before .before .before .before .before .before .before .before .loop-test .taken) (c .before .before .before .before .before .before .before .before .before .before .before .before .before .before .before .before .before .record-end .ensures) (c .before .before .before .before .before .before .before .before .before .before .before .«record» .ensures) (c .enum-told .given .1)
+returns c =
+    let loop = c .before .before .before .before .before .before .before .before .before .before .before .before .before .before .before .before .before .before .before .loop in
+    let loop-test = c .before .before .before .before .before .before .before .before .before .before .before .before .before .before .before .before .before .before .loop-test in
+    let record-end = c .before .before .before .before .before .before .before .before .before .before .before .before .before .before .before .before .before .record-end in
+    let play = c .before .before .before .before .before .before .before .before .before .before .before .play in
+    replayed-bad _ (loop .inv .6) (loop-test .taken) (record-end .ensures) (play .ensures) (c .enum-told .given .1)
 
 returns-2 : tie.Need-returns-2 Inv-loop μ-loop
-returns-2 c = replayed-halted _ (c .before .before .before .before .before .before .before .before .before .before .before .before .before .before .before .before .before .before .before .before .loop .inv .6) (c .before .before .before .before .before .before .before .before .before .before .before .before .before .before .before .before .before .before .before .loop-test .taken) (c .before .before .before .before .before .before .before .before .before .before .before .before .before .before .before .before .before .before .record-end .ensures) (c .before .before .before .before .before .before .before .before .before .before .before .before .«record» .ensures) (c .before .turned2 .given .1)
+returns-2 c =
+    let loop = c .before .before .before .before .before .before .before .before .before .before .before .before .before .before .before .before .before .before .before .before .loop in
+    let loop-test = c .before .before .before .before .before .before .before .before .before .before .before .before .before .before .before .before .before .before .before .loop-test in
+    let record-end = c .before .before .before .before .before .before .before .before .before .before .before .before .before .before .before .before .before .before .record-end in
+    let play = c .before .before .before .before .before .before .before .before .before .before .before .before .play in
+    replayed-refused _ (loop .inv .6) (loop-test .taken) (record-end .ensures) (play .ensures) (c .before .ended2 .given .1)
 
 returns-3 : tie.Need-returns-3 Inv-loop μ-loop
 returns-3 c = replayed-end (c .before .loop .inv .6) (c .loop-test .left)
@@ -97,12 +123,12 @@ replay-spec =
     μ-loop
     loop-holds
     (λ c κs. c .loop-test .taken)
-    sub-record
-    part-record-start
-    part-record-end
-    sub-record-2
-    part-record-start-2
-    part-record-end-2
+    sub-play
+    part-play-start
+    part-play-end
+    sub-play-2
+    part-play-start-2
+    part-play-end-2
     (λ c κs. search needs)
     (λ c. search needs)
     add-records
@@ -114,13 +140,20 @@ replay-spec =
     (λ c. search needs)
     (λ c. search needs)
     (λ c. search needs)
-    (λ c. output-kept _ (c .before .before .before .before .before .before .before .before .before .before .before .before .before .before .before .before .before .before .before .loop .inv .6) (c .before .before .before .before .before .before .before .before .before .before .before .before .before .before .before .before .before .record-end .ensures) (c .before .before .before .before .before .before .before .before .before .before .before .«record» .ensures) (c .before .before .before .before .before .before .before .before .before .before .before .«record» .kept .1 .1 .1 .1 .1 .1 .0) ∙ c .before .before .before .before .before .before .before .before .before .before .before .before .before .before .before .before .before .before .before .loop .inv .3)
+    (λ c. output-kept _ (c .before .before .before .before .before .before .before .before .before .before .before .before .before .before .before .before .before .before .before .loop .inv .6)
+    (c .before .before .before .before .before .before .before .before .before .before .before .before .before .before .before .before .before .record-end .ensures)
+    (c .before .before .before .before .before .before .before .before .before .before .before .play .ensures) (c .before .before .before .before .before .before .before .before .before .before .before .play .kept .1 .1 .1 .1 .1 .1 .0) ∙
+    c .before .before .before .before .before .before .before .before .before .before .before .before .before .before .before .before .before .before .before .loop .inv .3)
     returns
     (λ c. search needs)
     (λ c. search needs)
     (λ c. search needs)
     (λ c. search needs)
-    (λ c. output-kept _ (c .before .before .before .before .before .before .before .before .before .before .before .before .before .before .before .before .before .before .before .before .loop .inv .6) (c .before .before .before .before .before .before .before .before .before .before .before .before .before .before .before .before .before .before .record-end .ensures) (c .before .before .before .before .before .before .before .before .before .before .before .before .«record» .ensures) (c .before .before .before .before .before .before .before .before .before .before .before .before .«record» .kept .1 .1 .1 .1 .1 .1 .0) ∙ c .before .before .before .before .before .before .before .before .before .before .before .before .before .before .before .before .before .before .before .before .loop .inv .3)
+    (λ c. output-kept _ (c .before .before .before .before .before .before .before .before .before .before .before .before .before .before .before .before .before .before .before .before .loop .inv .6)
+    (c .before .before .before .before .before .before .before .before .before .before .before .before .before .before .before .before .before .before .record-end .ensures)
+    (c .before .before .before .before .before .before .before .before .before .before .before .before .play .ensures)
+    (c .before .before .before .before .before .before .before .before .before .before .before .before .play .kept .1 .1 .1 .1 .1 .1 .0) ∙
+    c .before .before .before .before .before .before .before .before .before .before .before .before .before .before .before .before .before .before .before .before .loop .inv .3)
     returns-2
     (λ c. search needs)
     (λ c. search needs)
