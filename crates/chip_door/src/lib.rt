@@ -15,11 +15,11 @@ use frame::collector::Collector;
 pub mod calls;
 
 // The bytes of a state are known to be there: they are read without a test for each.
-fn number2(bytes: &[u8], at: usize) -> u16
+fn number2(bytes: &[u8], at: usize) -> u32
     requires { ⌜ at + 2 ≤ length (now bytes) ⌝ }
     ensures { λ r. ⌜ r ≡ numberAt 2 at (now (bytes .entry)) ⌝ }
 {
-    numbers::two(bytes[at], bytes[at + 1])
+    numbers::two(bytes[at], bytes[at + 1]) as u32
 }
 
 fn number4(bytes: &[u8], at: usize) -> u32

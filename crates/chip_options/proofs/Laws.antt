@@ -13,22 +13,22 @@ use Rattle.part.specs.Part.{blocks, described}
 use Rattle.part.specs.declared.Area.the-variants.{CodeFlash}
 use Rattle.part.specs.declared.Part.{Part}
 use Rattle.words.proofs.Laws.{and-both, and-left, and-right}
-use Rattle.words.specs.Words.{_and_, if_then_else_}
+use Rattle.words.specs.Words.{_and_}
 
 pub last-block : (p : Part) → described p ≡ true → lastBlock p < blocks p CodeFlash
-unfolding lastBlock if_then_else_
-last-block p d = let l = described-is p d in rw d (omega (arith, l .code-least))
+unfolding lastBlock
+last-block p d = omega (arith, described-is p d .code-least)
 
 pub fresh-good : (p : Part) → described p ≡ true → goodOptions p (freshOptions p) ≡ true
 unfolding goodOptions freshOptions fixedBits _and_
 fresh-good p d = simp (le-leb 0 (lastBlock p) (omega arith), lt-ltb _ _ (last-block p d))
 
-fresh-bits : fixedBits 0xFF ≡ true
+fresh-bits : (p : Part) → fixedBits p 0xFF ≡ true
 unfolding fixedBits _and_
-fresh-bits = refl
+fresh-bits p = refl
 
 pub released-good : (p : Part) (o : Options) → described p ≡ true → goodOptions p o ≡ true → goodOptions p (released p o) ≡ true
 unfolding goodOptions released
 released-good p o d g =
-    let b : eqb (o .boot) 0x03 ≡ true = and-left _ _ (and-right (fixedBits (o .flags)) _ g) in
-    and-both fresh-bits (and-both b (and-both (le-leb 0 (lastBlock p) (omega arith)) (lt-ltb _ _ (last-block p d))))
+    let b : eqb (o .boot) 0x03 ≡ true = and-left _ _ (and-right (fixedBits p (o .flags)) _ g) in
+    and-both (fresh-bits p) (and-both b (and-both (le-leb 0 (lastBlock p) (omega arith)) (lt-ltb _ _ (last-block p d))))

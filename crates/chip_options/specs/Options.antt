@@ -4,14 +4,14 @@ use mathlib.Core.List.{List, [], _∷_}
 use Prim.Native.Nat.{_%_, _-_, _/_, ℕ}
 use lib.Dec.{eqb, leb, ltb}
 use Rattle.chip_options.specs.declared.Options.{Options}
-use Rattle.part.specs.Part.{blocks, described}
+use Rattle.part.specs.Part.{blocks}
 use Rattle.part.specs.declared.Area.the-variants.{CodeFlash}
 use Rattle.part.specs.declared.Part.{Part}
-use Rattle.words.specs.Words.{_and_, _or_, if_then_else_}
+use Rattle.words.specs.Words.{_and_, _or_}
 
--- The last code block of a described part.
+-- The last code block.
 unfoldable pub lastBlock : Part → ℕ
-lastBlock p = if described p then blocks p CodeFlash - 1 else 0
+lastBlock p = blocks p CodeFlash - 1
 
 -- "flag byte (fresh FFh), last boot block (03h), window start block (fresh 0) and end block (fresh: last code block)"
 unfoldable pub freshOptions : Part → Options
@@ -30,25 +30,25 @@ eraseAllowed flags = eqb (flags / 4 % 2) 1
 abbrev pub writeAllowed : ℕ → Bool
 writeAllowed flags = eqb (flags / 16 % 2) 1
 
--- "bits 0, 3, 5, 6, 7 .. all 1"
-unfoldable pub fixedBits : ℕ → Bool
-fixedBits flags = bit0 flags and eqb (flags / 8 % 2) 1 and eqb (flags / 32 % 2) 1 and eqb (flags / 64 % 2) 1 and eqb (flags / 128 % 2) 1
+-- "bits 0, 3, 5, 6, 7 .. all 1", of every part
+unfoldable pub fixedBits : Part → ℕ → Bool
+fixedBits p flags = bit0 flags and eqb (flags / 8 % 2) 1 and eqb (flags / 32 % 2) 1 and eqb (flags / 64 % 2) 1 and eqb (flags / 128 % 2) 1
 
 -- Options that A0h's 05h rule does not bar: "05h if bits 0, 3, 5, 6, 7 are not all 1, the last boot block is not 03h, .. or the window is reversed or past the code blocks"
 unfoldable pub goodOptions : Part → Options → Bool
-goodOptions p o = fixedBits (o .flags) and eqb (o .boot) 0x03 and leb (o .start) (o .end) and ltb (o .end) (blocks p CodeFlash)
+goodOptions p o = fixedBits p (o .flags) and eqb (o .boot) 0x03 and leb (o .start) (o .end) and ltb (o .end) (blocks p CodeFlash)
 
 -- 32h with D01 01h asks: "flags and window are fresh".
 unfoldable pub isFresh : Part → Options → Bool
 isFresh p o = eqb (o .flags) 0xFF and eqb (o .start) 0 and eqb (o .end) (lastBlock p)
 
 -- "10h if a 0 flag would become 1": only bits 1, 2 and 4 can be 0.
-unfoldable pub becomesOne : Bool → Bool → Bool
-becomesOne old new = not old and new
+unfoldable pub rises : Bool → Bool → Bool
+rises old new = not old and new
 
-unfoldable pub raises : ℕ → ℕ → Bool
-raises old new =
-    becomesOne (bootAllowed old) (bootAllowed new) or becomesOne (eraseAllowed old) (eraseAllowed new) or becomesOne (writeAllowed old) (writeAllowed new)
+unfoldable pub raises : Part → ℕ → ℕ → Bool
+raises p old new =
+    rises (bootAllowed old) (bootAllowed new) or rises (eraseAllowed old) (eraseAllowed new) or rises (writeAllowed old) (writeAllowed new)
 
 -- A2h: "fresh flags and window"; the last boot block stays.
 unfoldable pub released : Part → Options → Options
@@ -56,4 +56,4 @@ released p o = record { flags = 0xFF; boot = o .boot; start = 0; end = lastBlock
 
 -- A1h: "8 bytes: flags, last boot block, window start and end (two bytes each, low first), FFh FFh"
 unfoldable pub security : Options → List ℕ
-security o = o .flags ∷ o .boot ∷ o .start % 256 ∷ o .start / 256 ∷ o .end % 256 ∷ o .end / 256 ∷ 0xFF ∷ 0xFF ∷ []
+security o = o .flags ∷ o .boot ∷ o .start % 256 ∷ o .start / 256 % 256 ∷ o .end % 256 ∷ o .end / 256 % 256 ∷ 0xFF ∷ 0xFF ∷ []

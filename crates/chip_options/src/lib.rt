@@ -1,6 +1,6 @@
 // The lasting options: flags, last boot block and window, what they allow, and which are good. Document 01, "The part" and "Commands".
 ghost use mathlib.Core.Path.{_≡_};
-ghost use Rattle.chip_options.specs.Options.{bootAllowed, eraseAllowed, writeAllowed, fixedBits, lastBlock, freshOptions, goodOptions, isFresh, becomesOne, raises, released, security};
+ghost use Rattle.chip_options.specs.Options.{bootAllowed, eraseAllowed, writeAllowed, fixedBits, lastBlock, freshOptions, goodOptions, isFresh, rises, raises, released, security};
 use part::Area;
 use part::Part;
 
@@ -8,8 +8,8 @@ use part::Part;
 pub struct Options {
     pub flags: u8,
     pub boot: u8,
-    pub start: u16,
-    pub end: u16,
+    pub start: u32,
+    pub end: u32,
 }
 
 pub fn boot_allowed(flags: u8) -> bool
@@ -30,8 +30,8 @@ pub fn write_allowed(flags: u8) -> bool
     flags / 16 % 2 == 1
 }
 
-fn has_fixed_bits(flags: u8) -> bool
-    ensures { λ r. ⌜ r ≡ fixedBits flags ⌝ }
+fn fixed_bits(part: Part, flags: u8) -> bool
+    ensures { λ r. ⌜ r ≡ fixedBits part flags ⌝ }
 {
     if flags % 2 == 1 {
         if flags / 8 % 2 == 1 {
@@ -45,17 +45,17 @@ fn has_fixed_bits(flags: u8) -> bool
     false
 }
 
-fn last_block(part: Part) -> u16
+fn last_block(part: Part) -> u32
     ensures { λ r. ⌜ r ≡ lastBlock part ⌝ }
 {
-    if part.is_described() {
-        return (part.blocks(Area::CodeFlash) - 1) as u16;
+    if part.code_blocks == 0 {
+        return 0;
     }
-    0
+    part.code_blocks - 1
 }
 
 fn rises(old: bool, new: bool) -> bool
-    ensures { λ r. ⌜ r ≡ becomesOne old new ⌝ }
+    ensures { λ r. ⌜ r ≡ rises old new ⌝ }
 {
     if old {
         return false;
@@ -64,8 +64,8 @@ fn rises(old: bool, new: bool) -> bool
 }
 
 // Whether a 0 flag of the old flags would become 1.
-pub fn is_raised(old: u8, new: u8) -> bool
-    ensures { λ r. ⌜ r ≡ raises old new ⌝ }
+pub fn raises(part: Part, old: u8, new: u8) -> bool
+    ensures { λ r. ⌜ r ≡ raises part old new ⌝ }
 {
     if rises(boot_allowed(old), boot_allowed(new)) {
         return true;
@@ -92,7 +92,7 @@ impl Options {
     pub fn is_good(self, part: Part) -> bool
         ensures { λ r. ⌜ r ≡ goodOptions part self ⌝ }
     {
-        if has_fixed_bits(self.flags) {
+        if fixed_bits(part, self.flags) {
             if self.boot == 0x03 {
                 if self.start <= self.end {
                     return (self.end as usize) < part.blocks(Area::CodeFlash);
@@ -134,9 +134,9 @@ impl Options {
             self.flags,
             self.boot,
             (start % 256) as u8,
-            (start / 256) as u8,
+            (start / 256 % 256) as u8,
             (end % 256) as u8,
-            (end / 256) as u8,
+            (end / 256 % 256) as u8,
             0xFF,
             0xFF,
         ]

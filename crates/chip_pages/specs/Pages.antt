@@ -80,7 +80,7 @@ optionsIn f = record { flags = getD f 2 0; boot = getD f 3 0; start = number2 4 
 unfoldable pub securityData : Part → Core → List ℕ → Done
 securityData p k f =
     if not (goodOptions p (optionsIn f) and eqb (getD f 8 0) 0xFF and eqb (getD f 9 0) 0xFF) then says parameterError (ready k)
-    else if raises (k .options .flags) (getD f 2 0) then says protectError (ready k)
+    else if raises p (k .options .flags) (getD f 2 0) then says protectError (ready k)
     else says acknowledge (record { options = optionsIn f; rate = k .rate; phase = Ready })
 
 -- "A bad page puts its status in both and ends the command." Of A0h: "Whatever its one-byte answer, a bad frame's included, the command is over."

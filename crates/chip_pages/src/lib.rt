@@ -165,14 +165,14 @@ fn verify_page<'a>(
     }
 }
 
-fn wide(b: u8) -> u16
+fn wide(b: u8) -> u32
     ensures { λ r. ⌜ (r ≡ b) × (r < 256) ⌝ }
 {
-    b as u16
+    b as u32
 }
 
 // A number of two bytes, low byte first.
-fn number_of(low: u8, high: u8) -> u16
+fn number_of(low: u8, high: u8) -> u32
     ensures { λ r. ⌜ r ≡ low + 256 * high ⌝ }
 {
     wide(low) + 256 * wide(high)
@@ -209,7 +209,7 @@ fn security_data(part: Part, core: Core, bytes: &[u8]) -> Done
     let asked = options_in(bytes);
     if is_good_data(part, asked, bytes) {
         let options = core.options;
-        if chip_options::is_raised(options.flags, lent::byte_at(bytes, 2)) {
+        if chip_options::raises(part, options.flags, lent::byte_at(bytes, 2)) {
             let after = core.entered(Phase::Ready);
             return Done {
                 reply: Reply::Status(0x10),

@@ -10,8 +10,8 @@ use Rattle.chip_options.proofs.erase_allowed.Reads as erase-allowed
 use Rattle.chip_options.proofs.erase_allowed.Kinds as erase-allowed-kinds
 use Rattle.chip_options.proofs.write_allowed.Reads as write-allowed
 use Rattle.chip_options.proofs.write_allowed.Kinds as write-allowed-kinds
-use Rattle.chip_options.proofs.is_raised.Reads as is-raised
-use Rattle.chip_options.proofs.is_raised.Kinds as is-raised-kinds
+use Rattle.chip_options.proofs.raises.Reads as raises
+use Rattle.chip_options.proofs.raises.Kinds as raises-kinds
 use Rattle.chip_options.proofs.Options.fresh.Reads as Options-fresh
 use Rattle.chip_options.proofs.Options.fresh.Kinds as Options-fresh-kinds
 use Rattle.chip_options.proofs.Options.is_good.Reads as Options-is-good
@@ -32,8 +32,8 @@ erase-allowed-once κs a = one-outcome (erase-allowed.Post κs a) (λ r x. r) _ 
 pub write-allowed-once : (κs : Lfts 0) (a : Dens κs write-allowed-kinds.ps) → OneOutcome {R = resT write-allowed-kinds.r κs .Denot} {X = AtExit (endedOf 0 write-allowed-kinds.ps write-allowed-kinds.r) κs} (write-allowed.Post κs a) (λ r x. r)
 write-allowed-once κs a = one-outcome (write-allowed.Post κs a) (λ r x. r) _ (λ r x p. p)
 
-pub is-raised-once : (κs : Lfts 0) (a : Dens κs is-raised-kinds.ps) → OneOutcome {R = resT is-raised-kinds.r κs .Denot} {X = AtExit (endedOf 0 is-raised-kinds.ps is-raised-kinds.r) κs} (is-raised.Post κs a) (λ r x. r)
-is-raised-once κs a = one-outcome (is-raised.Post κs a) (λ r x. r) _ (λ r x p. p)
+pub raises-once : (κs : Lfts 0) (a : Dens κs raises-kinds.ps) → OneOutcome {R = resT raises-kinds.r κs .Denot} {X = AtExit (endedOf 0 raises-kinds.ps raises-kinds.r) κs} (raises.Post κs a) (λ r x. r)
+raises-once κs a = one-outcome (raises.Post κs a) (λ r x. r) _ (λ r x p. p)
 
 pub Options-fresh-once : (κs : Lfts 0) (a : Dens κs Options-fresh-kinds.ps) → OneOutcome {R = resT Options-fresh-kinds.r κs .Denot} {X = AtExit (endedOf 0 Options-fresh-kinds.ps Options-fresh-kinds.r) κs} (Options-fresh.Post κs a) (λ r x. r)
 Options-fresh-once κs a = one-outcome (Options-fresh.Post κs a) (λ r x. r) _ (λ r x p. p)

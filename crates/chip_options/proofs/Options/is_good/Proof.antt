@@ -9,19 +9,19 @@ use Rattle.chip_options.proofs.Options.is_good.Tie as tie
 
 returns : tie.Need-returns
 unfolding goodOptions _and_
-returns c = simp (← c .before .before .before .before .before .before .before .has-fixed-bits .ensures, c .before .before .before .before .before .before .if1 .taken, eq-eqb _ _ (c .before .before .before .before .if2 .taken), le-leb _ _ (c .before .before .if3 .taken), ← c .blocks2 .ensures)
+returns c = simp (← c .before .before .before .before .before .before .before .fixed-bits .ensures, c .before .before .before .before .before .before .if1 .taken, eq-eqb _ _ (c .before .before .before .before .if2 .taken), le-leb _ _ (c .before .before .if3 .taken), ← c .blocks2 .ensures)
 
 returns-2 : tie.Need-returns-2
 unfolding goodOptions _and_
-returns-2 c = simp (← c .before .before .before .before .before .has-fixed-bits .ensures, c .before .before .before .before .if1 .taken, eq-eqb _ _ (c .before .before .if2 .taken), lt-leb _ _ (c .if3 .left))
+returns-2 c = simp (← c .before .before .before .before .before .fixed-bits .ensures, c .before .before .before .before .if1 .taken, eq-eqb _ _ (c .before .before .if2 .taken), lt-leb _ _ (c .if3 .left))
 
 returns-3 : tie.Need-returns-3
 unfolding goodOptions _and_
-returns-3 c = simp (← c .before .before .before .has-fixed-bits .ensures, c .before .before .if1 .taken, ne-eqb _ _ (c .if2 .left))
+returns-3 c = simp (← c .before .before .before .fixed-bits .ensures, c .before .before .if1 .taken, ne-eqb _ _ (c .if2 .left))
 
 returns-4 : tie.Need-returns-4
 unfolding goodOptions _and_
-returns-4 c = simp (← c .before .has-fixed-bits .ensures, c .if1 .left)
+returns-4 c = simp (← c .before .fixed-bits .ensures, c .if1 .left)
 
 pub is-good-spec : {M : Type 1} → statement M
 is-good-spec =

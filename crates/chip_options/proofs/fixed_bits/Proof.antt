@@ -1,10 +1,10 @@
--- `chip_options::has_fixed_bits` meets its contract: each bit's test is the definition's, in its order.
+-- `chip_options::fixed_bits` meets its contract: each bit's test is the definition's, in its order.
 -- Assumes nothing.
 use borrow.Author.Tests.{eq-eqb, ne-eqb}
 use Rattle.chip_options.specs.Options.{fixedBits}
 use Rattle.words.specs.Words.{_and_}
-use Rattle.chip_options.proofs.has_fixed_bits.Statement.{statement}
-use Rattle.chip_options.proofs.has_fixed_bits.Tie as tie
+use Rattle.chip_options.proofs.fixed_bits.Statement.{statement}
+use Rattle.chip_options.proofs.fixed_bits.Tie as tie
 
 returns : tie.Need-returns
 unfolding fixedBits _and_
@@ -26,5 +26,5 @@ returns-5 : tie.Need-returns-5
 unfolding fixedBits _and_
 returns-5 c = simp (ne-eqb _ _ (c .if1 .left))
 
-pub has-fixed-bits-spec : {M : Type 1} → statement M
-has-fixed-bits-spec = tie.close (tie.spec returns returns-2 returns-3 returns-4 returns-5)
+pub fixed-bits-spec : {M : Type 1} → statement M
+fixed-bits-spec = tie.close (tie.spec returns returns-2 returns-3 returns-4 returns-5)

@@ -1,12 +1,12 @@
--- `chip_options::is_raised` meets its contract: the first flag that rises decides.
+-- `chip_options::raises` meets its contract: the first flag that rises decides.
 -- Assumes nothing.
 use mathlib.Core.Bool.{Bool, false}
 use mathlib.Core.Path.{_∙_, _≡_, sym}
 use borrow.Author.Needs.{needs}
-use Rattle.chip_options.specs.Options.{becomesOne, raises}
+use Rattle.chip_options.specs.Options.{rises, raises}
 use Rattle.words.specs.Words.{_or_}
-use Rattle.chip_options.proofs.is_raised.Statement.{statement}
-use Rattle.chip_options.proofs.is_raised.Tie as tie
+use Rattle.chip_options.proofs.raises.Statement.{statement}
+use Rattle.chip_options.proofs.raises.Tie as tie
 
 returns : tie.Need-returns
 unfolding raises _or_
@@ -16,7 +16,7 @@ returns-2 : tie.Need-returns-2
 unfolding raises _or_
 returns-2 c = simp (← c .before .before .before .before .before .before .before .boot-allowed .ensures, ← c .before .before .before .before .before .before .boot-allowed2 .ensures, ← c .before .before .before .before .before .rises .ensures, c .before .before .before .before .if1 .left, ← c .before .before .before .erase-allowed .ensures, ← c .before .before .erase-allowed2 .ensures, ← c .before .rises2 .ensures, c .if2 .taken)
 
-carried : (x y o n r : Bool) → x ≡ o → y ≡ n → r ≡ becomesOne x y → r ≡ becomesOne o n
+carried : (x y o n r : Bool) → x ≡ o → y ≡ n → r ≡ rises x y → r ≡ rises o n
 carried x y o n r e f g = rw (← e, ← f) g
 
 third : (a b c d : Bool) → a ≡ false → b ≡ false → d ≡ c → d ≡ (a or b or c)
@@ -31,8 +31,8 @@ returns-3 c =
     (sym (carried _ _ _ _ _ (c .before .before .before .before .before .before .erase-allowed .ensures) (c .before .before .before .before .before .erase-allowed2 .ensures) (c .before .before .before .before .rises2 .ensures)) ∙ c .before .before .before .if2 .left)
     (carried _ _ _ _ _ (c .before .before .write-allowed .ensures) (c .before .write-allowed2 .ensures) (c .rises3 .ensures))
 
-pub is-raised-spec : {M : Type 1} → statement M
-is-raised-spec =
+pub raises-spec : {M : Type 1} → statement M
+raises-spec =
     tie.close
     (tie.spec
     (λ c κs. search needs)
