@@ -6,7 +6,7 @@ use mathlib.Core.Path.{_∙_, _≡_, refl, sym}
 use Prim.Native.Nat.{_+_, _≤_, ℕ}
 use native.Mathlib.Omega.{arith}
 use lib.Dec.{eqb}
-use lib.ListN.{length, length-append}
+use lib.ListN.{length}
 use Rattle.chip_state.proofs.Laws.{accepts}
 use Rattle.chip.specs.Run.{Feeding, before, fedOn, feedFrom, feedOf, feeding, onward}
 use Rattle.chip.specs.Step.{Outcome, Reaction, settled, stepOf}
@@ -17,20 +17,14 @@ use Rattle.chip_state.specs.declared.Chip.{Chip}
 use Rattle.chip.specs.declared.Event.{Event}
 use Rattle.chip.specs.declared.Event.the-variants.{Byte}
 use Rattle.chip_core.specs.Effect.{Flash}
-use Rattle.frame.proofs.Laws.Wire.{framed-long}
-use Rattle.frame.specs.declared.Footer.the-variants.{Last}
-use Rattle.frame.specs.declared.Header.the-variants.{Data}
-use Rattle.chip_options.specs.declared.Options.{Options}
 use Rattle.part.specs.Part.{Arrays}
 use Rattle.part.specs.declared.Part.{Part}
 use Rattle.part.specs.declared.refusal.Refusal.{Refusal}
 use Rattle.part.specs.declared.refusal.Verdict.{Verdict}
 use Rattle.part.specs.declared.refusal.Verdict.the-variants.{Accepted}
 use Rattle.part.specs.declared.refusal.Verdict.the-variants as Verdict
-use Rattle.chip_reply.proofs.Laws.{reply-long, send-keeps, send-lands}
-use Rattle.chip_reply.specs.Reply.{framesOf, payloads, sendOf}
-use Rattle.chip_reply.specs.declared.Reply.{Reply}
-use Rattle.chip_reply.specs.declared.Reply.the-variants.{LastStored, Pair, Rate, Security, Signature, Silence, Status, Sum}
+use Rattle.chip_reply.proofs.Laws.{few-payloads, frames-long, no-frames, reply-long, said-keeps, said-lands}
+use Rattle.chip_reply.specs.Reply.{framesOf, payloads, saidOf}
 use Rattle.words.specs.Words.{if_then_else_}
 
 pub record Fitting (a : Answer) (room : ℕ) : Type 0 where
@@ -39,27 +33,6 @@ pub record Fitting (a : Answer) (room : ℕ) : Type 0 where
   pub few : (n k : ℕ) → a ≡ Replied n k → k ≤ 2
   pub silent : (n : ℕ) → a ≡ Replied n 0 → n ≡ 0
   pub framed : (n k : ℕ) → a ≡ Replied n k → k ≤ n
-
-few-payloads : (p : Part) (o : Options) (r : Reply) → length (payloads p o r) ≤ 2
-unfolding payloads
-few-payloads p o Silence = omega arith
-few-payloads p o (Status s) = omega arith
-few-payloads p o (Rate clock mode) = omega arith
-few-payloads p o (Pair s t) = omega arith
-few-payloads p o LastStored = omega arith
-few-payloads p o (Sum x) = omega arith
-few-payloads p o Signature = omega arith
-few-payloads p o Security = omega arith
-
-no-frames : (rs : List (List ℕ)) → length rs ≡ 0 → length (framesOf rs) ≡ 0
-unfolding framesOf
-no-frames [] e = refl
-no-frames (r ∷ rs) e = absurd (omega arith)
-
-frames-long : (rs : List (List ℕ)) → length rs ≤ length (framesOf rs)
-unfolding framesOf
-frames-long [] = omega arith
-frames-long (r ∷ rs) = rw (length-append, framed-long Data r Last) (omega (arith, frames-long rs))
 
 same-count : (a b n k : ℕ) → Replied a b ≡ Replied n k → (a ≡ n) × (b ≡ k)
 same-count a b n k e = (cc, cc)
@@ -91,9 +64,9 @@ settled-fits (Verdict.Refused r) p x c m room a h = refused-fits r (length room)
 settled-fits Accepted p x c m room a h =
     let rs = payloads p (x .does .core .options) (x .does .reply) in
     let l : length (framesOf rs) ≤ 31 = reply-long p (x .does .core .options) (x .does .reply) (a .deviceLong) (a .nameLong) (a .versionLong) in
-    let k : length (sendOf rs room .room) ≡ length room = send-keeps rs room (omega arith) in
+    let k : length (saidOf rs room .room) ≡ length room = said-keeps rs room (omega (arith, h refl)) in
     let f = said-fits rs (length room) l (few-payloads p (x .does .core .options) (x .does .reply)) (h refl) in
-    rw (k, send-lands rs room (h refl)) f
+    rw (k, said-lands rs room) f
 
 pub step-fits : (p : Part) (c : Chip) (v : Event) (m : Flash) (room : List ℕ) → Arrays p
     → Fitting (stepOf p c v m room .answer) (length (stepOf p c v m room .room))

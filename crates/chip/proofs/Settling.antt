@@ -37,8 +37,8 @@ use Rattle.part.specs.declared.refusal.Refusal.{Refusal}
 use Rattle.part.specs.declared.refusal.Verdict.{Verdict}
 use Rattle.part.specs.declared.refusal.Verdict.the-variants.{Accepted}
 use Rattle.part.specs.declared.refusal.Verdict.the-variants as Verdict
-use Rattle.chip_reply.proofs.Laws.{send-none}
-use Rattle.chip_reply.specs.Reply.{Said, payloads, said, sendOf}
+use Rattle.chip_reply.proofs.Laws.{said-silence, send-said}
+use Rattle.chip_reply.specs.Reply.{Said, payloads, said, saidOf, sendOf}
 use Rattle.chip_reply.specs.declared.Sent.{Sent}
 use Rattle.words.proofs.Laws.{and-both, and-left, and-right}
 use Rattle.words.specs.Words.{_and_, _or_, if_then_else_}
@@ -134,18 +134,18 @@ frame-is c d h b g e =
 pub quiet-settles : (p : Part) (c d : Collector) (k new : Core) (hs : List ℕ) (m : Flash) (room : List ℕ) → d ≡ holding c hs → 32 ≤ length room
     → record { answer = Replied 0 0; chip = record { core = new; collector = d }; memory = m; room = room }
     ≡ settled Accepted p (reaction hs (silent new m)) (record { core = k; collector = c }) m room
-unfolding settled payloads
-quiet-settles p c d k new hs m room e h = rw (e, ← send-none room h)
+unfolding settled
+quiet-settles p c d k new hs m room e h = rw (e, ← said-silence p (new .options) room)
 
 -- A step whose frame was complete: the reply is sent, and the collector emptied.
 pub frame-settles : (p : Part) (d : Done) (c e : Collector) (k : Core) (s : Sent) (x : Effect) (m n : Flash) (room r : List ℕ)
-    → effect d n ≡ x → said s r ≡ sendOf (payloads p (d .core .options) (d .reply)) room → e ≡ dropped c
+    → effect d n ≡ x → said s r ≡ saidOf (payloads p (d .core .options) (d .reply)) room → e ≡ dropped c
     → record { answer = replied s; chip = record { core = d .core; collector = e }; memory = n; room = r }
     ≡ settled Accepted p (reaction [] x) (record { core = k; collector = c }) m room
 unfolding settled dropped
 frame-settles p d c e k s x m n room r f q g =
     ap (λ (z : Said). record { answer = replied (z .sent); chip = record { core = d .core; collector = e }; memory = n; room = z .room }) q
-    ∙ ap (λ (z : Collector). record { answer = replied (sendOf (payloads p (d .core .options) (d .reply)) room .sent); chip = record { core = d .core; collector = z }; memory = n; room = sendOf (payloads p (d .core .options) (d .reply)) room .room }) g
+    ∙ ap (λ (z : Collector). record { answer = replied (saidOf (payloads p (d .core .options) (d .reply)) room .sent); chip = record { core = d .core; collector = z }; memory = n; room = saidOf (payloads p (d .core .options) (d .reply)) room .room }) g
     ∙ ap (λ (y : Effect). settled Accepted p (reaction [] y) (record { core = k; collector = c }) m room) f
 
 -- What a good state gives of the phase it is in.
@@ -183,7 +183,7 @@ heard-on hs x k m t = rw t
 -- A byte that completes a frame, and one that does not. x is what a complete frame does.
 byte-done : (p : Part) (d : Done) (c next e : Collector) (k : Core) (h : Header) (b : ℕ) (s : Sent) (x : List ℕ → Effect) (m n : Flash) (room r : List ℕ)
     → length (c .bytes) ≡ 260 → Begun c → next ≡ byteOf c h b → completesAt (c .len) (getD (c .bytes) 1 0) ≡ true
-    → effect d n ≡ x (take (next .len - 0) (next .bytes)) → said s r ≡ sendOf (payloads p (d .core .options) (d .reply)) room → e ≡ dropped c
+    → effect d n ≡ x (take (next .len - 0) (next .bytes)) → said s r ≡ saidOf (payloads p (d .core .options) (d .reply)) room → e ≡ dropped c
     → record { answer = replied s; chip = record { core = d .core; collector = e }; memory = n; room = r }
     ≡ settled Accepted p (heardByte (hear h (heard c) b) (x (hear h (heard c) b)) k m) (record { core = k; collector = c }) m room
 byte-done p d c next e k h b s x m n room r l g q t f u v =
@@ -279,7 +279,7 @@ hears-settles p c next k g b m room l a w nx = go (k .phase) refl w
 
 pub completes-settles : (p : Part) (d : Done) (c next e : Collector) (k : Core) (g : Header) (b : ℕ) (s : Sent) (m n : Flash) (room r : List ℕ) → length (c .bytes) ≡ 260
     → Accepts p k (handedWith c (length (m .codeFlash)) (length (m .dataFlash)) (length room)) → wayOf (k .phase) (c .len) (getD (c .bytes) 1 0) ≡ Completes g → next ≡ byteOf c g b
-    → effect d n ≡ frameDoes (k .phase) p k (take (next .len - 0) (next .bytes)) m → said s r ≡ sendOf (payloads p (d .core .options) (d .reply)) room → e ≡ dropped c
+    → effect d n ≡ frameDoes (k .phase) p k (take (next .len - 0) (next .bytes)) m → said s r ≡ sendOf p (d .core .options) (d .reply) room → e ≡ dropped c
     → record { answer = replied s; chip = record { core = d .core; collector = e }; memory = n; room = r }
     ≡ settled Accepted p (byteIn (k .phase) p k (heard c) b m) (record { core = k; collector = c }) m room
 unfolding wayOf byteIn goodCollected
@@ -290,7 +290,7 @@ completes-settles p d c next e k g b s m n room r l a w nx x u v = go (k .phase)
         ≡ settled Accepted p (heardByte (hear h (heard c) b) (frameDoes f p k (hear h (heard c) b) m) k m) (record { core = k; collector = c }) m room
     done f h i j o =
         let q = completes-way h g (c .len) (getD (c .bytes) 1 0) j in
-        byte-done p d c next e k h b s (λ (y : List ℕ). frameDoes f p k y m) m n room r l i (nx ∙ ap (λ (z : Header). byteOf c z b) (sym (q .1))) (q .0) o u v
+        byte-done p d c next e k h b s (λ (y : List ℕ). frameDoes f p k y m) m n room r l i (nx ∙ ap (λ (z : Header). byteOf c z b) (sym (q .1))) (q .0) o (u ∙ sym (send-said p (d .core .options) (d .reply) room (a .roomy) (a .part))) v
 
     go : (f : Phase) → k .phase ≡ f → wayOf f (c .len) (getD (c .bytes) 1 0) ≡ Completes g → effect d n ≡ frameDoes f p k (take (next .len - 0) (next .bytes)) m
         → record { answer = replied s; chip = record { core = d .core; collector = e }; memory = n; room = r }

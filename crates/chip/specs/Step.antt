@@ -28,7 +28,7 @@ use Rattle.part.specs.declared.refusal.Refusal.the-variants.{BadPart}
 use Rattle.part.specs.declared.refusal.Verdict.{Verdict}
 use Rattle.part.specs.declared.refusal.Verdict.the-variants.{Accepted}
 use Rattle.part.specs.declared.refusal.Verdict.the-variants as Verdict
-use Rattle.chip_reply.specs.Reply.{payloads, sendOf}
+use Rattle.chip_reply.specs.Reply.{payloads, saidOf}
 use Rattle.chip_reply.specs.declared.Reply.the-variants.{Silence}
 use Rattle.chip_reply.specs.declared.Sent.{Sent}
 use Rattle.words.specs.Words.{_or_, if_then_else_}
@@ -92,7 +92,7 @@ replied s = Replied (s .bytes) (s .frames)
 unfoldable pub settled : Verdict → Part → Reaction → Chip → Flash → List ℕ → Outcome
 settled (Verdict.Refused r) p x c m room = record { answer = Answer.Refused r; chip = c; memory = m; room = room }
 settled Accepted p x c m room =
-    let sends = sendOf (payloads p (x .does .core .options) (x .does .reply)) room in
+    let sends = saidOf (payloads p (x .does .core .options) (x .does .reply)) room in
     record {
       answer = replied (sends .sent);
       chip = record { core = x .does .core; collector = holding (c .collector) (x .hears) };

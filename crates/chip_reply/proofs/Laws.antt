@@ -1,9 +1,9 @@
 -- Laws about replies: frames laid in the reply room, the pieces of a signature, and how long a reply is.
 -- Assumes nothing.
+use mathlib.Core.Bool.{false, true}
 use mathlib.Core.List.{List, [], _++_, _∷_, append-assoc, append-nil}
 use mathlib.Core.Path.{_∙_, _≡_, ap, refl}
 use Prim.Native.Nat.{_%_, _+_, _-_, _/_, _<_, _≤_, ℕ}
-use native.Mathlib.Decide.{decLe}
 use native.Mathlib.Omega.{arith}
 use lib.ListN.{drop, drop-of-length-le, length, length-append, length-drop, take}
 use lib.Seq.{drop-at, drop-drop, take-all, take-at}
@@ -16,33 +16,63 @@ use Rattle.frame.specs.Wire.{writeOf, wrote}
 use Rattle.frame.specs.declared.Footer.the-variants.{Last}
 use Rattle.frame.specs.declared.Header.the-variants.{Data}
 use Rattle.frame.specs.declared.wire.Wrote.{Wrote}
+use Rattle.chip_options.proofs.Laws.{security-long}
 use Rattle.chip_options.specs.Options.{security}
 use Rattle.chip_options.specs.declared.Options.{Options}
 use Rattle.part.proofs.LawsSignature.{signature-long}
+use Rattle.part.specs.Part.{described}
 use Rattle.part.specs.Signature.{signature}
 use Rattle.part.specs.declared.Part.{Part}
-use Rattle.chip_reply.specs.Reply.{framesOf, payloads, said, sendOf}
+use Rattle.chip_reply.specs.Reply.{framesOf, nothingSaid, payloads, said, saidOf, sendOf}
 use Rattle.chip_reply.specs.declared.Reply.{Reply}
+use Rattle.chip_reply.specs.declared.Sent.{Sent}
 use Rattle.chip_reply.specs.declared.Reply.the-variants.{LastStored, Pair, Rate, Security, Signature, Silence, Status, Sum}
-use Rattle.words.specs.Words.{if_then_else_}
+use Rattle.words.specs.Words.{_or_, if_then_else_}
 
--- The two answers of sending.
-pub send-lands : (rs : List (List ℕ)) (room : List ℕ) → 32 ≤ length room
-    → sendOf rs room ≡ said (record { bytes = length (framesOf rs); frames = length rs }) (framesOf rs ++ drop (length (framesOf rs)) room)
-unfolding sendOf if_then_else_
-send-lands rs room h = simp (le-ltb (length room) 32 h)
+-- The answers of sending.
+pub send-short : (p : Part) (o : Options) (r : Reply) (room : List ℕ) → length room < 32 → nothingSaid room ≡ sendOf p o r room
+unfolding sendOf if_then_else_ _or_
+send-short p o r room h = simp (lt-ltb _ _ h)
 
-pub send-short : (rs : List (List ℕ)) (room : List ℕ) → length room < 32 → said (record { bytes = 0; frames = 0 }) room ≡ sendOf rs room
-unfolding sendOf if_then_else_
-send-short rs room h = simp (lt-ltb _ _ h)
+pub send-undescribed : (p : Part) (o : Options) (r : Reply) (room : List ℕ) → 32 ≤ length room → described p ≡ false → nothingSaid room ≡ sendOf p o r room
+unfolding sendOf if_then_else_ _or_
+send-undescribed p o r room h d = simp (le-ltb (length room) 32 h, d)
 
-send-is : (rs : List (List ℕ)) (room l : List ℕ) (n k : ℕ) → 32 ≤ length room → n ≡ length (framesOf rs) → k ≡ length rs
-    → l ≡ framesOf rs ++ drop n room → said (record { bytes = n; frames = k }) l ≡ sendOf rs room
-send-is rs room l n k h e f g = rw (send-lands rs room h, g, e, f)
+pub send-said : (p : Part) (o : Options) (r : Reply) (room : List ℕ) → 32 ≤ length room → described p ≡ true → saidOf (payloads p o r) room ≡ sendOf p o r room
+unfolding sendOf if_then_else_ _or_
+send-said p o r room h d = simp (le-ltb (length room) 32 h, d)
 
-pub send-none : (room : List ℕ) → 32 ≤ length room → said (record { bytes = 0; frames = 0 }) room ≡ sendOf [] room
+-- A reply of a described part in enough room is said: s and l are what its arm left.
+pub sends : (p : Part) (o : Options) (r q : Reply) (rs : List (List ℕ)) (room l : List ℕ) (s : Sent) → 32 ≤ length room → described p ≡ true → r ≡ q → payloads p o q ≡ rs
+    → said s l ≡ saidOf rs room → said s l ≡ sendOf p o r room
+sends p o r q rs room l s h d e f g = rw (← send-said p o r room h d, e, f) g
+
+said-is : (rs : List (List ℕ)) (room l : List ℕ) (n k : ℕ) → n ≡ length (framesOf rs) → k ≡ length rs
+    → l ≡ framesOf rs ++ drop n room → said (record { bytes = n; frames = k }) l ≡ saidOf rs room
+unfolding saidOf
+said-is rs room l n k e f g = rw (g, e, f)
+
+-- What is said, in its parts.
+pub said-bytes : (rs : List (List ℕ)) (room : List ℕ) → saidOf rs room .sent .bytes ≡ length (framesOf rs)
+unfolding saidOf
+said-bytes rs room = refl
+
+pub said-frames : (rs : List (List ℕ)) (room : List ℕ) → saidOf rs room .sent .frames ≡ length rs
+unfolding saidOf
+said-frames rs room = refl
+
+pub said-lands : (rs : List (List ℕ)) (room : List ℕ)
+    → saidOf rs room ≡ said (record { bytes = length (framesOf rs); frames = length rs }) (framesOf rs ++ drop (length (framesOf rs)) room)
+unfolding saidOf
+said-lands rs room = refl
+
+pub said-nothing : (room : List ℕ) → nothingSaid room ≡ saidOf [] room
 unfolding framesOf
-send-none room h = send-is [] room room 0 0 h refl refl refl
+said-nothing room = said-is [] room room 0 0 refl refl refl
+
+pub said-silence : (p : Part) (o : Options) (room : List ℕ) → nothingSaid room ≡ saidOf (payloads p o Silence) room
+unfolding payloads
+said-silence p o room = said-nothing room
 
 one-is : (ds : List ℕ) → framesOf (ds ∷ []) ≡ framed Data ds Last
 unfolding framesOf
@@ -52,21 +82,21 @@ two-is : (ds es : List ℕ) → framesOf (ds ∷ es ∷ []) ≡ framed Data ds L
 unfolding framesOf
 two-is ds es = rw append-nil
 
-pub send-one : (room ds l : List ℕ) (a : Wrote) → wrote a l ≡ writeOf room Data ds Last → 32 ≤ length room → 1 ≤ length ds → length ds ≤ 28
-    → said (record { bytes = length ds + 4; frames = 1 }) l ≡ sendOf (ds ∷ []) room
-send-one room ds l a e h k m =
+pub said-one : (room ds l : List ℕ) (a : Wrote) → wrote a l ≡ writeOf room Data ds Last → 32 ≤ length room → 1 ≤ length ds → length ds ≤ 28
+    → said (record { bytes = length ds + 4; frames = 1 }) l ≡ saidOf (ds ∷ []) room
+said-one room ds l a e h k m =
     let o : framesOf (ds ∷ []) ≡ framed Data ds Last = one-is ds in
     let n : length ds + 4 ≡ length (framesOf (ds ∷ [])) = rw (o, framed-long) in
     let i : l ≡ framed Data ds Last ++ drop (length ds + 4) room = laid-lands room Data ds Last l a e k (omega arith) (omega arith) in
-    send-is (ds ∷ []) room l (length ds + 4) 1 h n refl (rw o i)
+    said-is (ds ∷ []) room l (length ds + 4) 1 n refl (rw o i)
 
 -- The second frame is written into the room past the first, which is lent as a part to the end, and comes back in this form.
-pub send-two : (room ds es l l′ : List ℕ) (a b : Wrote) → wrote a l ≡ writeOf room Data ds Last
+pub said-two : (room ds es l l′ : List ℕ) (a b : Wrote) → wrote a l ≡ writeOf room Data ds Last
     → wrote b l′ ≡ writeOf (take (length l - (length ds + 4)) (drop (length ds + 4) l)) Data es Last → 32 ≤ length room → 1 ≤ length ds → 1 ≤ length es
     → length ds + length es ≤ 24
     → said (record { bytes = length ds + 4 + length es + 4; frames = 2 }) (take (length ds + 4) l ++ (l′ ++ drop (length l - (length ds + 4)) (drop (length ds + 4) l)))
-    ≡ sendOf (ds ∷ es ∷ []) room
-send-two room ds es l l′ a b e f h k m s =
+    ≡ saidOf (ds ∷ es ∷ []) room
+said-two room ds es l l′ a b e f h k m s =
     let i : l ≡ framed Data ds Last ++ drop (length ds + 4) room = laid-lands room Data ds Last l a e k (omega arith) (omega arith) in
     let long : length l ≡ length room = ap length i ∙ rw (length-append, framed-long, length-drop) (omega arith) in
     let front : take (length ds + 4) l ≡ framed Data ds Last = rw i (take-at (framed Data ds Last) _ (length ds + 4) (framed-long Data ds Last)) in
@@ -81,13 +111,9 @@ send-two room ds es l l′ a b e f h k m s =
     let o : framesOf (ds ∷ es ∷ []) ≡ framed Data ds Last ++ framed Data es Last = two-is ds es in
     let q : length ds + 4 + length es + 4 ≡ length (framesOf (ds ∷ es ∷ [])) = rw (o, length-append, framed-long Data ds Last, framed-long Data es Last) (omega arith) in
     let t : length ds + 4 + (length es + 4) ≡ length ds + 4 + length es + 4 = omega arith in
-    send-is (ds ∷ es ∷ []) room _ (length ds + 4 + length es + 4) 2 h q refl (rw (front, none, append-nil, j, drop-drop, t, o, append-assoc))
+    said-is (ds ∷ es ∷ []) room _ (length ds + 4 + length es + 4) 2 q refl (rw (front, none, append-nil, j, drop-drop, t, o, append-assoc))
 
 -- How long a reply is. A list in a description has any length, so the lengths of the part's three arrays are premises.
-pub security-long : (o : Options) → length (security o) ≡ 8
-unfolding security
-security-long o = refl
-
 one-long : (ds : List ℕ) → length (framesOf (ds ∷ [])) ≡ length ds + 4
 one-long ds = rw (one-is ds, framed-long)
 
@@ -100,16 +126,35 @@ pub reply-long : (p : Part) (o : Options) (r : Reply) → length (p .device) ≡
 unfolding payloads framesOf
 reply-long p o Silence d n v = omega arith
 reply-long p o (Status s) d n v = omega (arith, one-long (s ∷ []))
-reply-long p o (Rate clock mode) d n v = omega (arith, one-long (0x06 ∷ clock ∷ mode ∷ []))
+reply-long p o (Rate mode) d n v = omega (arith, one-long (0x06 ∷ p .clock ∷ mode ∷ []))
 reply-long p o (Pair s t) d n v = omega (arith, one-long (s ∷ t ∷ []))
 reply-long p o LastStored d n v = omega (arith, two-long (0x06 ∷ 0x06 ∷ []) (0x06 ∷ []))
 reply-long p o (Sum x) d n v = omega (arith, two-long (0x06 ∷ []) (x % 256 ∷ x / 256 ∷ []))
 reply-long p o Signature d n v = omega (arith, two-long (0x06 ∷ []) (signature p), signature-long p d n v)
 reply-long p o Security d n v = omega (arith, two-long (0x06 ∷ []) (security o), security-long o)
 
-pub send-keeps : (rs : List (List ℕ)) (room : List ℕ) → length (framesOf rs) ≤ 32 → length (sendOf rs room .room) ≡ length room
-send-keeps rs room h = go (decLe 32 (length room))
-  where
-    go : Dec (32 ≤ length room) → length (sendOf rs room .room) ≡ length room
-    go (yes k) = rw (send-lands rs room k, length-append, length-drop) (omega arith)
-    go (no k) = rw (← send-short rs room (omega arith))
+pub said-keeps : (rs : List (List ℕ)) (room : List ℕ) → length (framesOf rs) ≤ length room → length (saidOf rs room .room) ≡ length room
+unfolding saidOf
+said-keeps rs room h = rw (length-append, length-drop) (omega arith)
+
+-- How many frames a reply has: at most two, no byte without one, and no frame without a byte.
+pub few-payloads : (p : Part) (o : Options) (r : Reply) → length (payloads p o r) ≤ 2
+unfolding payloads
+few-payloads p o Silence = omega arith
+few-payloads p o (Status s) = omega arith
+few-payloads p o (Rate mode) = omega arith
+few-payloads p o (Pair s t) = omega arith
+few-payloads p o LastStored = omega arith
+few-payloads p o (Sum x) = omega arith
+few-payloads p o Signature = omega arith
+few-payloads p o Security = omega arith
+
+pub no-frames : (rs : List (List ℕ)) → length rs ≡ 0 → length (framesOf rs) ≡ 0
+unfolding framesOf
+no-frames [] e = refl
+no-frames (r ∷ rs) e = absurd (omega arith)
+
+pub frames-long : (rs : List (List ℕ)) → length rs ≤ length (framesOf rs)
+unfolding framesOf
+frames-long [] = omega arith
+frames-long (r ∷ rs) = rw (length-append, framed-long Data r Last) (omega (arith, frames-long rs))

@@ -1,4 +1,5 @@
 -- The replies: document 01, "Commands" and the paragraphs on pages. A reply is a value; what it says on the wire is a list of data frames' payloads.
+use mathlib.Core.Bool.{not}
 use mathlib.Core.List.{List, [], _++_, _∷_}
 use Prim.Native.Nat.{_%_, _/_, ℕ}
 use lib.Dec.{ltb}
@@ -8,18 +9,19 @@ use Rattle.frame.specs.Framing.{frames}
 use Rattle.frame.specs.declared.Footer.the-variants.{Last}
 use Rattle.chip_options.specs.Options.{security}
 use Rattle.chip_options.specs.declared.Options.{Options}
+use Rattle.part.specs.Part.{described}
 use Rattle.part.specs.Signature.{signature}
 use Rattle.part.specs.declared.Part.{Part}
 use Rattle.chip_reply.specs.declared.Reply.{Reply}
 use Rattle.chip_reply.specs.declared.Reply.the-variants.{LastStored, Pair, Rate, Security, Signature, Silence, Status, Sum}
 use Rattle.chip_reply.specs.declared.Sent.{Sent}
-use Rattle.words.specs.Words.{if_then_else_}
+use Rattle.words.specs.Words.{_or_, if_then_else_}
 
 -- The payload of each reply frame, in order.
 unfoldable pub payloads : Part → Options → Reply → List (List ℕ)
 payloads p o Silence = []
 payloads p o (Status s) = (s ∷ []) ∷ []
-payloads p o (Rate clock mode) = (0x06 ∷ clock ∷ mode ∷ []) ∷ []
+payloads p o (Rate mode) = (0x06 ∷ p .clock ∷ mode ∷ []) ∷ []
 payloads p o (Pair s t) = (s ∷ t ∷ []) ∷ []
 payloads p o LastStored = (0x06 ∷ 0x06 ∷ []) ∷ (0x06 ∷ []) ∷ []
 payloads p o (Sum n) = (0x06 ∷ []) ∷ (n % 256 ∷ n / 256 ∷ []) ∷ []
@@ -39,8 +41,15 @@ pub record Said : Type 0 where
 abbrev pub said : Sent → List ℕ → Said
 said s r = record { sent = s; room = r }
 
--- "Reply room past the reply stays too." Room under 32 bytes gets nothing: the longest reply has 31.
-unfoldable pub sendOf : List (List ℕ) → List ℕ → Said
-sendOf rs room =
-    if ltb (length room) 32 then said (record { bytes = 0; frames = 0 }) room
-    else said (record { bytes = length (framesOf rs); frames = length rs }) (framesOf rs ++ drop (length (framesOf rs)) room)
+abbrev pub nothingSaid : List ℕ → Said
+nothingSaid room = said (record { bytes = 0; frames = 0 }) room
+
+-- The replies at the room's start: "Reply room past the reply stays too."
+unfoldable pub saidOf : List (List ℕ) → List ℕ → Said
+saidOf rs room = said (record { bytes = length (framesOf rs); frames = length rs }) (framesOf rs ++ drop (length (framesOf rs)) room)
+
+-- What sending leaves, whatever it is called with: nothing is sent for a part that is not described, or into room under 32 bytes (the longest reply has 31).
+unfoldable pub sendOf : Part → Options → Reply → List ℕ → Said
+sendOf p o r room =
+    if ltb (length room) 32 or not (described p) then nothingSaid room
+    else saidOf (payloads p o r) room

@@ -3,7 +3,7 @@ ghost use mathlib.Core.Path.{_≡_};
 ghost use mathlib.Core.List.{[], _∷_};
 ghost use Prim.Native.Nat.{_+_, _≤_};
 ghost use lib.ListN.{length};
-ghost use Rattle.chip_reply.specs.Reply.{payloads, said, sendOf};
+ghost use Rattle.chip_reply.specs.Reply.{said, saidOf, sendOf};
 use chip_options::Options;
 use frame::Footer;
 use frame::wire;
@@ -12,7 +12,7 @@ use part::Part;
 pub enum Reply {
     Silence,
     Status(u8),
-    Rate { clock: u8, mode: u8 },
+    Rate(u8),
     Pair(u8, u8),
     LastStored,
     Sum(u16),
@@ -28,7 +28,7 @@ pub struct Sent {
 
 fn send_one(room: &mut [u8], payload: &[u8]) -> Sent
     requires { ⌜ (32 ≤ length (now room)) × (1 ≤ length (now payload)) × (length (now payload) ≤ 28) ⌝ }
-    ensures { λ r. ⌜ said r (now (room .exit)) ≡ sendOf (now (payload .entry) ∷ []) (now (room .entry)) ⌝ }
+    ensures { λ r. ⌜ said r (now (room .exit)) ≡ saidOf (now (payload .entry) ∷ []) (now (room .entry)) ⌝ }
 {
     wire::write_data(room, payload, Footer::Last);
     Sent {
@@ -40,7 +40,7 @@ fn send_one(room: &mut [u8], payload: &[u8]) -> Sent
 // The second frame goes into the room past the first.
 fn send_two(room: &mut [u8], first: &[u8], second: &[u8]) -> Sent
     requires { ⌜ (32 ≤ length (now room)) × (1 ≤ length (now first)) × (1 ≤ length (now second)) × (length (now first) + length (now second) ≤ 24) ⌝ }
-    ensures { λ r. ⌜ said r (now (room .exit)) ≡ sendOf (now (first .entry) ∷ now (second .entry) ∷ []) (now (room .entry)) ⌝ }
+    ensures { λ r. ⌜ said r (now (room .exit)) ≡ saidOf (now (first .entry) ∷ now (second .entry) ∷ []) (now (room .entry)) ⌝ }
 {
     let n = first.len() + 4;
     wire::write_data(room, first, Footer::Last);
@@ -52,9 +52,15 @@ fn send_two(room: &mut [u8], first: &[u8], second: &[u8]) -> Sent
 }
 
 pub fn send(part: Part, options: Options, reply: Reply, room: &mut [u8]) -> Sent
-    ensures { λ r. ⌜ said r (now (room .exit)) ≡ sendOf (payloads part options reply) (now (room .entry)) ⌝ }
+    ensures { λ r. ⌜ said r (now (room .exit)) ≡ sendOf part options reply (now (room .entry)) ⌝ }
 {
     if room.len() < 32 {
+        return Sent {
+            bytes: 0,
+            frames: 0,
+        };
+    }
+    if !part.is_described() {
         return Sent {
             bytes: 0,
             frames: 0,
@@ -70,8 +76,8 @@ pub fn send(part: Part, options: Options, reply: Reply, room: &mut [u8]) -> Sent
             let d = [s];
             send_one(room, &d)
         }
-        Reply::Rate { clock, mode } => {
-            let d = [0x06, clock, mode];
+        Reply::Rate(mode) => {
+            let d = [0x06, part.clock as u8, mode];
             send_one(room, &d)
         }
         Reply::Pair(s, t) => {

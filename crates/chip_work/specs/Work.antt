@@ -26,7 +26,7 @@ use Rattle.words.specs.Words.{_and_, _or_, if_then_else_}
 unfoldable pub rateSet : Part → Core → ℕ → ℕ → Done
 rateSet p k rate supply =
     if not (acceptsRate p rate supply) then says parameterError k
-    else told (Rate (p .clock % 256) (modeOf p supply)) (record { options = k .options; rate = rate; phase = Ready })
+    else told (Rate (modeOf p supply)) (record { options = k .options; rate = rate; phase = Ready })
 
 -- "Boot blocks are code blocks 0 to 3."
 abbrev pub isBoot : Area → ℕ → Bool

@@ -25,10 +25,7 @@ pub fn rate_set(part: Part, core: Core, rate: u8, supply: u8) -> Done
         let mode = part::rate::mode(part, supply as u32);
         let options = core.options;
         return Done {
-            reply: Reply::Rate {
-                clock: (part.clock % 256) as u8,
-                mode,
-            },
+            reply: Reply::Rate(mode),
             core: Core {
                 options,
                 rate,

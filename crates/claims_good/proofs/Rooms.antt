@@ -20,7 +20,7 @@ use Rattle.frame.specs.Collector.{heard, holding}
 use Rattle.frame.specs.Framing.{frames}
 use Rattle.part.specs.declared.Part.{Part}
 use Rattle.part.specs.declared.refusal.Verdict.the-variants.{Accepted}
-use Rattle.chip_reply.proofs.Laws.{reply-long, send-lands}
+use Rattle.chip_reply.proofs.Laws.{reply-long, said-lands}
 use Rattle.chip_reply.specs.Reply.{Said, framesOf, payloads, said}
 
 -- What a reaction says.
@@ -34,7 +34,7 @@ settled-utters : (p : Part) (x : Reaction) (c : Chip) (m : Flash) (room : List �
 unfolding settled utteranceOf
 settled-utters p x c m room h =
     let rs = payloads p (x .does .core .options) (x .does .reply) in
-    ap {B = Utterance} (λ (z : Said). record { answer = replied (z .sent); bytes = bytesSaid (replied (z .sent)) (z .room) }) (send-lands rs room h)
+    ap {B = Utterance} (λ (z : Said). record { answer = replied (z .sent); bytes = bytesSaid (replied (z .sent)) (z .room) }) (said-lands rs room)
     ∙ ap {B = Utterance} (λ (l : List ℕ). record { answer = Replied (length (framesOf rs)) (length rs); bytes = l })
     (take-append-seam (framesOf rs) (drop (length (framesOf rs)) room))
 

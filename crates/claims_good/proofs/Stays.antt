@@ -33,8 +33,8 @@ use Rattle.part.specs.Part.{described}
 use Rattle.part.specs.declared.Part.{Part}
 use Rattle.part.specs.declared.refusal.Verdict.{Verdict}
 use Rattle.part.specs.declared.refusal.Verdict.the-variants.{Accepted}
-use Rattle.chip_reply.proofs.Laws.{reply-long, send-keeps}
-use Rattle.chip_reply.specs.Reply.{payloads, sendOf}
+use Rattle.chip_reply.proofs.Laws.{reply-long, said-keeps}
+use Rattle.chip_reply.specs.Reply.{payloads, saidOf}
 use Rattle.words.proofs.Laws.{and-both, and-left, and-right, if-all}
 
 -- What a reaction leaves makes a good state again.
@@ -111,8 +111,8 @@ unfolding settled goodState
 settled-stands p o x s r =
     let a = accepts (s .accepted) in
     let n = s .arrays in
-    let l : length (sendOf (payloads p (x .does .core .options) (x .does .reply)) (o .room) .room) ≡ length (o .room) =
-    send-keeps _ (o .room) (omega (arith, reply-long p (x .does .core .options) (x .does .reply) (n .deviceLong) (n .nameLong) (n .versionLong))) in
+    let l : length (saidOf (payloads p (x .does .core .options) (x .does .reply)) (o .room) .room) ≡ length (o .room) =
+    said-keeps _ (o .room) (omega (arith, a .roomy, reply-long p (x .does .core .options) (x .does .reply) (n .deviceLong) (n .nameLong) (n .versionLong))) in
     record {
       accepted =
           accepted (record {

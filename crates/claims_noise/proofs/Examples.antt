@@ -36,7 +36,7 @@ use Rattle.lent.specs.Lent.{allAre, putAt, putOf, same}
 use Rattle.chip_options.proofs.Laws.{fresh-good}
 use Rattle.chip_options.specs.Options.{fixedBits, freshOptions, goodOptions, lastBlock}
 use Rattle.part.specs.Refusal.{firstOf}
-use Rattle.chip_reply.specs.Reply.{framesOf, payloads, sendOf}
+use Rattle.chip_reply.specs.Reply.{framesOf, payloads, saidOf}
 use Rattle.words.proofs.Laws.{and-left, and-right}
 use Rattle.words.specs.Words.{_and_, _from_to_, _or_, if_then_else_}
 
@@ -84,9 +84,13 @@ long-noise = record { stands = ready-stands; nothing = refl; bytes = proper-by l
 
 -- In it the chip does answer: 07h, then 15h.
 pub long-noise-said : allSaid (saysBy stepOf thePart (thenGap longNoise) readyChip) ≡ 0x02 ∷ 0x01 ∷ 0x07 ∷ 0xF8 ∷ 0x03 ∷ 0x02 ∷ 0x01 ∷ 0x15 ∷ 0xEA ∷ 0x03 ∷ []
+<<<<<<< HEAD
 unfolding allSaid saysBy thenGap longNoise stepOf settled verdictOf firstOf described _from_to_ _and_ _or_ if_then_else_ goodState goodCollected goodBegun goodCore
     goodOptions fixedBits goodPhase lastBlock freshOptions fresh heard holding hear complete full counted isFrame reactTo byteIn heardByte frameDoes commandDoes
     judgeOf summed sumOf lessAll less placeOf liesIn placeIn blockOf pageOf blockSize sendOf framesOf framed payloads
+=======
+unfolding allSaid saysBy thenGap longNoise stepOf settled verdictOf firstOf described _from_to_ _and_ _or_ if_then_else_ goodState goodCollected goodBegun goodCore goodOptions fixedBits goodPhase lastBlock freshOptions fresh heard holding hear complete full counted isFrame reactTo byteIn heardByte frameDoes commandDoes judgeOf summed sumOf lessAll less placeOf liesIn placeIn blockOf pageOf blockSize saidOf framesOf framed payloads
+>>>>>>> a7d8301 (What is said has no branch for short room; sending says what it does not send)
 long-noise-said = refl
 
 -- So the chip is as before it, though it has answered.
@@ -113,10 +117,14 @@ wrong-page-completes-one = refl
 
 -- In it the page is blamed twice over, 15h 15h, and then the command with the wrong footer.
 pub wrong-page-said : allSaid (saysBy stepOf thePart (thenGap wrongPage) writingChip) ≡ 0x02 ∷ 0x02 ∷ 0x15 ∷ 0x15 ∷ 0xD4 ∷ 0x03 ∷ 0x02 ∷ 0x01 ∷ 0x15 ∷ 0xEA ∷ 0x03 ∷ []
+<<<<<<< HEAD
 unfolding allSaid saysBy thenGap wrongPage dataDoes badData fitting footerOf lengthOf isLastPage goodAwaited goodPlaces stepOf settled verdictOf firstOf described
     _from_to_ _and_ _or_ if_then_else_ goodState goodCollected goodBegun goodCore goodOptions fixedBits goodPhase lastBlock freshOptions fresh heard holding hear
     complete full counted isFrame reactTo byteIn heardByte frameDoes commandDoes judgeOf summed sumOf lessAll less placeOf liesIn placeIn blockOf pageOf blockSize
     sendOf framesOf framed payloads
+=======
+unfolding allSaid saysBy thenGap wrongPage dataDoes badData fitting footerOf lengthOf isLastPage goodAwaited goodPlaces stepOf settled verdictOf firstOf described _from_to_ _and_ _or_ if_then_else_ goodState goodCollected goodBegun goodCore goodOptions fixedBits goodPhase lastBlock freshOptions fresh heard holding hear complete full counted isFrame reactTo byteIn heardByte frameDoes commandDoes judgeOf summed sumOf lessAll less placeOf liesIn placeIn blockOf pageOf blockSize saidOf framesOf framed payloads
+>>>>>>> a7d8301 (What is said has no branch for short room; sending says what it does not send)
 wrong-page-said = refl
 
 -- The inner Reset: the premise fails, because the rule completes a good frame. It is met with that frame allowed, where nothing follows it.
@@ -173,10 +181,14 @@ page-changed =
 
 -- So the one changed byte keeps the page out: unchanged it is stored at 0500h, changed it is not, and it is blamed.
 pub page-stored : getD (runBy stepOf thePart (map Byte pageFrame) writingChip .memory .codeFlash) 0x0500 0 ≡ 0xAA
+<<<<<<< HEAD
 unfolding runBy pageFrame dataDoes goodData programPage pageIn pageStored blank allAre putOf putAt nextPage storedReply badData fitting footerOf lengthOf isLastPage
     goodAwaited goodPlaces stepOf settled verdictOf firstOf described _from_to_ _and_ _or_ if_then_else_ goodState goodCollected goodBegun goodCore goodOptions
     fixedBits goodPhase lastBlock freshOptions fresh heard holding hear complete full counted isFrame reactTo byteIn heardByte frameDoes commandDoes judgeOf summed
     sumOf lessAll less placeOf liesIn placeIn blockOf pageOf blockSize sendOf framesOf framed payloads
+=======
+unfolding runBy pageFrame dataDoes goodData programPage pageIn pageStored blank allAre putOf putAt nextPage storedReply badData fitting footerOf lengthOf isLastPage goodAwaited goodPlaces stepOf settled verdictOf firstOf described _from_to_ _and_ _or_ if_then_else_ goodState goodCollected goodBegun goodCore goodOptions fixedBits goodPhase lastBlock freshOptions fresh heard holding hear complete full counted isFrame reactTo byteIn heardByte frameDoes commandDoes judgeOf summed sumOf lessAll less placeOf liesIn placeIn blockOf pageOf blockSize saidOf framesOf framed payloads
+>>>>>>> a7d8301 (What is said has no branch for short room; sending says what it does not send)
 page-stored = refl
 
 pub page-changed-is-bad : IsBad stepOf thePart writingChip (set pageFrame 259 0x03)

@@ -18,12 +18,16 @@ use Rattle.lent.specs.Lent.{putAt, putOf}
 use Rattle.chip_options.specs.Options.{fixedBits, freshOptions, goodOptions, lastBlock}
 use Rattle.part.specs.Part.{blockOf, blockSize, described, endsBlock, liesIn, pageOf, placeIn, placeOf, rangeOf, startsBlock, stretch, wholeBlocks}
 use Rattle.part.specs.Refusal.{firstOf}
-use Rattle.chip_reply.specs.Reply.{framesOf, payloads, sendOf}
+use Rattle.chip_reply.specs.Reply.{framesOf, payloads, saidOf}
 use Rattle.words.specs.Words.{_and_, _from_to_, _or_, if_then_else_}
 
 pub stars : map (λ (x : Example). x .gives) table ≡ map (λ (x : Example). x .printed) table
+<<<<<<< HEAD
 unfolding table replyTo heardBack answers stepOf settled verdictOf firstOf described _from_to_ _and_ _or_ if_then_else_ goodState goodCollected goodBegun goodCore
     goodOptions fixedBits goodPhase lastBlock freshOptions fresh heard holding hear complete full counted isFrame reactTo byteIn heardByte frameDoes commandDoes
     judgeOf summed sumOf lessAll less askedIn commandsIn readyCommands fitted work blockErase placeOf liesIn placeIn blockOf pageOf blockSize forbidden erasedIn
     eraseOf putOf putAt checksum rangeOf wholeBlocks startsBlock endsBlock stretch bytesOf sumOfBytes number3 sendOf framesOf framed payloads
+=======
+unfolding table replyTo heardBack answers stepOf settled verdictOf firstOf described _from_to_ _and_ _or_ if_then_else_ goodState goodCollected goodBegun goodCore goodOptions fixedBits goodPhase lastBlock freshOptions fresh heard holding hear complete full counted isFrame reactTo byteIn heardByte frameDoes commandDoes judgeOf summed sumOf lessAll less askedIn commandsIn readyCommands fitted work blockErase placeOf liesIn placeIn blockOf pageOf blockSize forbidden erasedIn eraseOf putOf putAt checksum rangeOf wholeBlocks startsBlock endsBlock stretch bytesOf sumOfBytes number3 saidOf framesOf framed payloads
+>>>>>>> a7d8301 (What is said has no branch for short room; sending says what it does not send)
 stars = refl

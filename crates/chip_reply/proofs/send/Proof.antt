@@ -1,84 +1,94 @@
--- `chip_reply::send` meets its contract: too little room gets nothing, and each reply's arm writes its payloads.
+-- `chip_reply::send` meets its contract: too little room and a part that is not described get nothing, and each reply's arm writes its payloads.
 -- Assumes nothing.
+use mathlib.Core.Path.{_∙_, refl, sym}
 use native.Mathlib.Omega.{arith}
 use borrow.Author.Needs.{needs}
-use Rattle.chip_reply.proofs.Laws.{send-none, send-short}
+use borrow.Author.Tests.{not-false, not-true}
+use Rattle.part.proofs.Laws.{described-is}
+use Rattle.chip_reply.proofs.Laws.{said-nothing, send-short, send-undescribed, sends}
 use Rattle.chip_reply.specs.Reply.{payloads}
 use Rattle.chip_reply.proofs.send.Statement.{statement}
 use Rattle.chip_reply.proofs.send.Tie as tie
 
 returns : tie.Need-returns
-returns c = send-short _ _ (omega arith)
+returns c = send-short _ _ _ _ (omega arith)
 
 returns-2 : tie.Need-returns-2
-unfolding payloads
-returns-2 c = simp (c .enum-told .given .1) (send-none _ (omega arith))
+returns-2 c = send-undescribed _ _ _ _ (omega arith) (sym (c .before .is-described .ensures) ∙ not-true _ (c .if2 .taken))
+
+cast-t27 : tie.Need-cast-t27
+cast-t27 c = omega (arith, described-is _ (sym (c .before .before .before .before .before .is-described .ensures) ∙ not-false _ (c .before .before .before .before .if2 .left)) .clock-most)
 
 returns-3 : tie.Need-returns-3
 unfolding payloads
-returns-3 c = simp (c .before .before .before .before .before .before .reply .given .1) (c .before .before .send-one .ensures)
+returns-3 c = sends _ _ _ _ _ _ _ _ (omega arith) (sym (c .before .before .before .is-described .ensures) ∙ not-false _ (c .before .before .if2 .left)) (c .enum-told .given .1) refl (said-nothing _)
 
 returns-4 : tie.Need-returns-4
 unfolding payloads
-returns-4 c = simp (c .before .before .before .before .before .before .reply2 .given .1) (c .before .before .send-one2 .ensures)
+returns-4 c = sends _ _ _ _ _ _ _ _ (omega arith) (sym (c .before .before .before .before .before .before .before .before .before .is-described .ensures) ∙ not-false _ (c .before .before .before .before .before .before .before .before .if2 .left)) (c .before .before .before .before .before .before .reply .given .1) refl (c .before .before .send-one .ensures)
 
 returns-5 : tie.Need-returns-5
 unfolding payloads
-returns-5 c = simp (c .before .before .before .before .before .before .reply3 .given .1) (c .before .before .send-one3 .ensures)
+returns-5 c = sends _ _ _ _ _ _ _ _ (omega arith) (sym (c .before .before .before .before .before .before .before .before .before .before .is-described .ensures) ∙ not-false _ (c .before .before .before .before .before .before .before .before .before .if2 .left)) (c .before .before .before .before .before .before .before .reply2 .given .1) refl (c .before .before .send-one2 .ensures)
 
 returns-6 : tie.Need-returns-6
 unfolding payloads
-returns-6 c = simp (c .before .before .before .before .before .before .enum-told2 .given .1) (c .before .before .send-two .ensures)
+returns-6 c = sends _ _ _ _ _ _ _ _ (omega arith) (sym (c .before .before .before .before .before .before .before .before .before .is-described .ensures) ∙ not-false _ (c .before .before .before .before .before .before .before .before .if2 .left)) (c .before .before .before .before .before .before .reply3 .given .1) refl (c .before .before .send-one3 .ensures)
 
 returns-7 : tie.Need-returns-7
 unfolding payloads
-returns-7 c = simp (c .before .before .before .before .before .before .before .reply4 .given .1) (c .before .before .send-two2 .ensures)
+returns-7 c = sends _ _ _ _ _ _ _ _ (omega arith) (sym (c .before .before .before .before .before .before .before .before .before .is-described .ensures) ∙ not-false _ (c .before .before .before .before .before .before .before .before .if2 .left)) (c .before .before .before .before .before .before .enum-told2 .given .1) refl (c .before .before .send-two .ensures)
 
 returns-8 : tie.Need-returns-8
 unfolding payloads
-returns-8 c = simp (c .before .before .before .before .before .before .before .enum-told3 .given .1, ← c .before .before .before .before .before .before .bytes .ensures) (c .before .before .send-two3 .ensures)
+returns-8 c = sends _ _ _ _ _ _ _ _ (omega arith) (sym (c .before .before .before .before .before .before .before .before .before .before .is-described .ensures) ∙ not-false _ (c .before .before .before .before .before .before .before .before .before .if2 .left)) (c .before .before .before .before .before .before .before .reply4 .given .1) refl (c .before .before .send-two2 .ensures)
 
 returns-9 : tie.Need-returns-9
 unfolding payloads
-returns-9 c = simp (c .before .before .before .before .before .before .before .enum-told4 .given .1, ← c .before .before .before .before .before .before .security .ensures) (c .before .before .send-two4 .ensures)
+returns-9 c = sends _ _ _ _ _ _ _ _ (omega arith) (sym (c .before .before .before .before .before .before .before .before .before .before .is-described .ensures) ∙ not-false _ (c .before .before .before .before .before .before .before .before .before .if2 .left)) (c .before .before .before .before .before .before .before .enum-told3 .given .1) (rw (← c .before .before .before .before .before .before .bytes .ensures)) (c .before .before .send-two3 .ensures)
+
+returns-10 : tie.Need-returns-10
+unfolding payloads
+returns-10 c = sends _ _ _ _ _ _ _ _ (omega arith) (sym (c .before .before .before .before .before .before .before .before .before .before .is-described .ensures) ∙ not-false _ (c .before .before .before .before .before .before .before .before .before .if2 .left)) (c .before .before .before .before .before .before .before .enum-told4 .given .1) (rw (← c .before .before .before .before .before .before .security .ensures)) (c .before .before .send-two4 .ensures)
 
 pub send-spec : {M : Type 1} → statement M
 send-spec =
     tie.close
     (tie.spec
     returns
-    (λ c. search needs)
-    (λ c. search needs)
-    (λ c. search needs)
-    (λ c κs. search needs)
-    (λ c. search needs)
-    (λ c. search needs)
-    (λ c κs. search needs)
-    (λ c. search needs)
-    (λ c. search needs)
-    (λ c κs. search needs)
-    (λ c. search needs)
-    (λ c. search needs)
-    (λ c. search needs)
-    (λ c κs. search needs)
-    (λ c. search needs)
-    (λ c. search needs)
-    (λ c. search needs)
-    (λ c. search needs)
-    (λ c. search needs)
-    (λ c κs. search needs)
-    (λ c. search needs)
-    (λ c κs. search needs)
-    (λ c. search needs)
-    (λ c. search needs)
-    (λ c κs. search needs)
-    (λ c. search needs)
-    (λ c κs. search needs)
-    (λ c. search needs)
-    (λ c. search needs)
     (λ c κs. search needs)
     returns-2
     (λ c. search needs)
+    (λ c. search needs)
+    (λ c. search needs)
+    (λ c κs. search needs)
+    (λ c. search needs)
+    cast-t27
+    (λ c. search needs)
+    (λ c κs. search needs)
+    (λ c. search needs)
+    (λ c. search needs)
+    (λ c κs. search needs)
+    (λ c. search needs)
+    (λ c. search needs)
+    (λ c. search needs)
+    (λ c κs. search needs)
+    (λ c. search needs)
+    (λ c. search needs)
+    (λ c. search needs)
+    (λ c. search needs)
+    (λ c. search needs)
+    (λ c κs. search needs)
+    (λ c. search needs)
+    (λ c κs. search needs)
+    (λ c. search needs)
+    (λ c. search needs)
+    (λ c κs. search needs)
+    (λ c. search needs)
+    (λ c κs. search needs)
+    (λ c. search needs)
+    (λ c. search needs)
+    (λ c κs. search needs)
     returns-3
     (λ c. search needs)
     returns-4
@@ -91,4 +101,6 @@ send-spec =
     (λ c. search needs)
     returns-8
     (λ c. search needs)
-    returns-9)
+    returns-9
+    (λ c. search needs)
+    returns-10)

@@ -2,13 +2,13 @@
 -- Assumes nothing.
 use native.Mathlib.Omega.{arith}
 use borrow.Author.Needs.{needs}
-use Rattle.chip_reply.proofs.Laws.{send-two}
+use Rattle.chip_reply.proofs.Laws.{said-two}
 use Rattle.chip_reply.proofs.send_two.Statement.{statement}
 use Rattle.chip_reply.proofs.send_two.Tie as tie
 
 returns : tie.Need-returns
 returns c =
-    send-two _ _ _ _ _ _ _ (c .before .before .before .before .before .before .write-data .ensures) (c .before .before .write-data2 .ensures) (omega arith) (omega arith) (omega arith) (omega arith)
+    said-two _ _ _ _ _ _ _ (c .before .before .before .before .before .before .write-data .ensures) (c .before .before .write-data2 .ensures) (omega arith) (omega arith) (omega arith) (omega arith)
 
 pub send-two-spec : {M : Type 1} → statement M
 send-two-spec =
