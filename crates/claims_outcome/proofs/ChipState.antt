@@ -1,0 +1,9 @@
+-- No second outcome for the callable functions of `chip_state`, each over the contract that its own `ensures` generates.
+-- Assumes nothing.
+use mathlib.Core.Path.{_∙_, sym}
+use Rattle.claims_outcome.proofs.Outcome.{Once}
+use Rattle.chip_state.proofs.verdict.Reads as verdict
+use Rattle.chip_state.proofs.verdict.Kinds as verdict-kinds
+
+pub verdict-once : Once verdict-kinds.ps verdict-kinds.r verdict.Post (λ κs r x. r)
+verdict-once κs a r s x y p q = p ∙ sym q
