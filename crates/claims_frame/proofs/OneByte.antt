@@ -10,6 +10,7 @@ use native.Mathlib.Decide.{decLt}
 use native.Mathlib.Omega.{arith}
 use lib.ListN.{drop, getD, length, length-drop, length-set, set, take}
 use lib.Seq.{drop-set-add, getD-drop, getD-set-other, getD-set-same, getD-take, length-take-le, take-set-le, take-set-lt}
+use Rattle.claims_frame.specs.OneByte.{AfterLen, OneChanged}
 use Rattle.frame.proofs.Laws.Judgement.{GoodFrame, frame-long, good-is}
 use Rattle.frame.proofs.Laws.Sum.{Below, below-drop, below-take, one-byte}
 use Rattle.frame.specs.Frame.{footerByte, isFrame}
@@ -17,12 +18,6 @@ use Rattle.frame.specs.Judgement.{judgeOf, summed}
 use Rattle.frame.specs.Sum.{lessAll, sumOf}
 use Rattle.frame.specs.declared.Footer.{Footer}
 use Rattle.frame.specs.declared.judgement.Judgement.the-variants.{Good}
-
-pub record OneChanged (f : Footer) (bs : List ℕ) (i v : ℕ) : Type 0 where
-  pub long : length (set bs i v) ≡ length bs
-  pub header : getD (set bs i v) 0 0 ≡ getD bs 0 0
-  pub frame : isFrame (set bs i v) ≡ true
-  pub bad : judgeOf f (set bs i v) ≢ Good
 
 module _ (f : Footer) (bs : List ℕ) (i v : ℕ) (good : judgeOf f bs ≡ Good) (bytes : Below 256 bs) (after : 2 ≤ i) (inside : i < length bs) (small : v < 256)
     (changed : getD bs i 0 ≢ v) where
@@ -79,11 +74,14 @@ module _ (f : Footer) (bs : List ℕ) (i v : ℕ) (good : judgeOf f bs ≡ Good)
       go j (no h) (yes k) = let l = long-enough in sum-changed (omega arith) (ap (λ (k : ℕ). getD (set bs i v) (k - 2) 0) (sym (length-set bs i v)) ∙ j .sum)
       go j (no h) (no k) = let l = long-enough in footer-changed (omega arith) (ap (λ (k : ℕ). getD (set bs i v) (k - 1) 0) (sym (length-set bs i v)) ∙ j .footer)
 
-  pub one-changed : OneChanged f bs i v
-  one-changed =
+  is-changed : OneChanged f bs i v
+  is-changed =
       record {
         long = length-set bs i v;
         header = getD-set-other bs i 0 v 0 (λ e. omega arith);
         frame = still-frame;
         bad = not-good;
       }
+
+pub one-changed : (f : Footer) (bs : List ℕ) (i v : ℕ) → AfterLen f bs i v → OneChanged f bs i v
+one-changed f bs i v c = is-changed f bs i v (c .good) (c .bytes) (c .after) (c .inside) (c .small) (c .changed)

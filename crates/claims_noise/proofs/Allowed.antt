@@ -7,7 +7,8 @@ use Prim.Native.Nat.{_-_, ℕ}
 use native.Mathlib.Omega.{arith}
 use lib.Dec.{eqb, leb}
 use Rattle.claims_noise.specs.Claims.{AllowedOrNone, OnlyThis, lastGood, lineAfter, noneGood}
-use Rattle.claims_noise.specs.Noise.{Allowed, Awaits, allows, completesOnly, empty, goodFor, headerOf, noFrame, only, permitted, thenAwaits}
+use Rattle.claims_noise.specs.Noise.{Allowed, allows, completesOnly, empty, noFrame, only, permitted, thenAwaits}
+use Rattle.claims_fed.specs.Awaits.{Awaits, goodFor, headerOf}
 use Rattle.lent.proofs.Laws.{same-is}
 use Rattle.lent.specs.Lent.{same}
 use Rattle.frame.specs.Frame.{headerByte}

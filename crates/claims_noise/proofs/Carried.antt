@@ -15,12 +15,14 @@ use Rattle.claims_good.proofs.Stays.{run-stands, stays}
 use Rattle.claims_good.specs.Good.{Alike, AllProper, Proper, Stands, andEvent, noEvent, uttered}
 use Rattle.claims_noise.proofs.Allowed.{allowed-or-none, done-completes}
 use Rattle.claims_noise.proofs.Claims.{over-stands}
-use Rattle.claims_noise.proofs.Frames.{Completed, FrameRun, bytes-proper, completed, does-same, doesIn, frame-runs, no-frame}
+use Rattle.claims_fed.proofs.Frames.{Completed, bytes-proper, completed, does-same, fed-is-done, no-frame}
+use Rattle.claims_fed.specs.Fed.{FedIsDone, doesIn}
 use Rattle.claims_noise.proofs.Noise.{Left, as-if, leftCore, leftIn, noise-run, run-by}
 use Rattle.claims_noise.proofs.OneByte.{footerIn, good-judged}
-use Rattle.claims_noise.proofs.Steps.{headerIn, stepped}
-use Rattle.claims_noise.specs.Claims.{AsIf, AwaitsFrame, Carried, Line, Noise, OneFrameCarried, OnlyThis, command, commandOver, frameCame, inReady, inSetup, lastGood, leftAt, leftBy, lineAfter, noiseOnly, noneGood, page, runBy}
-use Rattle.claims_noise.specs.Noise.{Awaits, awaitedIn, dataCompleted, empty, eventOf, goodFor, headerOf, noFrame, thenAwaits}
+use Rattle.claims_fed.specs.Awaits.{Awaits, AwaitsFrame, awaitsIn, command, eventOf, goodFor, headerIn, headerOf, inReady, inSetup, page}
+use Rattle.claims_fed.proofs.Steps.{stepped}
+use Rattle.claims_noise.specs.Claims.{AsIf, Carried, Line, Noise, OneFrameCarried, OnlyThis, commandOver, frameCame, lastGood, leftAt, leftBy, lineAfter, noiseOnly, noneGood, runBy}
+use Rattle.claims_noise.specs.Noise.{dataCompleted, empty, noFrame, thenAwaits}
 use Rattle.chip_core.specs.Effect.{Effect}
 use Rattle.chip_pages.specs.Pages.{ready}
 use Rattle.chip_core.specs.declared.Awaited.{Awaited}
@@ -117,10 +119,10 @@ left-at p o us s n a = go (o .chip .core .phase) refl a
 -- The frame came, after the noise us, with the sound v.
 module _ (p : Part) (o : Outcome) (f : List ℕ) (us : List Sound) (v : Sound) (below : Below 256 f) (a : AwaitsFrame (o .chip .core .phase))
     (n : Noise noFrame p o us) (h : Proper (eventOf v))
-    (d : framing (headerOf (lineAfter (awaitedIn (o .chip .core .phase)) idle us .awaits)) (lineAfter (awaitedIn (o .chip .core .phase)) idle us .stands) v .done ≡ f ∷ [])
-    (g : goodFor (lineAfter (awaitedIn (o .chip .core .phase)) idle us .awaits) f ≡ true) where
+    (d : framing (headerOf (lineAfter (awaitsIn (o .chip .core .phase)) idle us .awaits)) (lineAfter (awaitsIn (o .chip .core .phase)) idle us .stands) v .done ≡ f ∷ [])
+    (g : goodFor (lineAfter (awaitsIn (o .chip .core .phase)) idle us .awaits) f ≡ true) where
   line : Line
-  line = lineAfter (awaitedIn (o .chip .core .phase)) idle us
+  line = lineAfter (awaitsIn (o .chip .core .phase)) idle us
 
   u : Outcome
   u = run p (map eventOf us) o
@@ -148,7 +150,7 @@ module _ (p : Part) (o : Outcome) (f : List ℕ) (us : List Sound) (v : Sound) (
 
   the-header : getD f 0 0 ≡ headerByte (headerOf (line .awaits))
   unfolding line
-  the-header = goes (headerOf (line .awaits)) (line .stands) v (line-headed (awaitedIn (o .chip .core .phase)) idle us headIdle) .begins f [] d
+  the-header = goes (headerOf (line .awaits)) (line .stands) v (line-headed (awaitsIn (o .chip .core .phase)) idle us headIdle) .begins f [] d
 
   q-header : getD f 0 0 ≡ headerByte (headerIn (q .chip .core .phase))
   unfolding line
@@ -156,10 +158,10 @@ module _ (p : Part) (o : Outcome) (f : List ℕ) (us : List Sound) (v : Sound) (
       the-header ∙ ap (λ (x : Awaits). headerByte (headerOf x)) (sym (heard-left .awaits))
       ∙ ap (λ (k : Core). headerByte (headerIn (k .phase))) (sym same-core)
 
-  alone : FrameRun p q f f
+  alone : FedIsDone p q f f
   unfolding line
   alone =
-      frame-runs p q f (q-left .stands) (rw same-core (heard-left .frame)) (q-left .count)
+      fed-is-done p q f (q-left .stands) (rw same-core (heard-left .frame)) (q-left .count)
       (good-is (footerIn (line .awaits)) f (good-judged (line .awaits) f g) .frame) q-header below
 
   came : Completed p u v f
@@ -197,9 +199,9 @@ module _ (p : Part) (o : Outcome) (f : List ℕ) (us : List Sound) (v : Sound) (
       frameCame us v e n (rw (r, run-by p (map Byte f) q) frame-as-if) (rw (r, run-by p (map Byte f) q) frame-said)
 
 pub one-frame-carried : OneFrameCarried stepOf
-one-frame-carried p o f vs below a n = go (allowed-or-none f (awaitedIn (o .chip .core .phase)) idle vs (n .quiet))
+one-frame-carried p o f vs below a n = go (allowed-or-none f (awaitsIn (o .chip .core .phase)) idle vs (n .quiet))
   where
-    go : OnlyThis f (awaitedIn (o .chip .core .phase)) idle vs → Carried stepOf p o f vs
+    go : OnlyThis f (awaitsIn (o .chip .core .phase)) idle vs → Carried stepOf p o f vs
     go (noneGood e) = noiseOnly (record { stands = n .stands; nothing = n .nothing; bytes = n .bytes; quiet = e })
     go (lastGood us v e c d g) =
         let r = proper-front us v (rw e at (n .bytes)) in

@@ -17,9 +17,10 @@ use Rattle.part.specs.Part.{Arrays, blockOf, blockSize, described, liesIn, page
 use Rattle.claims_good.specs.Good.{AllProper, Stands, aByte, aGap, andEvent, noEvent}
 use Rattle.claims_noise.proofs.Claims.{noise-at-command}
 use Rattle.claims_noise.proofs.OneByte.{one-byte-changed}
-use Rattle.claims_noise.specs.Claims.{AsIf, IsBad, Noise, OneByte, commandOver, inReady, page, runBy, saysBy}
+use Rattle.claims_noise.specs.Claims.{AsIf, IsBad, Noise, OneByte, commandOver, runBy, saysBy}
+use Rattle.claims_fed.specs.Awaits.{aCommand, eventOf, goodFor, inReady, page}
 use Rattle.claims_noise.specs.Examples.{allSaid, cutPage, eraseFrame, innerReset, longNoise, pageFrame, reset, secondPage, writingChip, wrongPage}
-use Rattle.claims_noise.specs.Noise.{aCommand, allows, completesOnly, dataCompleted, empty, eventOf, goodFor, noFrame, only, permitted, thenAwaits, thenGap}
+use Rattle.claims_noise.specs.Noise.{allows, completesOnly, dataCompleted, empty, noFrame, only, permitted, thenAwaits, thenGap}
 use Rattle.claims_stars.specs.Table.{readyChip, thePart}
 use Rattle.chip_commands.specs.Commands.{commandDoes}
 use Rattle.chip_core.specs.Effect.{Flash}

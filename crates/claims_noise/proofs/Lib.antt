@@ -1,7 +1,4 @@
-pub mod Steps
-pub mod Bad
 pub mod Noise
-pub mod Frames
 pub mod Claims
 pub mod OneByte
 pub mod Allowed

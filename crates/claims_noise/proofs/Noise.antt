@@ -14,10 +14,12 @@ use Rattle.claims_frame.proofs.Framing.{Same, nothing}
 use Rattle.claims_good.proofs.Rooms.{alike-run, alike-utterances, leaves, reactionOf}
 use Rattle.claims_good.proofs.Stays.{run-stands, stays}
 use Rattle.claims_good.specs.Good.{Alike, AllProper, Proper, Stands, Utterance, aGap, andEvent, noEvent, utterances, uttered}
-use Rattle.claims_noise.proofs.Bad.{bad-does, badCore}
-use Rattle.claims_noise.proofs.Steps.{Stepped, frameDone, headerIn, onlyHeard, stepped}
-use Rattle.claims_noise.specs.Claims.{AsIf, AwaitsFrame, Line, Noise, command, inReady, inSetup, lineAfter, page, runBy, saysBy}
-use Rattle.claims_noise.specs.Noise.{Awaits, allows, awaitedIn, completesOnly, empty, eventOf, goodFor, noFrame, permitted, thenAwaits, thenGap}
+use Rattle.claims_fed.proofs.Bad.{bad-frame-does}
+use Rattle.claims_fed.specs.Fed.{badCore}
+use Rattle.claims_fed.proofs.Steps.{Stepped, frameDone, onlyHeard, stepped}
+use Rattle.claims_fed.specs.Awaits.{Awaits, AwaitsFrame, awaitsIn, command, eventOf, goodFor, headerIn, inReady, inSetup, page}
+use Rattle.claims_noise.specs.Claims.{AsIf, Line, Noise, lineAfter, runBy, saysBy}
+use Rattle.claims_noise.specs.Noise.{allows, completesOnly, empty, noFrame, permitted, thenAwaits, thenGap}
 use Rattle.chip_pages.specs.Pages.{ready}
 use Rattle.chip_core.specs.declared.Core.{Core}
 use Rattle.chip_core.specs.declared.Phase.{Phase}
@@ -64,8 +66,8 @@ pub record Left (u : Outcome) (w : Framing) (vs : List Sound) (t : Outcome) : Ty
   pub core : t .chip .core ≡ leftCore (u .chip .core) w vs
   pub memory : t .memory ≡ u .memory
   pub frame : AwaitsFrame (t .chip .core .phase)
-  pub awaits : awaitedIn (t .chip .core .phase) ≡ lineAfter (awaitedIn (u .chip .core .phase)) w vs .awaits
-  pub same : Same (lineAfter (awaitedIn (u .chip .core .phase)) w vs .stands) (heard (t .chip .collector))
+  pub awaits : awaitsIn (t .chip .core .phase) ≡ lineAfter (awaitsIn (u .chip .core .phase)) w vs .awaits
+  pub same : Same (lineAfter (awaitsIn (u .chip .core .phase)) w vs .stands) (heard (t .chip .collector))
 
 -- A sound that completes nothing.
 left-on : (k : Core) (w : Framing) (v : Sound) (vs : List Sound) → AwaitsFrame (k .phase) → framing (headerIn (k .phase)) w v .done ≡ []
@@ -104,7 +106,7 @@ bad-awaits f k (command inSetup) e = rw e (command inSetup)
 bad-awaits f k (command inReady) e = rw e (command inReady)
 bad-awaits f k (page w) e = command inReady
 
-bad-next : (f : Phase) (k : Core) (g : List ℕ) (gs : List (List ℕ)) → AwaitsFrame f → k .phase ≡ f → thenAwaits (awaitedIn f) (g ∷ gs) ≡ awaitedIn (badCore f k .phase)
+bad-next : (f : Phase) (k : Core) (g : List ℕ) (gs : List (List ℕ)) → AwaitsFrame f → k .phase ≡ f → thenAwaits (awaitsIn f) (g ∷ gs) ≡ awaitsIn (badCore f k .phase)
 unfolding badCore thenAwaits
 bad-next f k g gs (command inSetup) e = rw e
 bad-next f k g gs (command inReady) e = rw e
@@ -124,16 +126,16 @@ left-none k w = go (k .phase)
 Rest : Part → List Sound → Outcome → Type 0
 Rest p vs u =
     (w : Framing) → Stands p u → AwaitsFrame (u .chip .core .phase) → Same w (heard (u .chip .collector))
-    → completesOnly noFrame (awaitedIn (u .chip .core .phase)) w vs ≡ true → Left u w vs (run p (map eventOf vs) u)
+    → completesOnly noFrame (awaitsIn (u .chip .core .phase)) w vs ≡ true → Left u w vs (run p (map eventOf vs) u)
 
 module _ (p : Part) (v : Sound) (vs : List Sound) (u : Outcome) (w : Framing) (s : Stands p u) (a : AwaitsFrame (u .chip .core .phase))
     (h : Proper (eventOf v)) (rest : Rest p vs (onward p u (eventOf v)))
-    (e : completesOnly noFrame (awaitedIn (u .chip .core .phase)) w (v ∷ vs) ≡ true) where
-  permits : permitted noFrame (awaitedIn (u .chip .core .phase)) (framing (headerIn (u .chip .core .phase)) w v .done) (empty vs) ≡ true
+    (e : completesOnly noFrame (awaitsIn (u .chip .core .phase)) w (v ∷ vs) ≡ true) where
+  permits : permitted noFrame (awaitsIn (u .chip .core .phase)) (framing (headerIn (u .chip .core .phase)) w v .done) (empty vs) ≡ true
   unfolding completesOnly
   permits = and-left _ _ e
 
-  rests : completesOnly noFrame (thenAwaits (awaitedIn (u .chip .core .phase)) (framing (headerIn (u .chip .core .phase)) w v .done))
+  rests : completesOnly noFrame (thenAwaits (awaitsIn (u .chip .core .phase)) (framing (headerIn (u .chip .core .phase)) w v .done))
       (framing (headerIn (u .chip .core .phase)) w v .stands) vs ≡ true
   unfolding completesOnly
   rests = and-right _ _ e
@@ -141,29 +143,29 @@ module _ (p : Part) (v : Sound) (vs : List Sound) (u : Outcome) (w : Framing) (s
   -- The rest, where the record is now k.
   resting : (k : Core) → onward p u (eventOf v) .chip .core ≡ k → AwaitsFrame (k .phase)
       → Same (framing (headerIn (u .chip .core .phase)) w v .stands) (heard (onward p u (eventOf v) .chip .collector))
-      → thenAwaits (awaitedIn (u .chip .core .phase)) (framing (headerIn (u .chip .core .phase)) w v .done) ≡ awaitedIn (k .phase)
+      → thenAwaits (awaitsIn (u .chip .core .phase)) (framing (headerIn (u .chip .core .phase)) w v .done) ≡ awaitsIn (k .phase)
       → Left (onward p u (eventOf v)) (framing (headerIn (u .chip .core .phase)) w v .stands) vs (run p (map eventOf vs) (onward p u (eventOf v)))
   unfolding Rest
   resting k c b m t =
       let x = framing (headerIn (u .chip .core .phase)) w v .stands in
       rest x (stays p u (eventOf v) s h) (rw c b) m
-      (ap (λ (l : Core). completesOnly noFrame (awaitedIn (l .phase)) x vs) c ∙ ap (λ (y : Awaits). completesOnly noFrame y x vs) (sym t) ∙ rests)
+      (ap (λ (l : Core). completesOnly noFrame (awaitsIn (l .phase)) x vs) c ∙ ap (λ (y : Awaits). completesOnly noFrame y x vs) (sym t) ∙ rests)
 
   -- The line after the rest is the line after all.
   line-is : (k : Core) → onward p u (eventOf v) .chip .core ≡ k
-      → thenAwaits (awaitedIn (u .chip .core .phase)) (framing (headerIn (u .chip .core .phase)) w v .done) ≡ awaitedIn (k .phase)
-      → lineAfter (awaitedIn (onward p u (eventOf v) .chip .core .phase)) (framing (headerIn (u .chip .core .phase)) w v .stands) vs
-      ≡ lineAfter (awaitedIn (u .chip .core .phase)) w (v ∷ vs)
+      → thenAwaits (awaitsIn (u .chip .core .phase)) (framing (headerIn (u .chip .core .phase)) w v .done) ≡ awaitsIn (k .phase)
+      → lineAfter (awaitsIn (onward p u (eventOf v) .chip .core .phase)) (framing (headerIn (u .chip .core .phase)) w v .stands) vs
+      ≡ lineAfter (awaitsIn (u .chip .core .phase)) w (v ∷ vs)
   unfolding lineAfter
   line-is k c t =
       let x = framing (headerIn (u .chip .core .phase)) w v .stands in
-      ap (λ (l : Core). lineAfter (awaitedIn (l .phase)) x vs) c ∙ ap (λ (y : Awaits). lineAfter y x vs) (sym t)
+      ap (λ (l : Core). lineAfter (awaitsIn (l .phase)) x vs) c ∙ ap (λ (y : Awaits). lineAfter y x vs) (sym t)
 
   one-sound : Stepped p u v w → Left u w (v ∷ vs) (run p (map eventOf vs) (onward p u (eventOf v)))
   unfolding thenAwaits
   one-sound (onlyHeard d g) =
       let x = framing (headerIn (u .chip .core .phase)) w v .stands in
-      let z = ap (thenAwaits (awaitedIn (u .chip .core .phase))) d in
+      let z = ap (thenAwaits (awaitsIn (u .chip .core .phase))) d in
       let l = resting (u .chip .core) (g .core) a (g .same) z in
       let y = line-is (u .chip .core) (g .core) z in
       record {
@@ -175,10 +177,10 @@ module _ (p : Part) (v : Sound) (vs : List Sound) (u : Outcome) (w : Framing) (s
       }
   one-sound (frameDone f fs d g) =
       let x = framing (headerIn (u .chip .core .phase)) w v .stands in
-      let bad = none-allowed (awaitedIn (u .chip .core .phase)) f fs (empty vs) (rw d at permits) in
-      let b = bad-does (u .chip .core .phase) p (u .chip .core) (u .memory) f a bad in
+      let bad = none-allowed (awaitsIn (u .chip .core .phase)) f fs (empty vs) (rw d at permits) in
+      let b = bad-frame-does (u .chip .core .phase) p (u .chip .core) (u .memory) f a bad in
       let k : Core = badCore (u .chip .core .phase) (u .chip .core) in
-      let z = ap (thenAwaits (awaitedIn (u .chip .core .phase))) d ∙ bad-next (u .chip .core .phase) (u .chip .core) f fs a refl in
+      let z = ap (thenAwaits (awaitsIn (u .chip .core .phase))) d ∙ bad-next (u .chip .core .phase) (u .chip .core) f fs a refl in
       let l = resting k (g .core ∙ b .core) (bad-awaits (u .chip .core .phase) (u .chip .core) a refl) (g .same) z in
       let y = line-is k (g .core ∙ b .core) z in
       record {
@@ -191,7 +193,7 @@ module _ (p : Part) (v : Sound) (vs : List Sound) (u : Outcome) (w : Framing) (s
 
 -- The whole of a noise.
 pub noise-run : (p : Part) (vs : List Sound) (u : Outcome) (w : Framing) → Stands p u → AwaitsFrame (u .chip .core .phase) → Same w (heard (u .chip .collector))
-    → AllProper (map eventOf vs) → completesOnly noFrame (awaitedIn (u .chip .core .phase)) w vs ≡ true → Left u w vs (run p (map eventOf vs) u)
+    → AllProper (map eventOf vs) → completesOnly noFrame (awaitsIn (u .chip .core .phase)) w vs ≡ true → Left u w vs (run p (map eventOf vs) u)
 unfolding run Rest lineAfter
 noise-run p [] u w s a m q e = record { core = sym (left-none (u .chip .core) w); memory = refl; frame = a; awaits = refl; same = m }
 noise-run p (v ∷ vs) u w s a m (andEvent h q) e =

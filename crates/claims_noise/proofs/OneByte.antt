@@ -13,13 +13,13 @@ use Rattle.claims_frame.proofs.OneByte.{one-changed}
 use Rattle.claims_good.proofs.Rooms.{leaves}
 use Rattle.claims_good.proofs.Stays.{run-stands}
 use Rattle.claims_good.specs.Good.{Stands, Utterance}
-use Rattle.claims_noise.proofs.Bad.{bad-does, badCore}
+use Rattle.claims_fed.proofs.Bad.{bad-frame-does}
+use Rattle.claims_fed.specs.Fed.{badCore, doesIn, silence}
 use Rattle.claims_noise.proofs.Claims.{over-stands}
-use Rattle.claims_noise.proofs.Frames.{bytes-proper, doesIn, frame-runs}
+use Rattle.claims_fed.proofs.Frames.{bytes-proper, fed-is-done}
 use Rattle.claims_noise.proofs.Noise.{as-if, run-by, says-by}
-use Rattle.claims_noise.proofs.Steps.{headerIn}
-use Rattle.claims_noise.specs.Claims.{AwaitsFrame, OneByteChanged, afterBad, command, commandOver, inReady, inSetup, page, silence}
-use Rattle.claims_noise.specs.Noise.{Awaits, aCommand, aPage, awaitedIn, goodFor}
+use Rattle.claims_fed.specs.Awaits.{Awaits, AwaitsFrame, aCommand, aPage, awaitsIn, command, goodFor, headerIn, inReady, inSetup, page}
+use Rattle.claims_noise.specs.Claims.{OneByteChanged, afterBad, commandOver}
 use Rattle.chip_core.specs.declared.Phase.{Phase}
 use Rattle.chip_core.specs.declared.Phase.the-variants.{Awaiting, ModeByte, Ready, Setup}
 use Rattle.frame.proofs.Laws.Collector.{heard-none}
@@ -111,13 +111,15 @@ after-stands p (Awaiting w) o s n = over-stands p o s n
 pub one-byte-changed : OneByteChanged stepOf
 unfolding doesIn
 one-byte-changed p o f i v a n =
-    let b = awaitedIn (o .chip .core .phase) in
+    let b = awaitsIn (o .chip .core .phase) in
     let h = headerIn (o .chip .core .phase) in
-    let c = one-changed (footerIn b) f i v (good-judged b f (n .good)) (n .bytes) (n .after) (n .inside) (n .small) (n .changed) in
+    let c =
+    one-changed (footerIn b) f i v
+    (record { good = good-judged b f (n .good); bytes = n .bytes; after = n .after; inside = n .inside; small = n .small; changed = n .changed }) in
     let bad = bad-judged b (set f i v) (c .bad) in
     let below = below-set i v (n .small) (n .bytes) in
-    let g = frame-runs p o (set f i v) (n .stands) a (n .nothing) (c .frame) (c .header ∙ n .header) below in
-    let x = bad-does (o .chip .core .phase) p (o .chip .core) (o .memory) (set f i v) a bad in
+    let g = fed-is-done p o (set f i v) (n .stands) a (n .nothing) (c .frame) (c .header ∙ n .header) below in
+    let x = bad-frame-does (o .chip .core .phase) p (o .chip .core) (o .memory) (set f i v) a bad in
     let t : Outcome = run p (map Byte (set f i v)) o in
     let q = after-count (o .chip .core .phase) o in
     let r : afterBad (o .chip .core .phase) o .chip .collector .len ≡ 0 = ap (λ (c : Collector). c .len) q ∙ n .nothing in

@@ -6,25 +6,24 @@ use mathlib.Core.Logic.{_≢_}
 use mathlib.Core.Path.{_≡_}
 use Prim.Native.Nat.{_-_, _<_, _≤_, ℕ}
 use lib.ListN.{getD, length, replicate, set}
+use Rattle.claims_fed.specs.Fed.{Blame, blames, silence}
 use Rattle.chip.specs.Run.{spokenIn}
 use Rattle.chip.specs.Step.{Outcome}
-use Rattle.chip.specs.declared.Answer.the-variants.{Replied}
 use Rattle.chip_state.specs.declared.Chip.{Chip}
 use Rattle.chip.specs.declared.Event.{Event}
 use Rattle.chip.specs.declared.Event.the-variants.{Byte}
 use Rattle.claims_good.specs.Good.{Alike, AllProper, Stands, Utterance, uttered}
-use Rattle.claims_noise.specs.Noise.{Allowed, Awaits, awaitedIn, completesOnly, dataCompleted, eventOf, goodFor, headerOf, noFrame, only, thenAwaits, thenGap}
+use Rattle.claims_noise.specs.Noise.{Allowed, completesOnly, dataCompleted, noFrame, only, thenAwaits, thenGap}
+use Rattle.claims_fed.specs.Awaits.{Awaits, AwaitsCommand, AwaitsFrame, awaitsIn, eventOf, goodFor, headerOf}
 use Rattle.chip_core.specs.Effect.{Flash, flash}
 use Rattle.chip_pages.specs.Pages.{ready}
 use Rattle.chip_core.specs.declared.Awaited.{Awaited}
 use Rattle.chip_core.specs.declared.Phase.{Phase}
 use Rattle.chip_core.specs.declared.Phase.the-variants.{Awaiting, ModeByte, Ready, Setup}
 use Rattle.frame.proofs.Laws.Sum.{Below}
-use Rattle.frame.specs.Frame.{dataFrame, headerByte}
+use Rattle.frame.specs.Frame.{headerByte}
 use Rattle.frame.specs.Framing.{Framing, Sound, byte, frames, framing, idle}
-use Rattle.frame.specs.declared.Footer.the-variants.{Last}
 use Rattle.part.specs.declared.Part.{Part}
-use lib.Dec.{eqb}
 use Rattle.words.specs.Words.{if_then_else_}
 
 -- A chip, its runs, and what it says to each event.
@@ -49,18 +48,13 @@ pub record AsIf (M : Machine) (p : Part) (o u : Outcome) : Type 0 where
   pub answers : (vs : List Event) → AllProper vs → saysBy M p vs o ≡ saysBy M p vs u
   pub later : (vs : List Event) → AllProper vs → Alike (runBy M p vs o) (runBy M p vs u)
 
--- "Take a chip that awaits a command": phases 2 and 3.
-pub data AwaitsCommand : Phase → Type 0 where
-  inSetup : AwaitsCommand Setup
-  inReady : AwaitsCommand Ready
-
--- "with nothing collected. Let it hear any bytes and gaps in which the framing rule of demand 2 completes no good frame": g is the one good frame
+-- "Take a chip that awaits a command (`AwaitsCommand`), with nothing collected. Let it hear any bytes and gaps in which the framing rule of demand 2 completes no good frame": g is the one good frame
 -- allowed, or none.
 pub record Noise (g : Allowed) (p : Part) (o : Outcome) (vs : List Sound) : Type 0 where
   pub stands : Stands p o
   pub nothing : o .chip .collector .len ≡ 0
   pub bytes : AllProper (map eventOf vs)
-  pub quiet : completesOnly g (awaitedIn (o .chip .core .phase)) idle vs ≡ true
+  pub quiet : completesOnly g (awaitsIn (o .chip .core .phase)) idle vs ≡ true
 
 -- ", then a gap. Flash, options, rate and phase are as before, and every later event gets the answer that a chip without the noise would give."
 abbrev pub NoiseAtCommand : Machine → Type 0
@@ -101,31 +95,13 @@ NoiseBranches M =
 pub record OneByte (p : Part) (o : Outcome) (f : List ℕ) (i v : ℕ) : Type 0 where
   pub stands : Stands p o
   pub nothing : o .chip .collector .len ≡ 0
-  pub header : getD f 0 0 ≡ headerByte (headerOf (awaitedIn (o .chip .core .phase)))
-  pub good : goodFor (awaitedIn (o .chip .core .phase)) f ≡ true
+  pub header : getD f 0 0 ≡ headerByte (headerOf (awaitsIn (o .chip .core .phase)))
+  pub good : goodFor (awaitsIn (o .chip .core .phase)) f ≡ true
   pub bytes : Below 256 f
   pub after : 2 ≤ i
   pub inside : i < length f
   pub small : v < 256
   pub changed : getD f i 0 ≢ v
-
--- A bad frame's status: 15h or 07h.
-pub data Blame : ℕ → Type 0 where
-  is15h : Blame 0x15
-  is07h : Blame 0x07
-
--- A byte that is only heard is answered by nothing; a bad command frame and A0h's bad data by one status, a bad page by the status twice.
-abbrev pub silence : Utterance
-silence = record { answer = Replied 0 0; bytes = [] }
-
-abbrev pub saysFrame : List ℕ → Utterance
-saysFrame ds = record { answer = Replied (length (dataFrame ds Last)) 1; bytes = dataFrame ds Last }
-
-abbrev pub blames : Phase → ℕ → Utterance
-blames ModeByte s = saysFrame (s ∷ [])
-blames Setup s = saysFrame (s ∷ [])
-blames Ready s = saysFrame (s ∷ [])
-blames (Awaiting w) s = if eqb (w .command) 0xA0 then saysFrame (s ∷ []) else saysFrame (s ∷ s ∷ [])
 
 -- What is awaited after it: a command.
 abbrev pub afterBad : Phase → Outcome → Outcome
@@ -137,17 +113,12 @@ afterBad (Awaiting w) o = commandOver o
 -- ".. is not good in the state that awaited it": it is one complete frame, it is not good, it is blamed, and nothing else happens but that a command with
 -- data is over.
 pub record IsBad (M : Machine) (p : Part) (o : Outcome) (f : List ℕ) : Type 0 where
-  pub alone : frames (headerOf (awaitedIn (o .chip .core .phase))) idle (map byte f) ≡ f ∷ []
-  pub bad : goodFor (awaitedIn (o .chip .core .phase)) f ≡ false
+  pub alone : frames (headerOf (awaitsIn (o .chip .core .phase))) idle (map byte f) ≡ f ∷ []
+  pub bad : goodFor (awaitsIn (o .chip .core .phase)) f ≡ false
   pub status : ℕ
   pub blame : Blame status
   pub answers : saysBy M p (map Byte f) o ≡ replicate (length f - 1) silence ++ blames (o .chip .core .phase) status ∷ []
   pub leaves : AsIf M p (afterBad (o .chip .core .phase) o) (runBy M p (map Byte f) o)
-
--- Phases that await a frame: 2, 3 and 4.
-pub data AwaitsFrame : Phase → Type 0 where
-  command : {f : Phase} → AwaitsCommand f → AwaitsFrame f
-  page : (w : Awaited) → AwaitsFrame (Awaiting w)
 
 abbrev pub OneByteChanged : Machine → Type 0
 OneByteChanged M =

@@ -3,40 +3,13 @@
 use mathlib.Core.Bool.{Bool, false, not, true}
 use mathlib.Core.List.{List, [], _++_, _∷_, map}
 use Prim.Native.Nat.{ℕ}
+use Rattle.claims_fed.specs.Awaits.{Awaits, aCommand, eventOf, goodFor, headerOf}
 use Rattle.chip.specs.declared.Event.{Event}
-use Rattle.chip.specs.declared.Event.the-variants.{Byte, Gap}
-use Rattle.chip_pages.specs.Pages.{footerOf, lengthOf}
-use Rattle.chip_core.specs.declared.Phase.{Phase}
-use Rattle.chip_core.specs.declared.Phase.the-variants.{Awaiting, ModeByte, Ready, Setup}
+use Rattle.chip.specs.declared.Event.the-variants.{Gap}
 use Rattle.lent.specs.Lent.{same}
-use Rattle.frame.specs.Framing.{Framing, Sound, byte, frames, framing, gap, idle}
-use Rattle.frame.specs.Judgement.{fitting, isGood, judgeOf}
-use Rattle.frame.specs.declared.Footer.{Footer}
-use Rattle.frame.specs.declared.Footer.the-variants.{Last}
-use Rattle.frame.specs.declared.Header.{Header}
-use Rattle.frame.specs.declared.Header.the-variants.{Command, Data}
+use Rattle.frame.specs.Framing.{Framing, Sound, frames, framing, idle}
+use Rattle.frame.specs.declared.Header.the-variants.{Data}
 use Rattle.words.specs.Words.{_and_, _or_}
-
--- What is awaited: a command frame, or a data frame with this footer and so many data bytes.
-pub data Awaits : Type 0 where
-  aCommand : Awaits
-  aPage : Footer → ℕ → Awaits
-
-abbrev pub headerOf : Awaits → Header
-headerOf aCommand = Command
-headerOf (aPage f n) = Data
-
--- "A good frame has right footer and SUM; a data frame also needs the right LEN.": for a command whatever the command.
-unfoldable pub goodFor : Awaits → List ℕ → Bool
-goodFor aCommand bs = isGood (judgeOf Last bs)
-goodFor (aPage f n) bs = isGood (fitting n bs (judgeOf f bs))
-
--- What a phase awaits. (Phase 1 awaits no frame, and no claim is made of it.)
-abbrev pub awaitedIn : Phase → Awaits
-awaitedIn ModeByte = aCommand
-awaitedIn Setup = aCommand
-awaitedIn Ready = aCommand
-awaitedIn (Awaiting w) = aPage (footerOf w) (lengthOf w)
 
 -- The one good frame that may be completed, or none.
 pub data Allowed : Type 0 where
@@ -72,10 +45,6 @@ completesOnly g a w (v ∷ vs) =
 unfoldable pub dataCompleted : List Sound → Bool
 dataCompleted vs = not (empty (frames Data idle vs))
 
--- The events of bytes and gaps; "then a gap".
-abbrev pub eventOf : Sound → Event
-eventOf (byte b) = Byte b
-eventOf gap = Gap
-
+-- "then a gap".
 unfoldable pub thenGap : List Sound → List Event
 thenGap vs = map eventOf vs ++ Gap ∷ []

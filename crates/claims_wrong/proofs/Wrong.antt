@@ -18,7 +18,8 @@ use Rattle.chip.specs.declared.Event.the-variants.{Byte}
 use Rattle.claims_good.proofs.Rooms.{same-alike}
 use Rattle.claims_good.specs.Good.{SameChip, Utterance}
 use Rattle.claims_noise.proofs.Examples.{wrong-page, wrong-page-completes-one}
-use Rattle.claims_noise.specs.Claims.{AsIf, Machine, NoiseAtCommand, NoiseAtData, commandOver, leftBy, onwardBy, runBy, saysBy, silence}
+use Rattle.claims_noise.specs.Claims.{AsIf, Machine, NoiseAtCommand, NoiseAtData, commandOver, leftBy, onwardBy, runBy, saysBy}
+use Rattle.claims_fed.specs.Fed.{silence}
 use Rattle.claims_noise.specs.Examples.{secondPage, writingChip, wrongPage}
 use Rattle.claims_noise.specs.Noise.{thenGap}
 use Rattle.claims_stars.specs.Table.{readyChip, thePart}

@@ -8,16 +8,15 @@ use lib.Dec.{eqb}
 use lib.ListN.{getD, length}
 use Rattle.chip.specs.Step.{frameDoes, reaction}
 use Rattle.claims_good.proofs.Rooms.{utteranceOf}
-use Rattle.claims_noise.proofs.Steps.{does}
-use Rattle.claims_noise.specs.Claims.{AwaitsFrame, Blame, blames, command, inReady, inSetup, is07h, is15h, page, saysFrame}
-use Rattle.claims_noise.specs.Noise.{aCommand, aPage, awaitedIn, goodFor}
+use Rattle.claims_fed.specs.Fed.{BadDoes, Blame, badCore, does, is07h, is15h, saysFrame}
+use Rattle.claims_fed.specs.Awaits.{AwaitsFrame, aCommand, aPage, awaitsIn, command, goodFor, inReady, inSetup, page}
 use Rattle.chip_commands.specs.Commands.{askedIn, commandDoes, commandsIn, work}
-use Rattle.chip_core.specs.Effect.{Effect, Flash, effect, says}
+use Rattle.chip_core.specs.Effect.{Flash, effect, says}
 use Rattle.chip_pages.specs.Pages.{badData, dataDoes, footerOf, goodData, lengthOf, pair, ready}
 use Rattle.chip_core.specs.declared.Awaited.{Awaited}
 use Rattle.chip_core.specs.declared.Core.{Core}
 use Rattle.chip_core.specs.declared.Phase.{Phase}
-use Rattle.chip_core.specs.declared.Phase.the-variants.{Awaiting, ModeByte, Ready, Setup}
+use Rattle.chip_core.specs.declared.Phase.the-variants.{Awaiting, Ready, Setup}
 use Rattle.frame.specs.Judgement.{fitting, isGood, judgeOf, statusOf}
 use Rattle.frame.specs.declared.Footer.the-variants.{Last}
 use Rattle.frame.specs.declared.judgement.Judgement.{Judgement}
@@ -25,20 +24,6 @@ use Rattle.frame.specs.declared.judgement.Judgement.the-variants.{Good, UnfitLe
 use Rattle.part.specs.declared.Part.{Part}
 use Rattle.chip_reply.specs.Reply.{framesOf, payloads}
 use Rattle.words.specs.Words.{if_then_else_}
-
--- The record after it.
-unfoldable pub badCore : Phase → Core → Core
-badCore ModeByte k = k
-badCore Setup k = k
-badCore Ready k = k
-badCore (Awaiting w) k = ready k
-
-pub record BadDoes (f : Phase) (p : Part) (k : Core) (m : Flash) (x : Effect) : Type 0 where
-  pub core : x .core ≡ badCore f k
-  pub memory : x .memory ≡ m
-  pub status : ℕ
-  pub blame : Blame status
-  pub utters : utteranceOf p (reaction [] x) ≡ blames f status
 
 blamed : (j : Judgement) → isGood j ≡ false → Blame (statusOf j)
 blamed Good e = absurd (false≢true (sym e))
@@ -89,13 +74,13 @@ data-blamed p k w m s b = go (eqb (w .command) 0xA0)
           utters = says-so (eqb (w .command) 0xA0);
         }
 
-pub bad-does : (f : Phase) (p : Part) (k : Core) (m : Flash) (g : List ℕ) → AwaitsFrame f → goodFor (awaitedIn f) g ≡ false → BadDoes f p k m (does f p k m g)
+pub bad-frame-does : (f : Phase) (p : Part) (k : Core) (m : Flash) (g : List ℕ) → AwaitsFrame f → goodFor (awaitsIn f) g ≡ false → BadDoes f p k m (does f p k m g)
 unfolding does frameDoes badCore goodFor
-bad-does f p k m g (command inSetup) e =
+bad-frame-does f p k m g (command inSetup) e =
     rw (bad-command Setup p k m g e)
     (record { core = refl; memory = refl; status = statusOf (judgeOf Last g); blame = blamed (judgeOf Last g) e; utters = says-one p k m (statusOf (judgeOf Last g)) })
-bad-does f p k m g (command inReady) e =
+bad-frame-does f p k m g (command inReady) e =
     rw (bad-command Ready p k m g e)
     (record { core = refl; memory = refl; status = statusOf (judgeOf Last g); blame = blamed (judgeOf Last g) e; utters = says-one p k m (statusOf (judgeOf Last g)) })
-bad-does f p k m g (page w) e =
+bad-frame-does f p k m g (page w) e =
     rw (bad-data p k w m g e) (data-blamed p k w m (statusOf (fitting (lengthOf w) g (judgeOf (footerOf w) g))) (blamed (fitting (lengthOf w) g (judgeOf (footerOf w) g)) e))

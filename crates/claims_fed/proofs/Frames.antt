@@ -15,9 +15,9 @@ use Rattle.claims_frame.proofs.Framing.{Same, header, nothing, some, step-begin
 use Rattle.claims_good.proofs.Rooms.{utteranceOf}
 use Rattle.claims_good.proofs.Stays.{stays}
 use Rattle.claims_good.specs.Good.{AllProper, Stands, Utterance, aByte, andEvent, noEvent, utterances, uttered}
-use Rattle.claims_noise.proofs.Steps.{Stepped, does, frameDone, headerIn, onlyHeard, stepped}
-use Rattle.claims_noise.specs.Claims.{AwaitsFrame, silence}
-use Rattle.claims_noise.specs.Noise.{eventOf}
+use Rattle.claims_fed.proofs.Steps.{Stepped, frameDone, onlyHeard, stepped}
+use Rattle.claims_fed.specs.Fed.{FedIsDone, does, doesIn, silence}
+use Rattle.claims_fed.specs.Awaits.{AwaitsFrame, eventOf, headerIn}
 use Rattle.chip_core.specs.Effect.{Effect, Flash}
 use Rattle.chip_core.specs.declared.Core.{Core}
 use Rattle.frame.proofs.Laws.Collector.{heard-none}
@@ -74,21 +74,8 @@ silent-says p k m = refl
 pub no-frame : (f : List ℕ) (fs : List (List ℕ)) → _≡_ {A = List (List ℕ)} [] (f ∷ fs) → ⊥
 no-frame f fs e = let z : _≡_ {A = ℕ} 0 1 = cc in omega arith
 
--- What a frame does in a state.
-unfoldable pub doesIn : Part → List ℕ → Core → Flash → Effect
-doesIn p f k m = does (k .phase) p k m f
-
 pub does-same : (p : Part) (f : List ℕ) {k l : Core} {m n : Flash} → k ≡ l → m ≡ n → doesIn p f k m ≡ doesIn p f l n
 does-same p f e g = rw (e, g)
-
--- The run of a frame's bytes, from a place in it.
-pub record FrameRun (p : Part) (u : Outcome) (bs f : List ℕ) : Type 0 where
-  pub answers :
-      utterances p (map Byte bs) u ≡ replicate (length bs - 1) silence ++ utteranceOf p (reaction [] (doesIn p f (u .chip .core) (u .memory))) ∷ []
-  pub last : uttered (spokenIn (run p (map Byte bs) u)) ≡ utteranceOf p (reaction [] (doesIn p f (u .chip .core) (u .memory)))
-  pub core : run p (map Byte bs) u .chip .core ≡ doesIn p f (u .chip .core) (u .memory) .core
-  pub memory : run p (map Byte bs) u .memory ≡ doesIn p f (u .chip .core) (u .memory) .memory
-  pub count : run p (map Byte bs) u .chip .collector .len ≡ 0
 
 -- A sound that completes the frame f.
 pub record Completed (p : Part) (u : Outcome) (v : Sound) (f : List ℕ) : Type 0 where
@@ -114,13 +101,13 @@ completed p u w v f e (frameDone f′ fs d s) =
       count = s .count ∙ ap length (same-idle t (s .same));
     }
 
-run-last : (p : Part) (u : Outcome) (b : ℕ) (f : List ℕ) → Completed p u (byte b) f → FrameRun p u (b ∷ []) f
+run-last : (p : Part) (u : Outcome) (b : ℕ) (f : List ℕ) → Completed p u (byte b) f → FedIsDone p u (b ∷ []) f
 unfolding utterances answers run
 run-last p u b f c =
     record { answers = ap (λ (z : Utterance). z ∷ []) (c .says); last = c .says; core = c .core; memory = c .memory; count = c .count }
 
 run-more : (p : Part) (u : Outcome) (b c : ℕ) (bs f : List ℕ) → onward p u (Byte b) .chip .core ≡ u .chip .core → onward p u (Byte b) .memory ≡ u .memory
-    → uttered (spokenIn (onward p u (Byte b))) ≡ silence → FrameRun p (onward p u (Byte b)) (c ∷ bs) f → FrameRun p u (b ∷ c ∷ bs) f
+    → uttered (spokenIn (onward p u (Byte b))) ≡ silence → FedIsDone p (onward p u (Byte b)) (c ∷ bs) f → FedIsDone p u (b ∷ c ∷ bs) f
 unfolding utterances answers run
 run-more p u b c bs f k m s r =
     let n : length (b ∷ c ∷ bs) - 1 ≡ suc (length (c ∷ bs) - 1) = omega arith in
@@ -140,11 +127,11 @@ run-more p u b c bs f k m s r =
 -- What the rest of the frame does, from the state that a byte of it leaves.
 RestRuns : Part → Header → Framing → List ℕ → List ℕ → Outcome → Type 0
 RestRuns p h x cs f u =
-    Stands p u → AwaitsFrame (u .chip .core .phase) → Same x (heard (u .chip .collector)) → h ≡ headerIn (u .chip .core .phase) → FrameRun p u cs f
+    Stands p u → AwaitsFrame (u .chip .core .phase) → Same x (heard (u .chip .collector)) → h ≡ headerIn (u .chip .core .phase) → FedIsDone p u cs f
 
 runs-on : (p : Part) (h : Header) (u : Outcome) (w x : Framing) (b c : ℕ) (bs f : List ℕ) → Stands p u → AwaitsFrame (u .chip .core .phase)
     → h ≡ headerIn (u .chip .core .phase) → b < 256 → framing h w (byte b) ≡ quiet x → RestRuns p h x (c ∷ bs) f (onward p u (Byte b))
-    → Stepped p u (byte b) w → FrameRun p u (b ∷ c ∷ bs) f
+    → Stepped p u (byte b) w → FedIsDone p u (b ∷ c ∷ bs) f
 unfolding RestRuns
 runs-on p h u w x b c bs f s a q k e rest (frameDone f′ fs d t) =
     absurd (no-frame f′ fs (sym (ap (λ (y : Framed). y .done) e) ∙ ap (λ (j : Header). framing j w (byte b) .done) q ∙ d))
@@ -155,7 +142,7 @@ runs-on p h u w x b c bs f s a q k e rest (onlyHeard d t) =
     (rest (stays p u (Byte b) s (aByte k)) (rw (t .core) a) (rw y at (t .same)) (q ∙ ap (λ (l : Core). headerIn (l .phase)) (sym (t .core))))
 
 pub ends-runs : (p : Part) (h : Header) {w : Framing} {bs f : List ℕ} → Ends h w bs f → Below 256 bs → (u : Outcome) → Stands p u
-    → AwaitsFrame (u .chip .core .phase) → Same w (heard (u .chip .collector)) → h ≡ headerIn (u .chip .core .phase) → FrameRun p u bs f
+    → AwaitsFrame (u .chip .core .phase) → Same w (heard (u .chip .collector)) → h ≡ headerIn (u .chip .core .phase) → FedIsDone p u bs f
 unfolding RestRuns
 ends-runs p h (lastOne w b f e) n u s a m q =
     run-last p u b f (completed p u w (byte b) f (ap (λ (k : Header). framing k w (byte b)) (sym q) ∙ e) (stepped p u (byte b) w s a m))
@@ -163,8 +150,8 @@ ends-runs p h (oneMore w x b c cs f e r) (more k n) u s a m q =
     runs-on p h u w x b c cs f s a q k e (λ s′ a′ m′ q′. ends-runs p h r n (onward p u (Byte b)) s′ a′ m′ q′) (stepped p u (byte b) w s a m)
 
 -- A whole frame, from nothing collected.
-pub frame-runs : (p : Part) (u : Outcome) (f : List ℕ) → Stands p u → AwaitsFrame (u .chip .core .phase) → u .chip .collector .len ≡ 0 → isFrame f ≡ true
-    → getD f 0 0 ≡ headerByte (headerIn (u .chip .core .phase)) → Below 256 f → FrameRun p u f f
-frame-runs p u f s a n t e b =
+pub fed-is-done : (p : Part) (u : Outcome) (f : List ℕ) → Stands p u → AwaitsFrame (u .chip .core .phase) → u .chip .collector .len ≡ 0 → isFrame f ≡ true
+    → getD f 0 0 ≡ headerByte (headerIn (u .chip .core .phase)) → Below 256 f → FedIsDone p u f f
+fed-is-done p u f s a n t e b =
     let z : heard (u .chip .collector) ≡ [] = heard-none (u .chip .collector) n in
     ends-runs p (headerIn (u .chip .core .phase)) (frame-ends (headerIn (u .chip .core .phase)) f t e) b u s a (rw z nothing) refl

@@ -5,15 +5,15 @@ use mathlib.Core.List.{List, [], _∷_}
 use mathlib.Core.Path.{_∙_, _≡_, ap, refl, sym}
 use Prim.Native.Nat.{ℕ}
 use lib.ListN.{length}
+use Rattle.claims_fed.specs.Fed.{does}
 use Rattle.chip.specs.Run.{onward, spokenIn}
-use Rattle.chip.specs.Step.{Outcome, Reaction, byteIn, frameDoes, heardByte, reactTo, reaction, silent}
+use Rattle.chip.specs.Step.{Outcome, Reaction, byteIn, heardByte, reactTo, reaction, silent}
 use Rattle.claims_frame.proofs.Framing.{Agree, Same, step-agrees}
 use Rattle.claims_frame.specs.Collecting.{Collected, collecting, take-up}
 use Rattle.claims_good.proofs.Collected.{holds}
 use Rattle.claims_good.proofs.Rooms.{leaves, reactionOf, says-reaction, utteranceOf}
 use Rattle.claims_good.specs.Good.{Stands, uttered}
-use Rattle.claims_noise.specs.Claims.{AwaitsFrame, command, inReady, inSetup, page}
-use Rattle.claims_noise.specs.Noise.{awaitedIn, eventOf, headerOf}
+use Rattle.claims_fed.specs.Awaits.{AwaitsFrame, command, eventOf, headerIn, inReady, inSetup, page}
 use Rattle.chip_core.specs.Effect.{Effect, Flash}
 use Rattle.chip_core.specs.declared.Core.{Core}
 use Rattle.chip_core.specs.declared.Phase.{Phase}
@@ -21,13 +21,9 @@ use Rattle.chip_core.specs.declared.Phase.the-variants.{Awaiting, Ready, Setup}
 use Rattle.frame.specs.Collector.{hear, heard}
 use Rattle.frame.specs.Frame.{complete}
 use Rattle.frame.specs.Framing.{Framing, Sound, byte, framing, gap}
-use Rattle.frame.specs.declared.Header.{Header}
 use Rattle.frame.specs.declared.Header.the-variants.{Command, Data}
 use Rattle.part.specs.declared.Part.{Part}
 use Rattle.words.specs.Words.{if_then_else_}
-
-abbrev pub headerIn : Phase → Header
-headerIn f = headerOf (awaitedIn f)
 
 -- What a chip makes of what its collector has: x is what a complete frame does.
 byTaken : List (List ℕ) → (List ℕ → Effect) → Core → Flash → List ℕ → Reaction
@@ -45,10 +41,6 @@ heard-collects hs x k m = go (complete hs)
         ≡ collectedBy x k m (if t then record { holds = []; taken = hs ∷ [] } else record { holds = hs; taken = [] })
     go true = refl
     go false = refl
-
--- A frame does its work in its phase.
-unfoldable pub does : Phase → Part → Core → Flash → List ℕ → Effect
-does f p k m g = frameDoes f p k g m
 
 byte-collects : (f : Phase) (p : Part) (k : Core) (hs : List ℕ) (m : Flash) (b : ℕ) → AwaitsFrame f
     → byteIn f p k hs b m ≡ collectedBy (does f p k m) k m (collecting (headerIn f) hs (byte b))

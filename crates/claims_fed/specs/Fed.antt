@@ -1,0 +1,71 @@
+-- What a frame does that is fed to the chip byte by byte, and what one does that is not good: demand 2's judgement, as noise, recordings and a whole cable need it.
+use mathlib.Core.List.{List, [], _++_, _∷_, map}
+use mathlib.Core.Path.{_≡_}
+use Prim.Native.Nat.{_-_, ℕ}
+use lib.Dec.{eqb}
+use lib.ListN.{length, replicate}
+use Rattle.chip.specs.Run.{run, spokenIn}
+use Rattle.chip.specs.Step.{Outcome, frameDoes, reaction}
+use Rattle.chip.specs.declared.Answer.the-variants.{Replied}
+use Rattle.chip.specs.declared.Event.the-variants.{Byte}
+use Rattle.chip_core.specs.Effect.{Effect, Flash}
+use Rattle.chip_core.specs.declared.Core.{Core}
+use Rattle.chip_core.specs.declared.Phase.{Phase}
+use Rattle.chip_core.specs.declared.Phase.the-variants.{Awaiting, ModeByte, Ready, Setup}
+use Rattle.chip_pages.specs.Pages.{ready}
+use Rattle.claims_good.proofs.Rooms.{utteranceOf}
+use Rattle.claims_good.specs.Good.{Utterance, utterances, uttered}
+use Rattle.frame.specs.Frame.{dataFrame}
+use Rattle.frame.specs.declared.Footer.the-variants.{Last}
+use Rattle.part.specs.declared.Part.{Part}
+use Rattle.words.specs.Words.{if_then_else_}
+
+-- A frame does its work in its phase.
+unfoldable pub does : Phase → Part → Core → Flash → List ℕ → Effect
+does f p k m g = frameDoes f p k g m
+
+-- What a frame does in a state.
+unfoldable pub doesIn : Part → List ℕ → Core → Flash → Effect
+doesIn p f k m = does (k .phase) p k m f
+
+-- A byte that is only heard is answered by nothing.
+abbrev pub silence : Utterance
+silence = record { answer = Replied 0 0; bytes = [] }
+
+-- A frame fed is the frame done: nothing is said before its last byte, and to that what the frame's work says; that work is done, and nothing is collected.
+pub record FedIsDone (p : Part) (u : Outcome) (bs f : List ℕ) : Type 0 where
+  pub answers :
+      utterances p (map Byte bs) u ≡ replicate (length bs - 1) silence ++ utteranceOf p (reaction [] (doesIn p f (u .chip .core) (u .memory))) ∷ []
+  pub last : uttered (spokenIn (run p (map Byte bs) u)) ≡ utteranceOf p (reaction [] (doesIn p f (u .chip .core) (u .memory)))
+  pub core : run p (map Byte bs) u .chip .core ≡ doesIn p f (u .chip .core) (u .memory) .core
+  pub memory : run p (map Byte bs) u .memory ≡ doesIn p f (u .chip .core) (u .memory) .memory
+  pub count : run p (map Byte bs) u .chip .collector .len ≡ 0
+
+-- A bad frame's status: 15h or 07h.
+pub data Blame : ℕ → Type 0 where
+  is15h : Blame 0x15
+  is07h : Blame 0x07
+
+-- A bad command frame and A0h's bad data are answered by one status, a bad page by the status twice.
+abbrev pub saysFrame : List ℕ → Utterance
+saysFrame ds = record { answer = Replied (length (dataFrame ds Last)) 1; bytes = dataFrame ds Last }
+
+abbrev pub blames : Phase → ℕ → Utterance
+blames ModeByte s = saysFrame (s ∷ [])
+blames Setup s = saysFrame (s ∷ [])
+blames Ready s = saysFrame (s ∷ [])
+blames (Awaiting w) s = if eqb (w .command) 0xA0 then saysFrame (s ∷ []) else saysFrame (s ∷ s ∷ [])
+
+-- The record after it.
+unfoldable pub badCore : Phase → Core → Core
+badCore ModeByte k = k
+badCore Setup k = k
+badCore Ready k = k
+badCore (Awaiting w) k = ready k
+
+pub record BadDoes (f : Phase) (p : Part) (k : Core) (m : Flash) (x : Effect) : Type 0 where
+  pub core : x .core ≡ badCore f k
+  pub memory : x .memory ≡ m
+  pub status : ℕ
+  pub blame : Blame status
+  pub utters : utteranceOf p (reaction [] x) ≡ blames f status
