@@ -1,7 +1,8 @@
 //! A proved chip with its flash and reply room, and the twin's chip in the door's layout.
 
 use crate::door::{self, Told, NAMES, ROOM, STATE};
-use twin::chip::{Chip, Part, Phase, BLOCK, ERASED};
+use twin::chip::{Chip, Phase, ERASED};
+use twin::part::{Area, Part};
 
 pub struct Door {
     part: Part,
@@ -19,8 +20,8 @@ impl Door {
             part: part.clone(),
             names: names(part),
             state: [0; STATE],
-            code: vec![ERASED; part.code_blocks as usize * BLOCK],
-            data: vec![ERASED; part.data_blocks as usize * BLOCK],
+            code: vec![ERASED; part.size(Area::Code)],
+            data: vec![ERASED; part.size(Area::Data)],
             room: [0; ROOM],
         };
         let told = door::fresh(&described(part, &chip.names), &mut chip.state);

@@ -3,11 +3,8 @@
 use crate::frame::{
     counted, Frame, Reply, COMMAND_HEADER, DATA_HEADER, LAST_FOOTER, LONGEST, MORE_FOOTER,
 };
+use crate::part::{Area, Part};
 
-pub const BLOCK: usize = 1024;
-pub const PAGE: usize = 256;
-pub const DATA_FLASH: usize = 0xF1000;
-pub const BOOT_BLOCKS: usize = 4;
 pub const LAST_BOOT_BLOCK: u8 = 0x03;
 pub const ERASED: u8 = 0xFF;
 pub const SMALLEST_ROOM: usize = 32;
@@ -44,17 +41,6 @@ const WRITE_ALLOWED: u8 = 1 << 4;
 /// Bits 0, 3, 5, 6, 7 (000 table 3-3).
 const FIXED_FLAGS: u8 = 0xE9;
 const HIGHEST_RATE: u8 = 0x03;
-
-/// The description of a part (01 "The part").
-#[derive(Clone, Debug, PartialEq, Eq)]
-pub struct Part {
-    pub code_blocks: u32,
-    pub data_blocks: u32,
-    pub clock: u32,
-    pub device: [u8; 3],
-    pub name: [u8; 10],
-    pub version: [u8; 3],
-}
 
 /// The lasting options (01 "The part").
 #[derive(Clone, Copy, Debug, PartialEq, Eq)]
@@ -107,7 +93,7 @@ pub enum Answer {
 impl Chip {
     /// A chip as it leaves the house, at power-on; refused with 1 for a part outside the numbers.
     pub fn fresh(part: &Part) -> Result<Chip, u8> {
-        if !part_fits(part) {
+        if !part.fits() {
             return Err(1);
         }
         Ok(Chip {
@@ -155,11 +141,11 @@ fn power_on(chip: &mut Chip) {
 // Refusals: 01 "Refusal numbers", order 1, 2, 3, 9, 4
 
 fn refusal(part: &Part, chip: &Chip, code: &[u8], data: &[u8], room: &[u8]) -> Option<u8> {
-    if !part_fits(part) {
+    if !part.fits() {
         Some(1)
-    } else if code.len() != code_bytes(part) {
+    } else if code.len() != part.size(Area::Code) {
         Some(2)
-    } else if data.len() != data_bytes(part) {
+    } else if data.len() != part.size(Area::Data) {
         Some(3)
     } else if !state_fits(part, chip) {
         Some(9)
@@ -168,10 +154,6 @@ fn refusal(part: &Part, chip: &Chip, code: &[u8], data: &[u8], room: &[u8]) -> O
     } else {
         None
     }
-}
-
-pub(crate) fn part_fits(part: &Part) -> bool {
-    (8..=64).contains(&part.code_blocks) && part.data_blocks <= 8 && (1..=32).contains(&part.clock)
 }
 
 fn state_fits(part: &Part, chip: &Chip) -> bool {
@@ -205,13 +187,15 @@ fn phase_fits(part: &Part, phase: Phase) -> bool {
             command: PROGRAM | VERIFY,
             next,
             last,
-        } => {
-            let one_area = match (place(part, next), place(part, last)) {
-                (Some(first), Some(end)) => first.area == end.area,
-                _ => false,
-            };
-            one_area && next.is_multiple_of(PAGE) && last % BLOCK == BLOCK - 1 && next <= last
-        }
+        } => match (part.place(next), part.place(last)) {
+            (Some(first), Some(end)) => {
+                first.area == end.area
+                    && first.offset.is_multiple_of(part.page_size())
+                    && (end.offset + 1).is_multiple_of(part.block_size(end.area))
+                    && next <= last
+            }
+            _ => false,
+        },
         Phase::Awaiting { .. } => false,
     }
 }
@@ -224,20 +208,7 @@ fn options_fit(part: &Part, options: &Options) -> bool {
         && u32::from(options.end) < part.code_blocks
 }
 
-// The part and its flash: 01 "The part"
-
-#[derive(Clone, Copy, PartialEq, Eq)]
-enum Area {
-    Code,
-    Data,
-}
-
-/// Where an address lies: its area, and how far from that area's first byte.
-#[derive(Clone, Copy)]
-struct Place {
-    area: Area,
-    offset: usize,
-}
+// Flash: 01 "The part"
 
 /// Whole blocks of one area: from the first offset up to, not including, the end offset.
 #[derive(Clone, Copy)]
@@ -274,21 +245,13 @@ impl Flash<'_> {
 
 impl Range {
     /// Boot blocks are code blocks 0 to 3; the data blocks of those numbers are none.
-    fn holds_boot_block(&self) -> bool {
-        self.area == Area::Code && self.first < BOOT_BLOCKS * BLOCK
+    fn holds_boot_block(&self, part: &Part) -> bool {
+        self.area == Area::Code && self.first < part.boot_size()
     }
 }
 
 fn all_erased(bytes: &[u8]) -> bool {
     bytes.iter().all(|byte| *byte == ERASED)
-}
-
-fn code_bytes(part: &Part) -> usize {
-    part.code_blocks as usize * BLOCK
-}
-
-fn data_bytes(part: &Part) -> usize {
-    part.data_blocks as usize * BLOCK
 }
 
 fn fresh_options(part: &Part) -> Options {
@@ -304,25 +267,12 @@ fn last_code_block(part: &Part) -> u16 {
     (part.code_blocks - 1) as u16
 }
 
-fn place(part: &Part, address: usize) -> Option<Place> {
-    if address < code_bytes(part) {
-        return Some(Place {
-            area: Area::Code,
-            offset: address,
-        });
-    }
-    let offset = address.checked_sub(DATA_FLASH)?;
-    (offset < data_bytes(part)).then_some(Place {
-        area: Area::Data,
-        offset,
-    })
-}
-
 /// The range from one address to another, or nothing if it is bad (01 "Commands").
 fn whole_blocks(part: &Part, start: usize, end: usize) -> Option<Range> {
-    let first = place(part, start)?;
-    let last = place(part, end)?;
-    let whole = first.offset.is_multiple_of(BLOCK) && (last.offset + 1).is_multiple_of(BLOCK);
+    let first = part.place(start)?;
+    let last = part.place(end)?;
+    let block = part.block_size(first.area);
+    let whole = first.offset.is_multiple_of(block) && (last.offset + 1).is_multiple_of(block);
     (start <= end && first.area == last.area && whole).then_some(Range {
         area: first.area,
         first: first.offset,
@@ -332,7 +282,8 @@ fn whole_blocks(part: &Part, start: usize, end: usize) -> Option<Range> {
 
 /// How many blocks a range holds, or nothing if it is bad.
 pub(crate) fn blocks_of(part: &Part, start: usize, end: usize) -> Option<usize> {
-    whole_blocks(part, start, end).map(|range| (range.end - range.first) / BLOCK)
+    whole_blocks(part, start, end)
+        .map(|range| (range.end - range.first) / part.block_size(range.area))
 }
 
 // Collecting: 01 "Frames" and "Phases"
@@ -418,7 +369,7 @@ struct Pages {
 fn hear_command(part: &Part, chip: &mut Chip, frame: &Frame, flash: &mut Flash, reply: &mut Reply) {
     let judged = judge_ends(frame, LAST_FOOTER)
         .and_then(|()| judge_command(part, chip.phase, frame.body()))
-        .and_then(|command| judge_protection(&chip.options, command));
+        .and_then(|command| judge_protection(part, &chip.options, command));
     match judged {
         Ok(command) => work(part, chip, command, flash, reply),
         Err(status) => reply.frame(&[status]),
@@ -468,7 +419,8 @@ fn read_command(part: &Part, body: &[u8]) -> Option<Command> {
         RESET => Some(Command::Reset),
         BLOCK_ERASE => {
             let start = address(&body[1..4]);
-            whole_blocks(part, start, start + BLOCK - 1).map(Command::Erase)
+            let block = part.block_size(part.place(start)?.area);
+            whole_blocks(part, start, start + block - 1).map(Command::Erase)
         }
         BLANK_CHECK => {
             let (start, end) = addresses(body);
@@ -530,14 +482,14 @@ fn addresses(body: &[u8]) -> (usize, usize) {
 }
 
 /// Protection 10h (01 "Commands", 000 table 3-4). The write ban holds for data flash too.
-fn judge_protection(options: &Options, command: Command) -> Result<Command, u8> {
+fn judge_protection(part: &Part, options: &Options, command: Command) -> Result<Command, u8> {
     let barred = |flag: u8| options.flags & flag == 0;
     let forbidden = match &command {
         Command::Erase(range) => {
-            barred(ERASE_ALLOWED) || range.holds_boot_block() && barred(BOOT_ALLOWED)
+            barred(ERASE_ALLOWED) || range.holds_boot_block(part) && barred(BOOT_ALLOWED)
         }
         Command::Pages(pages, range) if pages.command == PROGRAM => {
-            barred(WRITE_ALLOWED) || range.holds_boot_block() && barred(BOOT_ALLOWED)
+            barred(WRITE_ALLOWED) || range.holds_boot_block(part) && barred(BOOT_ALLOWED)
         }
         Command::Release => barred(BOOT_ALLOWED) || barred(ERASE_ALLOWED),
         _ => false,
@@ -608,10 +560,10 @@ fn block_sum(bytes: &[u8]) -> u16 {
 
 /// Device code, name, last code address, last data address, version (000 3.7.3).
 pub(crate) fn signature(part: &Part) -> [u8; 22] {
-    let last_code = code_bytes(part) - 1;
-    let last_data = match data_bytes(part) {
+    let last_code = part.end(Area::Code) - 1;
+    let last_data = match part.blocks(Area::Data) {
         0 => 0,
-        bytes => DATA_FLASH + bytes - 1,
+        _ => part.end(Area::Data) - 1,
     };
     let mut bytes = [0; 22];
     bytes[0..3].copy_from_slice(&part.device);
@@ -702,24 +654,24 @@ impl Pages {
     }
 
     /// The address tells the last page, never the frame's own footer.
-    fn on_last(self) -> bool {
-        self.next + (PAGE - 1) == self.last
+    fn on_last(self, part: &Part) -> bool {
+        self.next + (part.page_size() - 1) == self.last
     }
 
-    fn footer(self) -> u8 {
-        if self.on_last() {
+    fn footer(self, part: &Part) -> u8 {
+        if self.on_last(part) {
             LAST_FOOTER
         } else {
             MORE_FOOTER
         }
     }
 
-    fn after_this(self) -> Phase {
-        if self.on_last() {
+    fn after_this(self, part: &Part) -> Phase {
+        if self.on_last(part) {
             Phase::Ready
         } else {
             Pages {
-                next: self.next + PAGE,
+                next: self.next + part.page_size(),
                 ..self
             }
             .awaited()
@@ -736,18 +688,18 @@ fn hear_page(
     reply: &mut Reply,
 ) {
     chip.phase = Phase::Ready;
-    if let Err(status) = judge_page(pages, frame) {
+    if let Err(status) = judge_page(part, pages, frame) {
         reply.frame(&[status, status]);
         return;
     }
     // Refusal 9 has let through no next address outside flash.
-    let Some(here) = place(part, pages.next) else {
+    let Some(here) = part.place(pages.next) else {
         return;
     };
     let range = Range {
         area: here.area,
         first: here.offset,
-        end: here.offset + PAGE,
+        end: here.offset + part.page_size(),
     };
     let second = if pages.command == PROGRAM {
         store_page(flash.bytes_mut(range), frame.body())
@@ -758,15 +710,15 @@ fn hear_page(
     if second != ACK {
         return;
     }
-    chip.phase = pages.after_this();
-    if pages.command == PROGRAM && pages.on_last() {
+    chip.phase = pages.after_this(part);
+    if pages.command == PROGRAM && pages.on_last(part) {
         reply.frame(&[ACK]);
     }
 }
 
-fn judge_page(pages: Pages, frame: &Frame) -> Result<(), u8> {
-    judge_ends(frame, pages.footer())?;
-    if frame.body().len() == PAGE {
+fn judge_page(part: &Part, pages: Pages, frame: &Frame) -> Result<(), u8> {
+    judge_ends(frame, pages.footer(part))?;
+    if frame.body().len() == part.page_size() {
         Ok(())
     } else {
         Err(NACK)

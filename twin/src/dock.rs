@@ -1,16 +1,16 @@
 //! The dock: one job against a chip, a frame handed out and its whole answer handed in by turns (01 "The dock's flow").
 
 use crate::chip::{
-    blocks_of, mode_of, part_fits, rate_fits, signature, Part, ACK, BAD_SUM, BLANK_CHECK, BLOCK,
-    BLOCK_ERASE, NACK, NOT_BLANK, PAGE, PROGRAM, RATE_SET, RESET, SIGNATURE, VERIFY,
+    blocks_of, mode_of, rate_fits, signature, ACK, BAD_SUM, BLANK_CHECK, BLOCK_ERASE, NACK,
+    NOT_BLANK, PROGRAM, RATE_SET, RESET, SIGNATURE, VERIFY,
 };
 use crate::frame::{
     read_reply, write, COMMAND_HEADER, DATA_HEADER, LAST_FOOTER, LONGEST, MORE_FOOTER,
 };
+use crate::part::{Area, Part};
 
 pub const SMALLEST_ROOM: usize = LONGEST;
 pub const MOST_RETRIES: u64 = 15;
-pub const LAST_PAGE: u64 = (BLOCK / PAGE) as u64 - 1;
 
 /// The status named where none was read (01 "The dock's flow").
 const NO_STATUS: u8 = 0x00;
@@ -24,6 +24,32 @@ pub struct Job {
     pub rate: u64,
     pub supply: u64,
     pub retries: u64,
+}
+
+impl Job {
+    /// Where the range starts. Refusal 5 bars a start outside flash; what such a job is asked it answers as if for code flash.
+    pub fn area(&self) -> Area {
+        let start = usize::try_from(self.start).ok();
+        let place = start.and_then(|start| self.part.place(start));
+        place.map_or(Area::Code, |place| place.area)
+    }
+
+    pub fn block_size(&self) -> usize {
+        self.part.block_size(self.area())
+    }
+
+    pub fn pages_of_block(&self) -> u64 {
+        self.part.pages_of_block(self.area()) as u64
+    }
+
+    fn last_page(&self) -> u64 {
+        self.pages_of_block() - 1
+    }
+
+    /// "for B blocks and R retries allowed, at most 3 + 12(B + R) frames": 32h, 22h, 40h and 13h for a block, and each page twice.
+    pub fn bound(&self, blocks: u64) -> u64 {
+        3 + (4 + 2 * self.pages_of_block()) * (blocks + self.retries)
+    }
 }
 
 /// Which frame is due or has been handed out; blocks count from the job's first, pages from their block's.
@@ -102,7 +128,7 @@ pub fn ask(job: &Job, image: &[u8], state: &mut State, room: &mut [u8]) -> Resul
     let blocks = judge_job(job, image)?;
     judge_state(job, blocks, state)?;
     // One frame more would be over the bound, which no state may be.
-    if frame_is_due(state) && state.frames == bound(blocks, job.retries) {
+    if frame_is_due(state) && state.frames == job.bound(blocks) {
         return Err(9);
     }
     if room.len() < SMALLEST_ROOM {
@@ -121,7 +147,7 @@ pub fn answer(job: &Job, image: &[u8], state: &mut State, answer: &[u8]) -> Resu
     let (blocks, sent) = judge_heard(job, image, state)?;
     state.awaited = false;
     match verdict(job, &sent, answer) {
-        Verdict::Expected { not_blank } => state.stage = after(state.stage, blocks, not_blank),
+        Verdict::Expected { not_blank } => state.stage = after(job, state.stage, blocks, not_blank),
         Verdict::Again(_) if state.retries < job.retries => {
             state.retries += 1;
             state.stage = again(state.stage);
@@ -138,11 +164,6 @@ pub fn timeout(job: &Job, image: &[u8], state: &mut State) -> Result<Report, u8>
     state.awaited = false;
     state.stage = failed(&sent, Cause::Timeout, NO_STATUS);
     Ok(report(state))
-}
-
-/// "for B blocks and R retries allowed, at most 3 + 12(B + R) frames"
-pub fn bound(blocks: u64, retries: u64) -> u64 {
-    3 + 12 * (blocks + retries)
 }
 
 fn report(state: &State) -> Report {
@@ -164,11 +185,11 @@ fn report(state: &State) -> Report {
 
 /// Refusals 1, 5, 6, 7; hands back how many blocks the job has.
 fn judge_job(job: &Job, image: &[u8]) -> Result<u64, u8> {
-    if !part_fits(&job.part) || rate_and_supply(job).is_none() {
+    if !job.part.fits() || rate_and_supply(job).is_none() {
         return Err(1);
     }
     let blocks = range_blocks(job).ok_or(5)?;
-    if image.len() != blocks * BLOCK {
+    if image.len() != blocks * job.block_size() {
         return Err(6);
     }
     if job.retries > MOST_RETRIES {
@@ -193,9 +214,9 @@ fn range_blocks(job: &Job) -> Option<usize> {
 fn judge_state(job: &Job, blocks: u64, state: &State) -> Result<(), u8> {
     let (block, page) = named(state.stage);
     let fits = block.is_none_or(|block| block < blocks)
-        && page.is_none_or(|page| page <= LAST_PAGE)
+        && page.is_none_or(|page| page < job.pages_of_block())
         && state.retries <= job.retries
-        && state.frames <= bound(blocks, job.retries);
+        && state.frames <= job.bound(blocks);
     if fits {
         Ok(())
     } else {
@@ -257,20 +278,22 @@ fn sent(stage: Stage) -> Option<Sent> {
 
 fn write_sent(job: &Job, image: &[u8], sent: &Sent, room: &mut [u8]) -> usize {
     if let (Some(block), Some(page)) = (sent.block, sent.page) {
-        let footer = if page == LAST_PAGE {
+        let footer = if page == job.last_page() {
             LAST_FOOTER
         } else {
             MORE_FOOTER
         };
-        let first = block as usize * BLOCK + page as usize * PAGE;
-        return write(room, DATA_HEADER, &image[first..first + PAGE], footer);
+        let size = job.part.page_size();
+        let first = block as usize * job.block_size() + page as usize * size;
+        return write(room, DATA_HEADER, &image[first..first + size], footer);
     }
     let mut body = vec![sent.command];
     if let Some(block) = sent.block {
-        let start = job.start + block * BLOCK as u64;
+        let size = job.block_size() as u64;
+        let start = job.start + block * size;
         body.extend(address(start));
         if sent.command != BLOCK_ERASE {
-            body.extend(address(start + BLOCK as u64 - 1));
+            body.extend(address(start + size - 1));
         }
     }
     if sent.command == BLANK_CHECK {
@@ -310,7 +333,7 @@ struct Reading<'a> {
 
 /// Readable comes first, then the first unexpected status, then what the reply must hold.
 fn verdict(job: &Job, sent: &Sent, answer: &[u8]) -> Verdict {
-    let Some(reading) = read(sent, answer) else {
+    let Some(reading) = read(job, sent, answer) else {
         return Verdict::Ended(Cause::Unreadable, NO_STATUS);
     };
     let not_blank_is_expected = sent.command == BLANK_CHECK;
@@ -329,10 +352,10 @@ fn verdict(job: &Job, sent: &Sent, answer: &[u8]) -> Verdict {
 }
 
 /// "it is readable if it is exactly these frames": nothing is missing and nothing follows.
-fn read<'a>(sent: &Sent, answer: &'a [u8]) -> Option<Reading<'a>> {
+fn read<'a>(job: &Job, sent: &Sent, answer: &'a [u8]) -> Option<Reading<'a>> {
     let (first, rest) = read_reply(answer)?;
     let (statuses, content, rest) = match (sent.command, sent.page) {
-        (PROGRAM, Some(LAST_PAGE)) if first == [ACK, ACK] => {
+        (PROGRAM, Some(page)) if page == job.last_page() && first == [ACK, ACK] => {
             let (third, rest) = read_reply(rest)?;
             let &[third] = third else {
                 return None;
@@ -379,7 +402,7 @@ fn content_matches(job: &Job, sent: &Sent, content: &[u8]) -> bool {
 // The order: 01 "The dock's flow"
 
 /// The stage after an answer as expected: blocks ascending, 22h only where 32h said 1Bh.
-fn after(stage: Stage, blocks: u64, not_blank: bool) -> Stage {
+fn after(job: &Job, stage: Stage, blocks: u64, not_blank: bool) -> Stage {
     match stage {
         Stage::Rate => Stage::Reset,
         Stage::Reset => Stage::Signature,
@@ -387,13 +410,13 @@ fn after(stage: Stage, blocks: u64, not_blank: bool) -> Stage {
         Stage::Blank { block } if not_blank => Stage::Erase { block },
         Stage::Blank { block } | Stage::Erase { block } => Stage::Program { block },
         Stage::Program { block } => Stage::ProgramPage { block, page: 0 },
-        Stage::ProgramPage { block, page } if page < LAST_PAGE => Stage::ProgramPage {
+        Stage::ProgramPage { block, page } if page < job.last_page() => Stage::ProgramPage {
             block,
             page: page + 1,
         },
         Stage::ProgramPage { block, .. } => Stage::Verify { block },
         Stage::Verify { block } => Stage::VerifyPage { block, page: 0 },
-        Stage::VerifyPage { block, page } if page < LAST_PAGE => Stage::VerifyPage {
+        Stage::VerifyPage { block, page } if page < job.last_page() => Stage::VerifyPage {
             block,
             page: page + 1,
         },

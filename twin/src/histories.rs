@@ -4,12 +4,10 @@
 use std::fmt;
 use std::rc::Rc;
 
-use crate::chip::{
-    mode_of, signature, Chip, Event, Part, Phase, ACK, BAD_SUM, BLOCK, DATA_FLASH, ERASED, NACK,
-    NOT_BLANK, PAGE,
-};
-use crate::dock::{bound, Cause, Failure, Job, Stage, State, LAST_PAGE, MOST_RETRIES};
+use crate::chip::{mode_of, signature, Chip, Event, Phase, ACK, BAD_SUM, ERASED, NACK, NOT_BLANK};
+use crate::dock::{Cause, Failure, Job, Stage, State, MOST_RETRIES};
 use crate::frame::{COMMAND_HEADER, LAST_FOOTER, LONGEST, MORE_FOOTER};
+use crate::part::{Area, Part};
 use crate::random::{data_frame, Generator};
 use crate::replay::Player;
 use crate::transcript::{call_line, cause_text, job_line, Action, Call, Outcome, Reply};
@@ -52,7 +50,7 @@ pub fn play(seed: u64, dock: impl FnMut(&Call) -> Outcome) -> History {
         aside: choice.pick(&[0, 10, 50]),
         only_retries: choice.chance(25),
         not_blank: choice.pick(&[0, 50, 100]),
-        blocks: (work.image.len() / BLOCK) as u64,
+        blocks: (work.image.len() / work.job.block_size()) as u64,
         choice,
         dock,
         work: Rc::new(work),
@@ -224,7 +222,7 @@ impl<D: FnMut(&Call) -> Outcome> Play<D> {
     }
 
     fn bound(&self) -> u64 {
-        bound(self.blocks, self.work.job.retries)
+        self.work.job.bound(self.blocks)
     }
 }
 
@@ -253,8 +251,8 @@ impl<D: FnMut(&Call) -> Outcome> Play<D> {
             _ => Phase::Setup,
         };
         chip.options.flags = choice.pick(&[0xFF, 0xFF, 0xFF, 0xFF, 0xFF, 0xEF, 0xFB, 0xFD]);
-        let code = random_flash(choice, part.code_blocks);
-        let data = random_flash(choice, part.data_blocks);
+        let code = random_flash(choice, &part, Area::Code);
+        let data = random_flash(choice, &part, Area::Data);
         let chip = Player {
             part,
             chip,
@@ -321,14 +319,15 @@ impl<D: FnMut(&Call) -> Outcome> Play<D> {
 }
 
 /// Blank, filled, or some blocks of each.
-fn random_flash(choice: &mut Generator, blocks: u32) -> Vec<u8> {
+fn random_flash(choice: &mut Generator, part: &Part, area: Area) -> Vec<u8> {
     let filled = choice.pick(&[0, 50, 100]);
     let mut flash = Vec::new();
-    for _ in 0..blocks {
-        let mut block = vec![ERASED; BLOCK];
+    let size = part.block_size(area);
+    for _ in 0..part.blocks(area) {
+        let mut block = vec![ERASED; size];
         if choice.chance(filled) {
-            let at = choice.below(BLOCK);
-            let end = choice.pick(&[at + 1, BLOCK]);
+            let at = choice.below(size);
+            let end = choice.pick(&[at + 1, size]);
             block[at..end].fill_with(|| choice.byte() & 0xFE);
         }
         flash.extend(block);
@@ -398,9 +397,9 @@ impl<D: FnMut(&Call) -> Outcome> Play<D> {
             }
             Stage::Signature => vec![ack, signature(&job.part).to_vec()],
             Stage::Blank { .. } if self.choice.chance(self.not_blank) => vec![vec![NOT_BLANK]],
-            Stage::ProgramPage {
-                page: LAST_PAGE, ..
-            } => vec![vec![ACK, ACK], ack],
+            Stage::ProgramPage { page, .. } if page + 1 == job.pages_of_block() => {
+                vec![vec![ACK, ACK], ack]
+            }
             Stage::ProgramPage { .. } | Stage::VerifyPage { .. } => vec![vec![ACK, ACK]],
             _ => vec![ack],
         }
@@ -573,7 +572,8 @@ impl<D: FnMut(&Call) -> Outcome> Play<D> {
     /// A state that no number bars, reached by the job or not.
     fn random_state(&mut self, turn: Turn) -> State {
         let block = self.choice.below(self.blocks as usize) as u64;
-        let page = self.choice.below(4) as u64;
+        let pages = self.work.job.pages_of_block();
+        let page = self.choice.below(pages as usize) as u64;
         let stage = match turn {
             Turn::Over => self.random_end(block, page),
             Turn::Due | Turn::Awaited => self.choice.pick(&[
@@ -587,7 +587,10 @@ impl<D: FnMut(&Call) -> Outcome> Play<D> {
                 Stage::Program { block },
                 Stage::ProgramPage { block, page },
                 Stage::ProgramPage { block, page },
-                Stage::ProgramPage { block, page: 3 },
+                Stage::ProgramPage {
+                    block,
+                    page: pages - 1,
+                },
                 Stage::Verify { block },
                 Stage::VerifyPage { block, page },
                 Stage::VerifyPage { block, page },
@@ -634,16 +637,17 @@ impl<D: FnMut(&Call) -> Outcome> Play<D> {
     fn spoil_state(&mut self, state: &mut State, asks: bool) {
         let bound = self.bound();
         let blocks = self.blocks;
+        let pages = self.work.job.pages_of_block();
         let allowed = self.work.job.retries;
         let choice = &mut self.choice;
         let block = choice.pick(&[blocks, blocks + 1, 256, u64::from(u32::MAX)]);
-        let page = choice.pick(&[4, 5, 256, u64::from(u32::MAX)]);
+        let page = choice.pick(&[pages, pages + 1, 256, u64::from(u32::MAX)]);
         let inside = choice.below(blocks as usize) as u64;
         let is_over = turn_of(state) == Turn::Over;
         let past_bound_next = asks && turn_of(state) == Turn::Due;
         match choice.below(5) {
             0 => {
-                let page = choice.below(4) as u64;
+                let page = choice.below(pages as usize) as u64;
                 state.stage = if is_over {
                     failed_at(choice.pick(&[None, Some(page)]), Some(block))
                 } else {
@@ -690,7 +694,7 @@ impl<D: FnMut(&Call) -> Outcome> Play<D> {
             match fault {
                 1 => spoil_numbers(&mut self.choice, &mut work.job),
                 5 => spoil_range(&mut self.choice, &mut work.job),
-                6 => spoil_image(&mut self.choice, &mut work.image),
+                6 => spoil_image(&mut self.choice, &mut work),
                 _ => {
                     let over = self.choice.pick(&[0, 1, 15, 239, 240, 1 << 24]);
                     work.job.retries = MOST_RETRIES + 1 + over;
@@ -731,11 +735,8 @@ fn failed_at(page: Option<u64>, block: Option<u64>) -> Stage {
 fn random_work(choice: &mut Generator) -> Work {
     let part = random_part(choice);
     let in_data = part.data_blocks > 0 && choice.chance(40);
-    let (base, blocks) = if in_data {
-        (DATA_FLASH, part.data_blocks as usize)
-    } else {
-        (0, part.code_blocks as usize)
-    };
+    let area = if in_data { Area::Data } else { Area::Code };
+    let (blocks, size) = (part.blocks(area), part.block_size(area));
     let count = match choice.below(50) {
         0 => blocks,
         1..=5 => choice.between(3, 8).min(blocks),
@@ -744,18 +745,18 @@ fn random_work(choice: &mut Generator) -> Work {
     };
     let first = choice.between(0, blocks - count);
     let first = choice.pick(&[0, first, first, blocks - count]);
-    let start = base + first * BLOCK;
+    let start = part.start(area) + first * size;
     let any_supply = choice.between(18, 55) as u64;
     let any_retries = choice.between(0, 15) as u64;
     let job = Job {
         part,
         start: start as u64,
-        end: (start + count * BLOCK - 1) as u64,
+        end: (start + count * size - 1) as u64,
         rate: choice.below(4) as u64,
         supply: choice.pick(&[18, 26, 27, 55, any_supply, any_supply]),
         retries: choice.pick(&[0, 1, 1, 2, 3, 15, any_retries]),
     };
-    let image = random_image(choice, count);
+    let image = random_image(choice, &job, count);
     Work { job, image }
 }
 
@@ -773,13 +774,14 @@ fn random_part(choice: &mut Generator) -> Part {
     }
 }
 
-fn random_image(choice: &mut Generator, blocks: usize) -> Vec<u8> {
+fn random_image(choice: &mut Generator, job: &Job, blocks: usize) -> Vec<u8> {
     let mut image = Vec::new();
-    for _ in 0..blocks * (BLOCK / PAGE) {
+    let size = job.part.page_size();
+    for _ in 0..blocks as u64 * job.pages_of_block() {
         match choice.below(10) {
-            0 => image.extend([ERASED; PAGE]),
-            1 => image.extend([choice.byte(); PAGE]),
-            _ => image.extend((0..PAGE).map(|_| choice.byte())),
+            0 => image.extend(vec![ERASED; size]),
+            1 => image.extend(vec![choice.byte(); size]),
+            _ => image.extend((0..size).map(|_| choice.byte())),
         }
     }
     image
@@ -798,38 +800,42 @@ fn spoil_numbers(choice: &mut Generator, job: &mut Job) {
 
 /// Refusal 5: each way in which a range is bad.
 fn spoil_range(choice: &mut Generator, job: &mut Job) {
-    let block = BLOCK as u64;
-    let data_flash = DATA_FLASH as u64;
+    let part = &job.part;
+    let block = part.block_size(Area::Code) as u64;
+    let data_block = part.block_size(Area::Data) as u64;
+    let data_flash = part.start(Area::Data) as u64;
     // A part that is spoiled already may have any number of blocks; the addresses stay within 32 bits.
     let past_code = u64::from(job.part.code_blocks.min(64)) * block;
-    let past_data = data_flash + u64::from(job.part.data_blocks.min(8)) * block;
+    let past_data = data_flash + u64::from(job.part.data_blocks.min(8)) * data_block;
     let (start, end) = (job.start, job.end);
     (job.start, job.end) = match choice.below(10) {
         0 => (end, start),
         1 => (end + 1, end),
         2 => (start + 1, end),
         3 => (start, end - 1),
-        4 => (start, end + PAGE as u64),
+        4 => (start, end + part.page_size() as u64),
         5 => (start, end.max(past_code) / block * block + 64 * block - 1),
         6 => (past_code, past_code + block - 1),
-        7 => (past_data, past_data + block - 1),
-        8 => (0, data_flash + block - 1),
+        7 => (past_data, past_data + data_block - 1),
+        8 => (0, data_flash + data_block - 1),
         _ => (start + (1 << 24), end + (1 << 24)),
     };
 }
 
 /// Refusal 6: another length.
-fn spoil_image(choice: &mut Generator, image: &mut Vec<u8>) {
+fn spoil_image(choice: &mut Generator, work: &mut Work) {
+    let Work { job, image } = work;
+    let (page, block) = (job.part.page_size(), job.block_size());
     let length = image.len();
     let other = choice.pick(&[
         0,
         1,
         length - 1,
         length + 1,
-        length - PAGE,
-        length + PAGE,
-        length - BLOCK,
-        length + BLOCK,
+        length - page,
+        length + page,
+        length - block,
+        length + block,
     ]);
     image.resize(other, 0x00);
 }

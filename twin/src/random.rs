@@ -3,10 +3,11 @@
 use std::fmt;
 
 use crate::chip::{
-    BLANK_CHECK, BLOCK, BLOCK_ERASE, CHECKSUM, DATA_FLASH, ERASED, PAGE, PROGRAM, RATE_SET, RESET,
-    SECURITY_GET, SECURITY_RELEASE, SECURITY_SET, SIGNATURE, VERIFY,
+    BLANK_CHECK, BLOCK_ERASE, CHECKSUM, ERASED, PROGRAM, RATE_SET, RESET, SECURITY_GET,
+    SECURITY_RELEASE, SECURITY_SET, SIGNATURE, VERIFY,
 };
 use crate::frame::{write, COMMAND_HEADER, DATA_HEADER, LAST_FOOTER, MORE_FOOTER};
+use crate::part::Area;
 use crate::replay::{replay_part, split_frames, CARRIED, RECORD};
 
 /// Splitmix64: small, without state beyond one word, and good enough to mix choices.
@@ -233,7 +234,11 @@ impl Script {
 
     fn write_and_verify(&mut self) {
         let (start, end) = self.good_range();
-        for at in (start..end).step_by(BLOCK) {
+        let part = replay_part();
+        let Some(place) = part.place(start) else {
+            return;
+        };
+        for at in (start..end).step_by(part.block_size(place.area)) {
             let mut body = range_body(BLOCK_ERASE, at, 0);
             body.truncate(4);
             self.send(command_frame(&body));
@@ -245,7 +250,8 @@ impl Script {
     /// The command and its pages; sometimes too few or too many, sometimes one of wrong length or content.
     fn pages_over(&mut self, command: u8, start: usize, end: usize) {
         self.send(command_frame(&range_body(command, start, end)));
-        let needed = (end.saturating_sub(start) / PAGE + 1).min(64);
+        let size = replay_part().page_size();
+        let needed = (end.saturating_sub(start) / size + 1).min(64);
         let sent = match self.choice.below(10) {
             0 => self.choice.below(needed + 1),
             1 => needed + 1,
@@ -258,7 +264,7 @@ impl Script {
                 MORE_FOOTER
             };
             let footer = self.footer(expected);
-            let page = self.page(start + index * PAGE);
+            let page = self.page(start + index * size);
             self.send(data_frame(&page, footer));
         }
         // A bad page ends a command cut short, else all that follows would be skipped.
@@ -276,14 +282,15 @@ impl Script {
     }
 
     fn page(&mut self, address: usize) -> Vec<u8> {
+        let size = replay_part().page_size();
         match self.choice.below(100) {
-            0 => vec![self.choice.byte(); PAGE],
+            0 => vec![self.choice.byte(); size],
             1 => (0..=255).collect(),
-            2 => vec![ERASED; PAGE],
-            3 => vec![self.choice.byte(); self.choice.between(1, PAGE - 1)],
+            2 => vec![ERASED; size],
+            3 => vec![self.choice.byte(); self.choice.between(1, size - 1)],
             4 => {
                 let mut page = self.usual_page(address);
-                let at = self.choice.below(PAGE);
+                let at = self.choice.below(size);
                 page[at] = self.choice.byte();
                 page
             }
@@ -293,20 +300,25 @@ impl Script {
 
     fn usual_page(&self, address: usize) -> Vec<u8> {
         let mut bytes = Generator::new(self.salt ^ address as u64);
-        (0..PAGE).map(|_| bytes.byte()).collect()
+        (0..replay_part().page_size())
+            .map(|_| bytes.byte())
+            .collect()
     }
 
     /// A range for 32h, 40h, 13h, B0h: mostly good, else bad in each of 01's ways.
     fn range(&mut self) -> (usize, usize) {
         let (start, end) = self.good_range();
+        let part = replay_part();
+        let data = part.start(Area::Data);
+        let past = part.end(Area::Code);
         match self.choice.below(40) {
             0 => (end, start),
             1 => (start + 1, end),
             2 => (start, end - 1),
-            3 => (start, end + PAGE),
-            4 => (start, DATA_FLASH + BLOCK - 1),
-            5 => (start, end + 16 * BLOCK),
-            6 => (start + 16 * BLOCK, end + 16 * BLOCK),
+            3 => (start, end + part.page_size()),
+            4 => (start, data + part.block_size(Area::Data) - 1),
+            5 => (start, end + past),
+            6 => (start + past, end + past),
             7 => (start, 0xFF_FFFF),
             _ => (start, end),
         }
@@ -315,11 +327,12 @@ impl Script {
     /// Few blocks, so that pages meet what was written before.
     fn good_range(&mut self) -> (usize, usize) {
         let part = replay_part();
-        let (base, blocks) = if self.choice.chance(70) {
-            (0, part.code_blocks as usize)
+        let area = if self.choice.chance(70) {
+            Area::Code
         } else {
-            (DATA_FLASH, part.data_blocks as usize)
+            Area::Data
         };
+        let (blocks, size) = (part.blocks(area), part.block_size(area));
         let (first, count) = match self.choice.below(50) {
             0 => (0, blocks),
             1 => (blocks - 1, 1),
@@ -331,8 +344,8 @@ impl Script {
                 1,
             ),
         };
-        let start = base + first.min(blocks - count) * BLOCK;
-        (start, start + count * BLOCK - 1)
+        let start = part.start(area) + first.min(blocks - count) * size;
+        (start, start + count * size - 1)
     }
 
     /// Unknown commands, known ones with an unfit LEN, LEN 00h, and a frame with a good frame inside it.
@@ -375,9 +388,8 @@ impl Script {
 
     fn erase_all_and_release(&mut self) {
         let part = replay_part();
-        let code = (0..part.code_blocks as usize).map(|block| block * BLOCK);
-        let data = (0..part.data_blocks as usize).map(|block| DATA_FLASH + block * BLOCK);
-        for start in code.chain(data) {
+        let starts = |area: Area| (part.start(area)..part.end(area)).step_by(part.block_size(area));
+        for start in starts(Area::Code).chain(starts(Area::Data)) {
             let mut body = range_body(BLOCK_ERASE, start, 0);
             body.truncate(4);
             self.send(command_frame(&body));

@@ -2,8 +2,9 @@
 
 use std::io::{self, Read, Write};
 
-use crate::chip::{step, Answer, Chip, Event, Part, BLOCK, ERASED, SMALLEST_ROOM};
+use crate::chip::{step, Answer, Chip, Event, ERASED, SMALLEST_ROOM};
 use crate::frame::counted;
+use crate::part::{Area, Part};
 
 pub const RECORD: usize = 8;
 /// The most bytes one record carries.
@@ -73,8 +74,8 @@ impl Player {
     pub fn fresh() -> Player {
         let part = replay_part();
         let chip = Chip::fresh(&part).expect("the replay part is inside 01's numbers");
-        let code = vec![ERASED; part.code_blocks as usize * BLOCK];
-        let data = vec![ERASED; part.data_blocks as usize * BLOCK];
+        let code = vec![ERASED; part.size(Area::Code)];
+        let data = vec![ERASED; part.size(Area::Data)];
         Player {
             part,
             chip,

@@ -6,6 +6,7 @@ use std::io::{self, Read};
 
 use common::*;
 use twin::chip::{Event, Phase};
+use twin::part::Part;
 use twin::random::{random_capture, Tally};
 use twin::replay::{
     events, judge_record, replay, replay_text, split_frames, Outcome, Player, RECORD,
@@ -190,6 +191,12 @@ fn random_captures_reach_every_status() {
     assert!(ended > 0 && bad > 0);
 }
 
+/// A page that is its block's last.
+fn ends_block(part: &Part, next: usize) -> bool {
+    part.place(next)
+        .is_some_and(|at| (at.offset + part.page_size()).is_multiple_of(part.block_size(at.area)))
+}
+
 /// How far random captures get into the chip's work.
 #[derive(Default, Debug)]
 struct Reach {
@@ -237,7 +244,7 @@ impl Reach {
                 command: 0x40,
                 next,
                 ..
-            } if next % 1024 == 768 && is.phase != Phase::Ready => {
+            } if ends_block(&before.part, next) && is.phase != Phase::Ready => {
                 self.written_many += 1;
             }
             Phase::Awaiting {

@@ -4,9 +4,10 @@ mod common;
 
 use common::flow::{flow, signature_of, End, Heard};
 use common::*;
-use twin::chip::{Event, Part, Phase};
-use twin::dock::{answer, ask, bound, start, timeout};
+use twin::chip::{Event, Phase};
+use twin::dock::{answer, ask, start, timeout};
 use twin::dock::{Cause, Failure, Job, Report, Stage, State};
+use twin::part::Part;
 use twin::replay::replay_part;
 
 /// Two blocks from 0400h of the part of 01's examples.
@@ -660,7 +661,7 @@ fn a_block_retry_begins_the_block_again() {
 /// B = 2, R = 1: 3 + 12(2 + 1) = 39 frames, with either ending.
 #[test]
 fn the_bound_is_reached() {
-    assert_eq!(bound(2, 1), 39);
+    assert_eq!(small_job().bound(2), 39);
     for fails in [false, true] {
         let mut desk = Desk::new(small_job());
         let (frames, history) = play(&mut desk, |desk| {
@@ -693,7 +694,7 @@ fn the_bound_is_reached_for_every_allowance() {
     for (blocks, retries) in [(1, 0), (1, 15), (3, 4), (16, 15)] {
         let job = Job {
             start: 0,
-            end: 1024 * blocks - 1,
+            end: blocks * small_job().block_size() as u64 - 1,
             retries,
             ..small_job()
         };
@@ -1129,7 +1130,7 @@ fn whole_jobs_leave_the_image_in_place() {
             let before = bench.clone();
             let mut desk = Desk::new(job.clone());
             rehearse(&mut desk, &mut bench);
-            let blocks = (last - first + 1) / 1024;
+            let blocks = (last - first + 1) / job.block_size() as u64;
             let done = State {
                 stage: Stage::Finished,
                 awaited: false,
@@ -1262,6 +1263,6 @@ fn a_spoiled_page_costs_one_retry() {
         assert_eq!(desk.state.stage, Stage::Finished);
         assert_eq!(desk.state.retries, 1);
         assert_eq!(bench.code[0x400..0xC00], desk.image);
-        assert!(desk.state.frames <= bound(2, 1));
+        assert!(desk.state.frames <= desk.job.bound(2));
     }
 }

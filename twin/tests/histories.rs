@@ -4,7 +4,7 @@
 mod common;
 
 use common::flow::{flow, End, Heard};
-use twin::dock::{bound, Job, Report, Stage, State};
+use twin::dock::{Job, Report, Stage, State};
 use twin::histories::{play, Ending, History};
 use twin::transcript::{twin_dock, Action, Call, Outcome, Reply, Tally, FILLER};
 
@@ -79,8 +79,8 @@ fn no_count_passes_its_bound() {
             let (Some(state), None) = (outcome.state, call.expected_refusal()) else {
                 return;
             };
-            let blocks = call.image.len() as u64 / 1024;
-            assert!(state.frames <= bound(blocks, call.job.retries), "{seed}");
+            let blocks = (call.image.len() / call.job.block_size()) as u64;
+            assert!(state.frames <= call.job.bound(blocks), "{seed}");
             assert!(state.retries <= call.job.retries, "{seed}");
             if let Some(before) = state_before(call) {
                 let asked = u64::from(matches!(call.action, Action::Ask { .. }));

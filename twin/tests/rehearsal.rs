@@ -2,8 +2,9 @@
 
 use std::fmt::Write;
 
-use twin::chip::{step, Answer, Chip, Event, BLOCK};
+use twin::chip::{step, Answer, Chip, Event};
 use twin::dock::{answer, ask, start, Job, Report, SMALLEST_ROOM};
+use twin::part::Area;
 use twin::replay::{hex_line, replay_part};
 
 const START: usize = 0x1800;
@@ -15,8 +16,8 @@ const EXPECTED: &str = concat!(env!("CARGO_MANIFEST_DIR"), "/../examples/rehears
 fn two_blocks_over_flash_that_is_not_blank() {
     let part = replay_part();
     let mut chip = Chip::fresh(&part).unwrap();
-    let mut code = vec![0x5A; part.code_blocks as usize * BLOCK];
-    let mut data = vec![0xFF; part.data_blocks as usize * BLOCK];
+    let mut code = vec![0x5A; part.size(Area::Code)];
+    let mut data = vec![0xFF; part.size(Area::Data)];
     let mut event = |event: Event, said: &mut Vec<u8>, code: &mut [u8]| {
         let mut room = [0; 32];
         let told = step(&part, &mut chip, event, code, &mut data, &mut room);

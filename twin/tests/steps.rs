@@ -4,6 +4,7 @@ mod common;
 
 use common::*;
 use twin::chip::{Event, Phase};
+use twin::part::Area;
 use twin::random::Generator;
 use twin::replay::replay_part;
 
@@ -209,11 +210,12 @@ fn erase_touches_one_block() {
         bench.code.fill(0x11);
         bench.data.fill(0x22);
         let mut expected = bench.clone();
-        let area = match in_data {
-            false => &mut expected.code,
-            true => &mut expected.data,
+        let (area, flash) = match in_data {
+            false => (Area::Code, &mut expected.code),
+            true => (Area::Data, &mut expected.data),
         };
-        area[block * 1024..(block + 1) * 1024].fill(0xFF);
+        let size = bench.part.block_size(area);
+        flash[block * size..(block + 1) * size].fill(0xFF);
         assert_eq!(bench.say_command(body), status(0x06));
         assert_eq!(bench.code, expected.code);
         assert_eq!(bench.data, expected.data);

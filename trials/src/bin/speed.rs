@@ -7,26 +7,28 @@ use std::time::Instant;
 use trials::chip::{layout, Door};
 use trials::dock::Work;
 use trials::door::{self, DOCK, FRAME_ROOM};
-use twin::chip::{step, Answer, Chip, Event, Part, BLOCK, PAGE, PROGRAM, VERIFY};
+use twin::chip::{step, Answer, Chip, Event, PROGRAM, VERIFY};
 use twin::dock;
 use twin::frame::{LAST_FOOTER, MORE_FOOTER};
+use twin::part::{Area, Part};
 use twin::random::{command_frame, data_frame, range_body};
 use twin::replay::{judge_record, replay_part, Player, Record, CARRIED, RECORD};
 
-const BLOCKS: usize = 16;
 const RUNS: usize = 15;
 
 fn page(round: usize, block: usize, number: usize) -> Vec<u8> {
-    (0..PAGE)
+    (0..replay_part().page_size())
         .map(|at| (at * 7 + number * 31 + block * 13 + round) as u8)
         .collect()
 }
 
-/// One round over every code block: erase it, write four pages, verify four pages.
+/// One round over every code block: erase it, write its pages, verify its pages.
 fn round_of_frames(round: usize) -> Vec<Vec<u8>> {
     let mut frames = Vec::new();
-    for block in 0..BLOCKS {
-        let (start, end) = (block * 1024, block * 1024 + 1023);
+    let part = replay_part();
+    let (size, pages) = (part.block_size(Area::Code), part.pages_of_block(Area::Code));
+    for block in 0..part.blocks(Area::Code) {
+        let (start, end) = (block * size, block * size + size - 1);
         frames.push(command_frame(&[
             0x22,
             start as u8,
@@ -35,8 +37,8 @@ fn round_of_frames(round: usize) -> Vec<Vec<u8>> {
         ]));
         for command in [PROGRAM, VERIFY] {
             frames.push(command_frame(&range_body(command, start, end)));
-            for number in 0..4 {
-                let footer = if number == 3 {
+            for number in 0..pages {
+                let footer = if number + 1 == pages {
                     LAST_FOOTER
                 } else {
                     MORE_FOOTER
@@ -79,7 +81,7 @@ fn capture(records: usize) -> Vec<u8> {
     carry(&[0x3A]);
     carry(&opening()[1..]);
     let mut round = 0;
-    while round * BLOCKS * 360 < records {
+    while round * replay_part().blocks(Area::Code) * 360 < records {
         round_of_frames(round).iter().for_each(|frame| carry(frame));
         round += 1;
     }
@@ -324,17 +326,18 @@ impl Rehearsal {
         let mut player = Player::fresh();
         player.code.fill(0x5A);
         hear(&mut player, Event::Byte(0x3A), &mut [0; 32]);
+        let pages = player.part.pages_of_block(Area::Code);
         let mut rehearsal = Rehearsal {
             job: dock::Job {
                 part: player.part.clone(),
                 start: 0,
-                end: (BLOCKS * BLOCK - 1) as u64,
+                end: player.part.end(Area::Code) as u64 - 1,
                 rate: 0,
                 supply: 33,
                 retries: 0,
             },
-            image: (0..BLOCKS * 4)
-                .flat_map(|at| page(0, at / 4, at % 4))
+            image: (0..player.part.blocks(Area::Code) * pages)
+                .flat_map(|at| page(0, at / pages, at % pages))
                 .collect(),
             answers: Vec::new(),
         };

@@ -2,6 +2,7 @@
 
 use super::frame;
 use twin::dock::{Cause, Failure, Job};
+use twin::part::Area;
 
 /// What comes back to a frame: the whole answer's bytes, or nothing in time.
 pub type Heard = Option<Vec<u8>>;
@@ -61,7 +62,7 @@ impl Flow<'_> {
         self.again_on_retry(Flow::set_rate)?;
         self.again_on_retry(|flow| flow.command(&[0x00], None, &[0x06]).map(drop))?;
         self.again_on_retry(Flow::match_signature)?;
-        for block in 0..self.image.len() as u64 / 1024 {
+        for block in 0..(self.image.len() / self.job.block_size()) as u64 {
             self.again_on_retry(|flow| flow.block(block))?;
         }
         Ok(())
@@ -119,9 +120,10 @@ impl Flow<'_> {
     }
 
     fn block(&mut self, block: u64) -> Result<(), Stop> {
-        let first = self.job.start + 1024 * block;
+        let size = self.job.block_size() as u64;
+        let first = self.job.start + size * block;
         let start = low_middle_high(first);
-        let end = low_middle_high(first + 1023);
+        let end = low_middle_high(first + size - 1);
         let both = [start, end].concat();
         let check = [&[0x32][..], &both, &[0x00]].concat();
         if self.command(&check, Some(block), &[0x06, 0x1B])? == 0x1B {
@@ -129,7 +131,7 @@ impl Flow<'_> {
         }
         for command in [0x40, 0x13] {
             self.command(&[&[command][..], &both].concat(), Some(block), &[0x06])?;
-            for page in 0..4 {
+            for page in 0..self.job.pages_of_block() {
                 self.page(command, block, page)?;
             }
         }
@@ -148,9 +150,12 @@ impl Flow<'_> {
     }
 
     fn page(&mut self, command: u8, block: u64, page: u64) -> Result<(), Stop> {
-        let at = (1024 * block + 256 * page) as usize;
-        let footer = if page == 3 { 0x03 } else { 0x17 };
-        let sent = frame(0x02, &self.image[at..at + 256], footer);
+        let size = self.job.part.page_size();
+        let before = self.job.pages_of_block() * block + page;
+        let at = before as usize * size;
+        let is_last = page + 1 == self.job.pages_of_block();
+        let footer = if is_last { 0x03 } else { 0x17 };
+        let sent = frame(0x02, &self.image[at..at + size], footer);
         let heard = self.exchange(sent, command, Some(page), Some(block))?;
         let name = failure(command, Some(page), Some(block));
         let unreadable = Err(Stop::Fails(name(Cause::Unreadable, 0x00)));
@@ -159,7 +164,7 @@ impl Flow<'_> {
         }
         let mut statuses = heard[2..4].to_vec();
         let mut whole = frame(0x02, &statuses, 0x03);
-        if command == 0x40 && page == 3 && statuses == [0x06, 0x06] {
+        if command == 0x40 && is_last && statuses == [0x06, 0x06] {
             let Some(third) = heard.get(8) else {
                 return unreadable;
             };
@@ -227,14 +232,14 @@ fn low_middle_high(address: u64) -> [u8; 3] {
 /// C0h's 22 bytes for the job's part.
 pub fn signature_of(job: &Job) -> Vec<u8> {
     let part = &job.part;
-    let last_data = match part.data_blocks {
+    let last_data = match part.size(Area::Data) as u64 {
         0 => 0,
-        blocks => 0xF1000 + 1024 * u64::from(blocks) - 1,
+        size => 0xF1000 + size - 1,
     };
     [
         &part.device[..],
         &part.name,
-        &low_middle_high(1024 * u64::from(part.code_blocks) - 1),
+        &low_middle_high(part.size(Area::Code) as u64 - 1),
         &low_middle_high(last_data),
         &part.version,
     ]

@@ -4,7 +4,8 @@
 
 pub mod flow;
 
-use twin::chip::{step, Answer, Chip, Event, Part, Phase};
+use twin::chip::{step, Answer, Chip, Event, Phase};
+use twin::part::{Area, Part};
 use twin::replay::replay_part;
 
 pub const FILLER: u8 = 0xA5;
@@ -77,8 +78,8 @@ pub struct Bench {
 impl Bench {
     pub fn fresh(part: Part) -> Bench {
         let chip = Chip::fresh(&part).unwrap();
-        let code = vec![0xFF; part.code_blocks as usize * 1024];
-        let data = vec![0xFF; part.data_blocks as usize * 1024];
+        let code = vec![0xFF; part.size(Area::Code)];
+        let data = vec![0xFF; part.size(Area::Data)];
         Bench {
             part,
             chip,

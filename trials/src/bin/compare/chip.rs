@@ -3,8 +3,9 @@
 
 use trials::chip::{described, layout, names};
 use trials::door::{self, Told, NAMES, OUTPUT, ROOM, STATE};
-use twin::chip::{step, Answer, Chip, Event, Part, Phase, BLOCK, DATA_FLASH, PAGE};
+use twin::chip::{step, Answer, Chip, Event, Phase};
 use twin::frame::LONGEST;
+use twin::part::{Area, Part};
 use twin::random::{statuses, Generator};
 use twin::replay::{hex_line, RECORD};
 
@@ -371,20 +372,20 @@ impl Trio<'_> {
             spoil_part(choice, &mut part, &mut lent_names, bad_part);
         }
         // What the part asks for, as far as that can be lent, so that a bad part is the only fault where it is meant to be.
-        let fitting = |blocks: u32, held: &[u8]| {
+        let fitting = |area: Area, held: &[u8]| {
             let mut lent = held.to_vec();
-            if blocks < 1000 {
-                lent.resize(blocks as usize * BLOCK, 0x5A);
+            if part.blocks(area) < 1000 {
+                lent.resize(part.size(area), 0x5A);
             }
             lent
         };
-        let mut code = fitting(part.code_blocks, &self.twin.code);
-        let mut data = fitting(part.data_blocks, &self.twin.data);
+        let mut code = fitting(Area::Code, &self.twin.code);
+        let mut data = fitting(Area::Data, &self.twin.data);
         if has(2) {
-            spoil_length(choice, &mut code);
+            spoil_length(choice, &part, Area::Code, &mut code);
         }
         if has(3) {
-            spoil_length(choice, &mut data);
+            spoil_length(choice, &part, Area::Data, &mut data);
         }
         let mut chip = self.twin.state.clone();
         if choice.chance(30) {
@@ -609,18 +610,19 @@ fn spoil_part(choice: &mut Generator, part: &mut Part, lent_names: &mut Vec<u8>,
     }
 }
 
-fn spoil_length(choice: &mut Generator, flash: &mut Vec<u8>) {
+fn spoil_length(choice: &mut Generator, part: &Part, area: Area, flash: &mut Vec<u8>) {
+    let block = part.block_size(area);
     let length = flash.len();
     let other = if length == 0 {
-        choice.pick(&[1, PAGE, BLOCK])
+        choice.pick(&[1, part.page_size(), block])
     } else {
         choice.pick(&[
             0,
             1,
             length - 1,
             length + 1,
-            length - BLOCK.min(length),
-            length + BLOCK,
+            length - block.min(length),
+            length + block,
         ])
     };
     flash.resize(other, 0x5A);
@@ -628,7 +630,11 @@ fn spoil_length(choice: &mut Generator, flash: &mut Vec<u8>) {
 
 /// Gives cause for refusal 9 in that way; the ways of bytes that are no state leave the chip good.
 fn spoil_chip(choice: &mut Generator, part: &Part, chip: &mut Chip, way: usize) {
-    let code = part.code_blocks as usize * BLOCK;
+    let (code, block, page) = (
+        part.end(Area::Code),
+        part.block_size(Area::Code),
+        part.page_size(),
+    );
     let awaiting = |command: u8, next: usize, last: usize| Phase::Awaiting {
         command,
         next,
@@ -650,7 +656,7 @@ fn spoil_chip(choice: &mut Generator, part: &Part, chip: &mut Chip, way: usize) 
                 (Phase::Setup, 0x02),
                 (Phase::Ready, 0x02),
                 (Phase::Ready, 0x00),
-                (awaiting(command, 0, BLOCK - 1), 0x01),
+                (awaiting(command, 0, block - 1), 0x01),
                 (awaiting(0xA0, 0, 0), 0x01),
             ]);
             chip.phase = phase;
@@ -661,7 +667,7 @@ fn spoil_chip(choice: &mut Generator, part: &Part, chip: &mut Chip, way: usize) 
             let (phase, header) = choice.pick(&[
                 (Phase::Setup, 0x01),
                 (Phase::Ready, 0x01),
-                (awaiting(command, 0, BLOCK - 1), 0x02),
+                (awaiting(command, 0, block - 1), 0x02),
                 (awaiting(0xA0, 0, 0), 0x02),
             ]);
             let len = choice.pick(&[0x01, 0x03, 0x08, 0xFE, 0xFF]);
@@ -673,7 +679,7 @@ fn spoil_chip(choice: &mut Generator, part: &Part, chip: &mut Chip, way: usize) 
         3 => {
             let (phase, header) = choice.pick(&[
                 (Phase::Ready, 0x01),
-                (awaiting(command, 0, BLOCK - 1), 0x02),
+                (awaiting(command, 0, block - 1), 0x02),
             ]);
             chip.phase = phase;
             chip.collected[..2].copy_from_slice(&[header, 0x00]);
@@ -698,30 +704,30 @@ fn spoil_chip(choice: &mut Generator, part: &Part, chip: &mut Chip, way: usize) 
             } else {
                 any
             };
-            chip.phase = awaiting(choice.pick(&[0x00, 0x9A, 0xB0, 0x32, other]), 0, BLOCK - 1);
+            chip.phase = awaiting(choice.pick(&[0x00, 0x9A, 0xB0, 0x32, other]), 0, block - 1);
         }
-        10 => chip.phase = awaiting(command, choice.pick(&[1, 0x80, 0xFF, 0x3FF]), BLOCK - 1),
+        10 => chip.phase = awaiting(command, choice.pick(&[1, 0x80, 0xFF, 0x3FF]), block - 1),
         11 => {
-            let last = choice.pick(&[BLOCK, BLOCK - 2, PAGE - 1, BLOCK + PAGE - 1, 2 * BLOCK]);
+            let last = choice.pick(&[block, block - 2, page - 1, block + page - 1, 2 * block]);
             chip.phase = awaiting(command, 0, last);
         }
         12 => {
-            let (next, last) = choice.pick(&[(BLOCK, BLOCK - 1), (code - PAGE, BLOCK - 1)]);
+            let (next, last) = choice.pick(&[(block, block - 1), (code - page, block - 1)]);
             chip.phase = awaiting(command, next, last);
         }
         13 => {
-            let data = DATA_FLASH;
-            let past = data + part.data_blocks as usize * BLOCK;
+            let (data, past) = (part.start(Area::Data), part.end(Area::Data));
+            let data_block = part.block_size(Area::Data);
             let (next, last) = choice.pick(&[
-                (0, data + BLOCK - 1),
-                (data, BLOCK - 1),
-                (0, code + BLOCK - 1),
-                (code, code + BLOCK - 1),
-                (past, past + BLOCK - 1),
-                (data - BLOCK, data - 1),
+                (0, data + data_block - 1),
+                (data, block - 1),
+                (0, code + block - 1),
+                (code, code + block - 1),
+                (past, past + data_block - 1),
+                (data - data_block, data - 1),
                 (0, usize::MAX),
-                (usize::MAX - (PAGE - 1), usize::MAX),
-                (1 << 32, (1 << 32) + BLOCK - 1),
+                (usize::MAX - (page - 1), usize::MAX),
+                (1 << 32, (1 << 32) + block - 1),
             ]);
             chip.phase = awaiting(command, next, last);
         }

@@ -3,10 +3,11 @@
 //! "Phases", "Commands", "Refusal numbers").
 
 use twin::chip::{
-    Chip, Event, Part, Phase, BLANK_CHECK, BLOCK, BLOCK_ERASE, CHECKSUM, DATA_FLASH, ERASED, PAGE,
-    PROGRAM, SECURITY_RELEASE, SECURITY_SET, VERIFY,
+    Chip, Event, Phase, BLANK_CHECK, BLOCK_ERASE, CHECKSUM, ERASED, PROGRAM, SECURITY_RELEASE,
+    SECURITY_SET, VERIFY,
 };
 use twin::frame::{LAST_FOOTER, MORE_FOOTER};
+use twin::part::{Area, Part};
 use twin::random::{command_frame, data_frame, range_body, Generator};
 use twin::replay::replay_part;
 
@@ -28,8 +29,8 @@ pub fn run(coverage: &mut Coverage) -> Result<(u64, u64), Difference> {
     let mut counts = (0, 0);
     for part in parts() {
         let mut choice = Generator::new(part.code_blocks.into());
-        let code = script::flash(&mut choice, 50, part.code_blocks);
-        let data = script::flash(&mut choice, 50, part.data_blocks);
+        let code = script::flash(&mut choice, 50, &part, Area::Code);
+        let data = script::flash(&mut choice, 50, &part, Area::Data);
         let mut trio = Trio::fresh(&part, code, data, coverage)?;
         every_command(&mut trio)?;
         edge_ranges(&mut trio)?;
@@ -50,7 +51,8 @@ fn standing(trio: &Trio, phase: Phase) -> Chip {
     chip
 }
 
-fn phases() -> [Phase; 6] {
+fn phases(part: &Part) -> [Phase; 6] {
+    let (block, page) = (part.block_size(Area::Code), part.page_size());
     let awaiting = |command: u8, next: usize, last: usize| Phase::Awaiting {
         command,
         next,
@@ -60,15 +62,15 @@ fn phases() -> [Phase; 6] {
         Phase::ModeByte,
         Phase::Setup,
         Phase::Ready,
-        awaiting(PROGRAM, PAGE, BLOCK - 1),
-        awaiting(VERIFY, BLOCK - PAGE, BLOCK - 1),
+        awaiting(PROGRAM, page, block - 1),
+        awaiting(VERIFY, block - page, block - 1),
         awaiting(SECURITY_SET, 0, 0),
     ]
 }
 
 /// 01's LEN of each command, one less and one more, and the frame's faults alone and in pairs.
 fn every_command(trio: &mut Trio) -> Result<(), Difference> {
-    for phase in phases() {
+    for phase in phases(&trio.part) {
         for com in 0..=255 {
             for length in [1, 2, 3, 4, 5, 6, 7, 8, 9] {
                 let body = [com, 0x00, 0x21, 0x00, 0xFF, 0x03, 0x00, 0x00, 0x00];
@@ -100,25 +102,34 @@ fn every_command(trio: &mut Trio) -> Result<(), Difference> {
 
 /// Every pair of addresses at an edge, for each command with a range, and each of them for 22h.
 fn edge_ranges(trio: &mut Trio) -> Result<(), Difference> {
-    let code = trio.part.code_blocks as usize * BLOCK;
-    let data = DATA_FLASH + trio.part.data_blocks as usize * BLOCK;
+    let part = &trio.part;
+    let (block, past_boot, code) = (
+        part.block_size(Area::Code),
+        part.boot_size(),
+        part.end(Area::Code),
+    );
+    let (data_block, data, past_data) = (
+        part.block_size(Area::Data),
+        part.start(Area::Data),
+        part.end(Area::Data),
+    );
     let edges = [
         0,
-        BLOCK - 1,
-        BLOCK,
-        4 * BLOCK - 1,
-        4 * BLOCK,
-        code - BLOCK,
+        block - 1,
+        block,
+        past_boot - 1,
+        past_boot,
+        code - block,
         code - 1,
         code,
-        code + BLOCK - 1,
-        DATA_FLASH - BLOCK,
-        DATA_FLASH - 1,
-        DATA_FLASH,
-        DATA_FLASH + BLOCK - 1,
+        code + block - 1,
+        data - data_block,
         data - 1,
         data,
-        data + BLOCK - 1,
+        data + data_block - 1,
+        past_data - 1,
+        past_data,
+        past_data + data_block - 1,
         0xFF_FC00,
         0xFF_FFFF,
     ];
@@ -143,21 +154,22 @@ fn edge_ranges(trio: &mut Trio) -> Result<(), Difference> {
 
 /// Each page of each area, as a page of the whole area: written where all is blank, verified, and written again.
 fn every_page(trio: &mut Trio, choice: &mut Generator) -> Result<(), Difference> {
-    let (code, data) = (trio.part.code_blocks, trio.part.data_blocks);
+    let part = trio.part.clone();
+    let size = part.page_size();
     trio.hand_in_flash(
-        script::flash(choice, 0, code),
-        script::flash(choice, 0, data),
+        script::flash(choice, 0, &part, Area::Code),
+        script::flash(choice, 0, &part, Area::Data),
     );
-    for (base, blocks) in [(0, code), (DATA_FLASH, data)] {
-        let end = base + blocks as usize * BLOCK;
-        for next in (base..end).step_by(PAGE) {
-            let footer = if next + PAGE == end {
+    for area in [Area::Code, Area::Data] {
+        let end = part.end(area);
+        for next in (part.start(area)..end).step_by(size) {
+            let footer = if next + size == end {
                 LAST_FOOTER
             } else {
                 MORE_FOOTER
             };
-            let page: Vec<u8> = (0..PAGE)
-                .map(|at| (at * 7 + next / PAGE * 31) as u8)
+            let page: Vec<u8> = (0..size)
+                .map(|at| (at * 7 + next / size * 31) as u8)
                 .collect();
             for command in [PROGRAM, VERIFY, PROGRAM] {
                 trio.hand_in(standing(
@@ -177,16 +189,17 @@ fn every_page(trio: &mut Trio, choice: &mut Generator) -> Result<(), Difference>
 
 /// Flash that differs from blank, or from the page, in one byte: at each place of a page for 40h and 13h, at both ends of each block for 32h, B0h and A2h.
 fn one_byte(trio: &mut Trio) -> Result<(), Difference> {
-    let code = trio.part.code_blocks as usize * BLOCK;
-    let data = trio.part.data_blocks as usize * BLOCK;
-    let blank = vec![ERASED; code + data];
-    let page: Vec<u8> = (0..PAGE).map(|at| (at * 5 + 1) as u8).collect();
-    let next = 2 * PAGE;
-    for at in 0..PAGE {
+    let part = trio.part.clone();
+    let size = part.page_size();
+    let code = part.size(Area::Code);
+    let blank = vec![ERASED; code + part.size(Area::Data)];
+    let page: Vec<u8> = (0..size).map(|at| (at * 5 + 1) as u8).collect();
+    let next = 2 * size;
+    for at in 0..size {
         for command in [PROGRAM, VERIFY] {
             let mut flash = blank.clone();
             if command == VERIFY {
-                flash[next..next + PAGE].copy_from_slice(&page);
+                flash[next..next + size].copy_from_slice(&page);
             }
             flash[next + at] ^= 0x80;
             trio.hand_in_flash(flash[..code].to_vec(), flash[code..].to_vec());
@@ -195,23 +208,25 @@ fn one_byte(trio: &mut Trio) -> Result<(), Difference> {
                 Phase::Awaiting {
                     command,
                     next,
-                    last: BLOCK - 1,
+                    last: part.block_size(Area::Code) - 1,
                 },
             ));
             trio.bytes(&data_frame(&page, MORE_FOOTER), 32)?;
         }
     }
-    for block in 0..(code + data) / BLOCK {
-        let start = match (block * BLOCK).checked_sub(code) {
-            Some(offset) => DATA_FLASH + offset,
-            None => block * BLOCK,
-        };
-        let end = start + BLOCK - 1;
+    let blocks = [(Area::Code, 0), (Area::Data, code)].map(|(area, before)| {
+        let block = part.block_size(area);
+        let starts = (0..part.size(area)).step_by(block);
+        starts.map(move |offset| (area, block, offset, before + offset))
+    });
+    for (area, block, offset, held) in blocks.into_iter().flatten() {
+        let start = part.start(area) + offset;
+        let end = start + block - 1;
         let mut check = range_body(BLANK_CHECK, start, end);
         check.push(0x00);
-        for at in [0, BLOCK - 1] {
+        for at in [0, block - 1] {
             let mut flash = blank.clone();
-            flash[block * BLOCK + at] = 0xFE;
+            flash[held + at] = 0xFE;
             trio.hand_in_flash(flash[..code].to_vec(), flash[code..].to_vec());
             for body in [
                 &check,
@@ -273,18 +288,29 @@ fn options(trio: &mut Trio) -> Result<(), Difference> {
 
 /// 22h, 40h and A2h under every flag byte that the chip accepts, on flash that is blank and that is not.
 fn protection(trio: &mut Trio) -> Result<(), Difference> {
-    let code = trio.part.code_blocks;
-    let data = trio.part.data_blocks;
+    let part = trio.part.clone();
+    let past_boot = part.boot_size();
+    let starts = [
+        past_boot - part.block_size(Area::Code),
+        past_boot,
+        part.start(Area::Data),
+    ];
     for filled in [0, 100] {
         for flags in script::FREE_FLAGS {
             let mut choice = Generator::new(flags.into());
             trio.hand_in_flash(
-                script::flash(&mut choice, filled, code),
-                script::flash(&mut choice, filled, data),
+                script::flash(&mut choice, filled, &part, Area::Code),
+                script::flash(&mut choice, filled, &part, Area::Data),
             );
-            for block in [3 * BLOCK, 4 * BLOCK, DATA_FLASH] {
-                let erase = command_frame(&range_body(BLOCK_ERASE, block, 0)[..4]);
-                let write = command_frame(&range_body(PROGRAM, block, block + BLOCK - 1));
+            for start in starts {
+                let area = if start < part.start(Area::Data) {
+                    Area::Code
+                } else {
+                    Area::Data
+                };
+                let end = start + part.block_size(area) - 1;
+                let erase = command_frame(&range_body(BLOCK_ERASE, start, 0)[..4]);
+                let write = command_frame(&range_body(PROGRAM, start, end));
                 let release = command_frame(&[SECURITY_RELEASE]);
                 for frame in [release, write, erase] {
                     let mut chip = standing(trio, Phase::Ready);

@@ -14,6 +14,7 @@ use std::process::ExitCode;
 use std::time::Instant;
 
 use twin::chip::Event;
+use twin::part::Area;
 use twin::random::Generator;
 
 use chip::{Difference, Trio, BAD_PARTS, BAD_STATES, CALLS, PHASES};
@@ -138,8 +139,8 @@ fn course(seed: u64, coverage: &mut Coverage) -> Result<(u64, u64), Difference> 
     coverage.count(&format!("data blocks, {}", part.data_blocks));
     coverage.count(&format!("clock, {}", part.clock));
     let filled = choice.pick(&[0, 5, 50]);
-    let code = script::flash(&mut choice, filled, part.code_blocks);
-    let data = script::flash(&mut choice, filled, part.data_blocks);
+    let code = script::flash(&mut choice, filled, &part, Area::Code);
+    let data = script::flash(&mut choice, filled, &part, Area::Data);
     let mut trio = Trio::fresh(&part, code, data, coverage)?;
     trio.refused_fresh(&mut choice)?;
     for _ in 0..60 {
@@ -152,8 +153,8 @@ fn course(seed: u64, coverage: &mut Coverage) -> Result<(u64, u64), Difference> 
         }
         if choice.chance(1) {
             trio.hand_in_flash(
-                script::flash(&mut choice, 0, part.code_blocks),
-                script::flash(&mut choice, 0, part.data_blocks),
+                script::flash(&mut choice, 0, &part, Area::Code),
+                script::flash(&mut choice, 0, &part, Area::Data),
             );
         }
         if choice.chance(12) {

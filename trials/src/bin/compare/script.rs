@@ -2,11 +2,11 @@
 //! that the chip accepts, and frames, good and damaged.
 
 use twin::chip::{
-    Chip, Options, Part, Phase, BLANK_CHECK, BLOCK, BLOCK_ERASE, CHECKSUM, DATA_FLASH, ERASED,
-    LAST_BOOT_BLOCK, PAGE, PROGRAM, RATE_SET, RESET, SECURITY_GET, SECURITY_RELEASE, SECURITY_SET,
-    SIGNATURE, VERIFY,
+    Chip, Options, Phase, BLANK_CHECK, BLOCK_ERASE, CHECKSUM, ERASED, LAST_BOOT_BLOCK, PROGRAM,
+    RATE_SET, RESET, SECURITY_GET, SECURITY_RELEASE, SECURITY_SET, SIGNATURE, VERIFY,
 };
 use twin::frame::{counted, LAST_FOOTER, LONGEST, MORE_FOOTER};
+use twin::part::{Area, Part};
 use twin::random::{command_frame, data_frame, range_body, Generator};
 
 pub const COMMANDS: [u8; 11] = [
@@ -43,12 +43,13 @@ pub fn part_by_turns(turn: u64, choice: &mut Generator) -> Part {
 }
 
 /// Blank, filled, or some blocks of each; a block may differ from blank in one byte.
-pub fn flash(choice: &mut Generator, filled: usize, blocks: u32) -> Vec<u8> {
-    let mut flash = vec![ERASED; blocks as usize * BLOCK];
-    for block in flash.chunks_mut(BLOCK) {
+pub fn flash(choice: &mut Generator, filled: usize, part: &Part, area: Area) -> Vec<u8> {
+    let size = part.block_size(area);
+    let mut flash = vec![ERASED; part.size(area)];
+    for block in flash.chunks_mut(size) {
         if choice.chance(filled) {
-            let at = choice.below(BLOCK);
-            let end = choice.pick(&[at + 1, BLOCK]);
+            let at = choice.below(size);
+            let end = choice.pick(&[at + 1, size]);
             block[at..end].fill_with(|| choice.byte() & 0xFE);
         }
     }
@@ -102,12 +103,13 @@ fn good_phase(choice: &mut Generator, part: &Part) -> Phase {
         }
         _ => {
             let (start, last) = good_range(choice, part);
-            let pages = (last + 1 - start) / PAGE;
+            let size = part.page_size();
+            let pages = (last + 1 - start) / size;
             let page = choice.below(pages);
             let page = choice.pick(&[0, page, pages - 1, pages.saturating_sub(2)]);
             Phase::Awaiting {
                 command: choice.pick(&[PROGRAM, VERIFY]),
-                next: start + page * PAGE,
+                next: start + page * size,
                 last,
             }
         }
@@ -168,7 +170,7 @@ pub fn heard(
             last,
         } => match choice.below(40) {
             0 => any_command(choice, part),
-            _ => page(choice, command, next, last, code, data),
+            _ => page(choice, part, command, next, last, code, data),
         },
     };
     if choice.chance(12) {
@@ -259,32 +261,34 @@ fn options_data(choice: &mut Generator, part: &Part, chip: &Chip) -> Vec<u8> {
 
 fn page(
     choice: &mut Generator,
+    part: &Part,
     command: u8,
     next: usize,
     last: usize,
     code: &[u8],
     data: &[u8],
 ) -> Vec<u8> {
-    let held = match next.checked_sub(DATA_FLASH) {
-        Some(offset) => &data[offset..offset + PAGE],
-        None => &code[next..next + PAGE],
+    let size = part.page_size();
+    let held = match next.checked_sub(part.start(Area::Data)) {
+        Some(offset) => &data[offset..offset + size],
+        None => &code[next..next + size],
     };
     let any = choice.byte();
     let mut page: Vec<u8> = match choice.below(10) {
-        0 => vec![any; PAGE],
-        1 => vec![ERASED; PAGE],
+        0 => vec![any; size],
+        1 => vec![ERASED; size],
         2 => held.to_vec(),
         _ if command == VERIFY => held.to_vec(),
-        _ => (0..PAGE).map(|_| choice.byte()).collect(),
+        _ => (0..size).map(|_| choice.byte()).collect(),
     };
     if command == VERIFY && choice.chance(10) {
-        let at = choice.below(PAGE);
-        page[choice.pick(&[0, PAGE - 1, at])] ^= choice.pick(&[0x01, 0x80, 0xFF]);
+        let at = choice.below(size);
+        page[choice.pick(&[0, size - 1, at])] ^= choice.pick(&[0x01, 0x80, 0xFF]);
     }
     if choice.chance(3) {
         page.truncate(choice.pick(&[1, 8, 255]));
     }
-    let expected = if next + PAGE - 1 == last {
+    let expected = if next + size - 1 == last {
         LAST_FOOTER
     } else {
         MORE_FOOTER
@@ -297,19 +301,20 @@ fn page(
 /// Mostly good; else bad in each of 01's ways.
 fn range(choice: &mut Generator, part: &Part) -> (usize, usize) {
     let (start, end) = good_range(choice, part);
-    let code = part.code_blocks as usize * BLOCK;
+    let code = part.end(Area::Code);
+    let (block, data_block) = (part.block_size(Area::Code), part.block_size(Area::Data));
     match choice.below(40) {
         0 => (end, start),
         1 => (start + 1, end),
         2 => (start, end - 1),
-        3 => (start, end + PAGE),
-        4 => (start, DATA_FLASH + BLOCK - 1),
-        5 => (start, end + 64 * BLOCK),
-        6 => (code, code + BLOCK - 1),
+        3 => (start, end + part.page_size()),
+        4 => (start, part.start(Area::Data) + data_block - 1),
+        5 => (start, end + 64 * block),
+        6 => (code, code + block - 1),
         7 => (start, 0xFF_FFFF),
         8 => {
-            let past = DATA_FLASH + part.data_blocks as usize * BLOCK;
-            (past, past + BLOCK - 1)
+            let past = part.end(Area::Data);
+            (past, past + data_block - 1)
         }
         9 => (start + 0x0F_0000, end + 0x0F_0000),
         _ => (start, end),
@@ -319,11 +324,8 @@ fn range(choice: &mut Generator, part: &Part) -> (usize, usize) {
 /// Mostly one block, and often the same, so that pages meet what was written before.
 fn good_range(choice: &mut Generator, part: &Part) -> (usize, usize) {
     let in_data = part.data_blocks > 0 && choice.chance(35);
-    let (base, blocks) = if in_data {
-        (DATA_FLASH, part.data_blocks as usize)
-    } else {
-        (0, part.code_blocks as usize)
-    };
+    let area = if in_data { Area::Data } else { Area::Code };
+    let (blocks, size) = (part.blocks(area), part.block_size(area));
     let any = choice.below(blocks);
     let first = choice.pick(&[0, 0, 3, 4, any, blocks - 1]).min(blocks - 1);
     let (first, count) = match choice.below(20) {
@@ -332,8 +334,8 @@ fn good_range(choice: &mut Generator, part: &Part) -> (usize, usize) {
         3 => (first, blocks - first),
         _ => (first, 1),
     };
-    let start = base + first * BLOCK;
-    (start, start + count * BLOCK - 1)
+    let start = part.start(area) + first * size;
+    (start, start + count * size - 1)
 }
 
 pub fn noise(choice: &mut Generator) -> Vec<u8> {

@@ -5,7 +5,7 @@ use twin::chip::{step, Answer, Chip, Event};
 use twin::dock::{self, Report, Stage};
 
 use crate::job::{
-    Flash, Job, CLOCK, CODE_BLOCKS, DATA_BLOCKS, NAMES, OPTIONS, RATE, RETRIES, SUPPLY,
+    part, Flash, Job, CLOCK, CODE_BLOCKS, DATA_BLOCKS, NAMES, OPTIONS, RATE, RETRIES, SUPPLY,
 };
 
 /// How a job stands, and the frames and retries that the dock told.
@@ -95,8 +95,8 @@ impl Proved<'_> {
 impl<'a> Ends<'a> for Proved<'a> {
     fn with(job: &'a Job, flash: &Flash) -> Self {
         let part = door::Part {
-            code_blocks: CODE_BLOCKS as u32,
-            data_blocks: DATA_BLOCKS as u32,
+            code_blocks: CODE_BLOCKS,
+            data_blocks: DATA_BLOCKS,
             clock: CLOCK,
             names: &NAMES,
         };
@@ -210,14 +210,7 @@ impl Twin<'_> {
 
 impl<'a> Ends<'a> for Twin<'a> {
     fn with(job: &'a Job, flash: &Flash) -> Self {
-        let part = twin::chip::Part {
-            code_blocks: CODE_BLOCKS as u32,
-            data_blocks: DATA_BLOCKS as u32,
-            clock: CLOCK,
-            device: NAMES[..3].try_into().unwrap(),
-            name: NAMES[3..13].try_into().unwrap(),
-            version: NAMES[13..].try_into().unwrap(),
-        };
+        let part = part();
         Twin {
             chip: Chip::fresh(&part).expect("the part is described"),
             job: dock::Job {

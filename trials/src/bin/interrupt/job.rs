@@ -1,29 +1,35 @@
 //! The part, a job in its flash, and flash compared (01 "The part", "The dock's flow").
 
 use trials::door;
-pub use twin::chip::{BLOCK, DATA_FLASH, ERASED, PAGE};
+pub use twin::chip::ERASED;
+pub use twin::part::Area;
+use twin::part::Part;
 
 pub const MODE_BYTE: u8 = 0x3A;
 /// Flags, last boot block, window start and end.
 pub const OPTIONS: usize = 6;
 
 // The replay's part (01 "Replay"); the names are the part's own.
-pub const CODE_BLOCKS: usize = 16;
-pub const DATA_BLOCKS: usize = 4;
+pub const CODE_BLOCKS: u32 = 16;
+pub const DATA_BLOCKS: u32 = 4;
 pub const CLOCK: u32 = 32;
 pub const NAMES: [u8; door::NAMES] = *b"\x10\x00\x06R5F100LE  \x01\x02\x03";
 pub const RATE: u32 = 0;
 pub const SUPPLY: u32 = 33;
 pub const RETRIES: u32 = 3;
 
-/// 9Ah, 00h, C0h; then for a block that is not blank 32h, 22h, 40h, four pages, 13h, four pages (01 "The dock's flow").
+/// 9Ah, 00h, C0h (01 "The dock's flow").
 pub const SETUP_FRAMES: usize = 3;
-pub const BLOCK_FRAMES: usize = 12;
 
-#[derive(Clone, Copy, PartialEq, Eq)]
-pub enum Area {
-    Code,
-    Data,
+pub fn part() -> Part {
+    Part {
+        code_blocks: CODE_BLOCKS,
+        data_blocks: DATA_BLOCKS,
+        clock: CLOCK,
+        device: NAMES[..3].try_into().unwrap(),
+        name: NAMES[3..13].try_into().unwrap(),
+        version: NAMES[13..].try_into().unwrap(),
+    }
 }
 
 /// Whole blocks of one area, and what they are to hold.
@@ -34,30 +40,40 @@ pub struct Job {
 }
 
 impl Job {
+    pub fn block_size(&self) -> usize {
+        part().block_size(self.area)
+    }
+
     pub fn blocks(&self) -> usize {
-        self.image.len() / BLOCK
+        self.image.len() / self.block_size()
+    }
+
+    /// Where the range starts in its area.
+    pub fn offset(&self) -> usize {
+        self.first_block * self.block_size()
     }
 
     pub fn start(&self) -> usize {
-        let first = match self.area {
-            Area::Code => 0,
-            Area::Data => DATA_FLASH,
-        };
-        first + self.first_block * BLOCK
+        part().start(self.area) + self.offset()
     }
 
     pub fn end(&self) -> usize {
         self.start() + self.image.len() - 1
     }
 
+    /// For a block that is not blank 32h, 22h, 40h and its pages, 13h and its pages (01 "The dock's flow").
+    pub fn block_frames(&self) -> usize {
+        4 + 2 * part().pages_of_block(self.area)
+    }
+
     /// Of the undamaged job, over flash that is not blank.
     pub fn frames(&self) -> usize {
-        SETUP_FRAMES + BLOCK_FRAMES * self.blocks()
+        SETUP_FRAMES + self.block_frames() * self.blocks()
     }
 
     /// "for B blocks and R retries allowed, at most 3 + 12(B + R) frames"
     pub fn bound(&self) -> usize {
-        3 + 12 * (self.blocks() + RETRIES as usize)
+        3 + self.block_frames() * (self.blocks() + RETRIES as usize)
     }
 }
 
@@ -71,8 +87,8 @@ impl Flash {
     /// Full of bytes of all values, no block of it blank.
     pub fn full() -> Flash {
         Flash {
-            code: noise(7, CODE_BLOCKS * BLOCK),
-            data: noise(8, DATA_BLOCKS * BLOCK),
+            code: noise(7, part().size(Area::Code)),
+            data: noise(8, part().size(Area::Data)),
         }
     }
 
@@ -84,7 +100,7 @@ impl Flash {
     }
 
     pub fn range(&self, job: &Job) -> &[u8] {
-        let first = job.first_block * BLOCK;
+        let first = job.offset();
         &self.area(job.area)[first..first + job.image.len()]
     }
 
@@ -93,10 +109,7 @@ impl Flash {
         let changed = |area: Area| {
             let (ours, theirs) = (self.area(area), other.area(area));
             let (first, end) = match job.area == area {
-                true => (
-                    job.first_block * BLOCK,
-                    job.first_block * BLOCK + job.image.len(),
-                ),
+                true => (job.offset(), job.offset() + job.image.len()),
                 false => (0, 0),
             };
             unequal(&ours[..first], &theirs[..first]) + unequal(&ours[end..], &theirs[end..])

@@ -10,9 +10,9 @@ use std::fmt::Write;
 use std::process::ExitCode;
 
 use ends::{Ends, Proved, Twin};
-use job::{noise, Area, Flash, Job, BLOCK};
+use job::{noise, part, Area, Flash, Job};
 use table::{figure, table};
-use trial::{interrupt, planted, Tally, PLANTED, PLANTED_AT, PLANTED_HEARD};
+use trial::{interrupt, planted, planted_at, Tally, PLANTED, PLANTED_HEARD};
 
 const USAGE: &str = "usage: interrupt [--twin] [--check]
   prints what interruptions of a job leave; status 1 where a number is not as it must be
@@ -28,16 +28,18 @@ struct Jobs {
 }
 
 fn jobs() -> Jobs {
-    let mut image = vec![0x55; BLOCK];
-    image[PLANTED_AT..PLANTED_AT + PLANTED.len()].copy_from_slice(&PLANTED);
+    let part = part();
+    let (code, data) = (part.block_size(Area::Code), part.block_size(Area::Data));
+    let mut image = vec![0x55; code];
+    image[planted_at()..][..PLANTED.len()].copy_from_slice(&PLANTED);
     let job = |area, first_block, image| Job {
         area,
         first_block,
         image,
     };
     Jobs {
-        code: job(Area::Code, 6, noise(1, 3 * BLOCK)),
-        data: job(Area::Data, 1, noise(2, 2 * BLOCK)),
+        code: job(Area::Code, 6, noise(1, 3 * code)),
+        data: job(Area::Data, 1, noise(2, 2 * data)),
         planted: job(Area::Code, 6, image),
     }
 }

@@ -57,7 +57,7 @@ impl<'a, E: Ends<'a>> Trial<'a, E> {
                 asked,
                 reached: (asked - 1)
                     .checked_sub(SETUP_FRAMES)
-                    .map(|after| after / BLOCK_FRAMES),
+                    .map(|after| after / job.block_frames()),
             });
         }
         if ends.flash().range(job) != job.image {
@@ -153,10 +153,11 @@ impl<'a, E: Ends<'a>> Trial<'a, E> {
     /// What a job that did not finish left: the image in the blocks before the one reached, the old bytes in those after it, and that one in between.
     fn judge_left(&self, ends: &E, reached: Option<usize>, tally: &mut Tally) {
         self.judge_around(ends, tally);
-        let blocks = ends.flash().range(self.job).chunks(BLOCK);
+        let size = self.job.block_size();
+        let blocks = ends.flash().range(self.job).chunks(size);
         let (image, old) = (
-            self.job.image.chunks(BLOCK),
-            self.old.range(self.job).chunks(BLOCK),
+            self.job.image.chunks(size),
+            self.old.range(self.job).chunks(size),
         );
         for (block, (found, (new, old))) in blocks.zip(image.zip(old)).enumerate() {
             match reached {
@@ -195,7 +196,7 @@ pub enum Left {
     Erased,
     SomePages,
     AllPages,
-    /// All four new pages but for two bytes.
+    /// All new pages but for two bytes.
     TwoWrong,
     Other,
 }
@@ -203,15 +204,16 @@ pub enum Left {
 impl Left {
     fn of(found: &[u8], new: &[u8], old: &[u8]) -> Left {
         let blank = |bytes: &[u8]| bytes.iter().all(|byte| *byte == ERASED);
+        let page = part().page_size();
         let begins = |pages: usize| {
-            let (written, behind) = found.split_at(pages * PAGE);
+            let (written, behind) = found.split_at(pages * page);
             *written == new[..written.len()] && blank(behind)
         };
         match () {
             _ if found == old => Left::Old,
             _ if found == new => Left::AllPages,
             _ if blank(found) => Left::Erased,
-            _ if (1..BLOCK / PAGE).any(begins) => Left::SomePages,
+            _ if (1..found.len() / page).any(begins) => Left::SomePages,
             _ if unequal(found, new) == 2 => Left::TwoWrong,
             _ => Left::Other,
         }
@@ -372,7 +374,10 @@ pub fn interrupt<'a, E: Ends<'a>>(
 pub const PLANTED: [u8; 8] = [0x01, 0x04, 0x22, 0x00, 0x08, 0x00, 0xD2, 0x03];
 const PLANTED_BLOCK: usize = 2;
 /// 128 bytes into the second page of a block that holds no other 01h or 02h.
-pub const PLANTED_AT: usize = PAGE + 128;
+pub fn planted_at() -> usize {
+    part().page_size() + 128
+}
+
 /// By hand: a page whose LEN was changed to n is bad and over after n + 4 bytes, and the rest of it is heard as commands. The planted one begins 130 bytes into
 /// the frame, so it is heard whole for n from 1 to 126. Where LEN is lost, the first byte of the page, 55h, stands for it, and it is heard whole too. This in the
 /// page of 40h and in that of 13h. The dock then hears two replies to one page, which is unreadable.
@@ -383,7 +388,8 @@ pub const PLANTED_HEARD: u64 = 2 * (126 + 1);
 pub fn planted<'a, E: Ends<'a>>(job: &'a Job, old: Flash) -> Result<(u64, u64), String> {
     let trial = Trial::<E>::new(job, old)?;
     let mut erased = trial.old.clone();
-    erased.code[PLANTED_BLOCK * BLOCK..][..BLOCK].fill(ERASED);
+    let size = part().block_size(Area::Code);
+    erased.code[PLANTED_BLOCK * size..][..size].fill(ERASED);
     let (mut tried, mut heard_whole) = (0, 0);
     for moment in &trial.moments[1..] {
         let (header, len, rest) = (&moment.sent[..1], moment.sent[1], &moment.sent[2..]);
