@@ -834,7 +834,7 @@ fn spoil_image(choice: &mut Generator, work: &mut Work) {
         length + 1,
         length - page,
         length + page,
-        length - block,
+        length.saturating_sub(block),
         length + block,
     ]);
     image.resize(other, 0x00);
