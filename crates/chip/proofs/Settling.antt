@@ -8,7 +8,6 @@ use native.Mathlib.Decide.{decLe}
 use native.Mathlib.Omega.{arith}
 use lib.Dec.{eqb, leb, ltb}
 use lib.ListN.{List·getD-append, getD, length, length-append, take}
-use lib.Seq.{getD-take}
 use borrow.Author.Tests.{eqb-true, le-leb, lt-leb, ltb-true, not-true}
 use Rattle.chip.specs.Step.{Outcome, Reaction, byteIn, frameDoes, heardByte, modeByte, outcome, poweredOn, reactTo, reaction, replied, settled, silent, stepOf}
 use Rattle.chip_state.proofs.Laws.{Accepts}
@@ -25,7 +24,7 @@ use Rattle.chip_core.specs.declared.Core.{Core}
 use Rattle.chip_core.specs.declared.Done.{Done}
 use Rattle.chip_core.specs.declared.Phase.{Phase}
 use Rattle.chip_core.specs.declared.Phase.the-variants.{Awaiting, ModeByte, Ready, Setup}
-use Rattle.frame.proofs.Laws.Collector.{complete-within, hear-more, heard-byte, holding-heard, length-heard}
+use Rattle.frame.proofs.Laws.Collector.{byte-hears, complete-is, complete-within, dropped-is, hear-long, hear-more, heard-at, heard-byte, heard-is, holding-count, holding-heard, length-heard}
 use Rattle.frame.proofs.Laws.Frame.{full-not, full-short, full-yes}
 use Rattle.frame.specs.Collector.{byteOf, dropped, hear, heard, holding}
 use Rattle.frame.specs.Frame.{complete, counted, full, headerByte}
@@ -68,67 +67,47 @@ completes-early : (n x : ℕ) → n < 2 → completesAt n x ≡ false
 unfolding completesAt _and_
 completes-early n x h = simp (lt-leb 2 n h)
 
-none-complete : complete [] ≡ false
-unfolding complete full _and_
-none-complete = refl
-
-one-complete : (b : ℕ) → complete (b ∷ []) ≡ false
-unfolding complete full _and_
-one-complete b = refl
+short-complete : (hs : List ℕ) → length hs < 2 → complete hs ≡ false
+short-complete hs h = complete-is hs ∙ full-short (length hs) (getD hs 1 0) h
 
 two-complete : (y b : ℕ) → complete (y ∷ b ∷ []) ≡ false
-unfolding complete
-two-complete y b = full-not 2 b (omega arith)
+two-complete y b = complete-is (y ∷ b ∷ []) ∙ full-not 2 b (omega arith)
 
 first-complete : (h : Header) (b : ℕ) → complete (hear h [] b) ≡ false
-unfolding hear if_then_else_
-first-complete h b = go (eqb b (headerByte h))
-  where
-    go : (t : Bool) → complete (if t then b ∷ [] else []) ≡ false
-    go true = one-complete b
-    go false = none-complete
+first-complete h b = short-complete (hear h [] b) (omega (arith, hear-long h [] b))
 
 more-complete : (hs : List ℕ) (b n x : ℕ) → length hs ≡ n → 2 ≤ n → getD hs 1 0 ≡ x → complete (hs ++ b ∷ []) ≡ completesAt n x
-unfolding complete completesAt _and_
+unfolding completesAt _and_
 more-complete hs b n x e h g =
     let l : length (hs ++ b ∷ []) ≡ n + 1 = rw (length-append, e) in
     let d : getD (hs ++ b ∷ []) 1 0 ≡ x = List·getD-append hs (b ∷ []) 0 1 (omega arith) ∙ g in
-    rw (l, d) (go (decLe (counted x + 3) n))
+    complete-is (hs ++ b ∷ []) ∙ rw (l, d) (go (decLe (counted x + 3) n))
   where
     go : Dec (counted x + 3 ≤ n) → full (n + 1) x ≡ (leb 2 n and leb (counted x + 3) n)
     go (yes k) = full-yes (n + 1) x (omega arith) (omega arith) ∙ sym (and-both (le-leb 2 n h) (le-leb (counted x + 3) n k))
     go (no k) = full-not (n + 1) x (omega arith) ∙ sym (simp (le-leb 2 n h, lt-leb (counted x + 3) n (omega arith)))
-
-heard-second : (c : Collector) → 1 < c .len → getD (heard c) 1 0 ≡ getD (c .bytes) 1 0
-unfolding heard
-heard-second c k = getD-take (c .len) (c .bytes) 1 0 k
 
 pub completes-is : (c : Collector) (h : Header) (b : ℕ) → length (c .bytes) ≡ 260 → Begun c
     → complete (hear h (heard c) b) ≡ completesAt (c .len) (getD (c .bytes) 1 0)
 completes-is c h b l g = go (heard c) (length-heard c (omega (arith, g .within))) (λ k. second k)
   where
     second : 1 < c .len → getD (heard c) 1 0 ≡ getD (c .bytes) 1 0
-    second k = heard-second c k
+    second k = heard-at c 1 k
 
     go : (hs : List ℕ) → length hs ≡ c .len → (1 < c .len → getD hs 1 0 ≡ getD (c .bytes) 1 0) → complete (hear h hs b) ≡ completesAt (c .len) (getD (c .bytes) 1 0)
     go [] n s = first-complete h b ∙ sym (completes-early (c .len) (getD (c .bytes) 1 0) (omega arith))
     go (y ∷ []) n s = rw (hear-more h (y ∷ []) b (omega arith)) (two-complete y b) ∙ sym (completes-early (c .len) (getD (c .bytes) 1 0) (omega arith))
     go (y ∷ z ∷ zs) n s = rw (hear-more h (y ∷ z ∷ zs) b (omega arith)) (more-complete (y ∷ z ∷ zs) b (c .len) (getD (c .bytes) 1 0) n (omega arith) (s (omega arith)))
 
-heard-take : (d : Collector) → take (d .len) (d .bytes) ≡ heard d
-unfolding heard
-heard-take d = refl
-
 -- What a further byte leaves heard, where nothing is complete yet.
 pub byte-holds : (c d : Collector) (h : Header) (b : ℕ) → Begun c → d ≡ byteOf c h b → d ≡ holding c (hear h (heard c) b)
-unfolding byteOf if_then_else_
-byte-holds c d h b g e = e ∙ simp (g .lacks)
+byte-holds c d h b g e = e ∙ byte-hears c h b (g .lacks)
 
 -- The frame that the byte completed, lent as the part from 0 to the count.
 pub frame-is : (c d : Collector) (h : Header) (b : ℕ) → Begun c → d ≡ byteOf c h b → take (d .len - 0) (d .bytes) ≡ hear h (heard c) b
 frame-is c d h b g e =
     let z : d .len - 0 ≡ d .len = omega arith in
-    ap (λ (n : ℕ). take n (d .bytes)) z ∙ heard-take d ∙ ap heard e ∙ heard-byte c h b (g .lacks)
+    ap (λ (n : ℕ). take n (d .bytes)) z ∙ sym (heard-is d) ∙ ap heard e ∙ heard-byte c h b (g .lacks)
 
 -- A silent step: only what is heard, and perhaps the record, is new.
 pub quiet-settles : (p : Part) (c d : Collector) (k new : Core) (hs : List ℕ) (m : Flash) (room : List ℕ) → d ≡ holding c hs → 32 ≤ length room
@@ -142,10 +121,10 @@ pub frame-settles : (p : Part) (d : Done) (c e : Collector) (k : Core) (s : Sent
     → effect d n ≡ x → said s r ≡ saidOf (payloads p (d .core .options) (d .reply)) room → e ≡ dropped c
     → record { answer = replied s; chip = record { core = d .core; collector = e }; memory = n; room = r }
     ≡ settled Accepted p (reaction [] x) (record { core = k; collector = c }) m room
-unfolding settled dropped
+unfolding settled
 frame-settles p d c e k s x m n room r f q g =
     ap (λ (z : Said). record { answer = replied (z .sent); chip = record { core = d .core; collector = e }; memory = n; room = z .room }) q
-    ∙ ap (λ (z : Collector). record { answer = replied (saidOf (payloads p (d .core .options) (d .reply)) room .sent); chip = record { core = d .core; collector = z }; memory = n; room = saidOf (payloads p (d .core .options) (d .reply)) room .room }) g
+    ∙ ap (λ (z : Collector). record { answer = replied (saidOf (payloads p (d .core .options) (d .reply)) room .sent); chip = record { core = d .core; collector = z }; memory = n; room = saidOf (payloads p (d .core .options) (d .reply)) room .room }) (g ∙ dropped-is c)
     ∙ ap (λ (y : Effect). settled Accepted p (reaction [] y) (record { core = k; collector = c }) m room) f
 
 -- What a good state gives of the phase it is in.
@@ -153,23 +132,9 @@ pub state-collected : (p : Part) (k : Core) (count head len : ℕ) (f : Phase) �
 unfolding goodState
 state-collected p k count head len f t e = ap (λ (g : Phase). goodCollected g count head len) (sym e) ∙ and-left _ _ t
 
--- One byte more is heard at most.
-pub hear-long : (h : Header) (hs : List ℕ) (b : ℕ) → length (hear h hs b) ≤ length hs + 1
-unfolding hear if_then_else_
-hear-long h [] b = go (eqb b (headerByte h))
-  where
-    go : (t : Bool) → length (if t then b ∷ [] else []) ≤ 1
-    go true = omega arith
-    go false = omega arith
-hear-long h (x ∷ xs) b = rw length-append (omega arith)
-
-holding-len : (c : Collector) (hs : List ℕ) → holding c hs .len ≡ length hs
-unfolding holding
-holding-len c hs = refl
-
 pub next-within : (c d : Collector) (h : Header) (b : ℕ) → length (c .bytes) ≡ 260 → Begun c → d ≡ byteOf c h b → d .len ≤ 260
 next-within c d h b l g e =
-    let n : d .len ≡ length (hear h (heard c) b) = ap (λ (x : Collector). x .len) (byte-holds c d h b g e) ∙ holding-len c (hear h (heard c) b) in
+    let n : d .len ≡ length (hear h (heard c) b) = ap (λ (x : Collector). x .len) (byte-holds c d h b g e) ∙ holding-count c (hear h (heard c) b) in
     omega (arith, hear-long h (heard c) b, length-heard c (omega (arith, g .within)), g .within)
 
 heard-done : (hs f : List ℕ) (x : List ℕ → Effect) (k : Core) (m : Flash) → f ≡ hs → complete hs ≡ true → reaction [] (x f) ≡ heardByte hs (x hs) k m
@@ -317,8 +282,7 @@ next-in-array p c next k g b code flash room l a w nx = go (k .phase) refl w
 pub emptied : (p : Part) (c e : Collector) (k new : Core) (m : Flash) (room : List ℕ) → e ≡ dropped c → 32 ≤ length room
     → record { answer = Replied 0 0; chip = record { core = new; collector = e }; memory = m; room = room }
     ≡ settled Accepted p (reaction [] (silent new m)) (record { core = k; collector = c }) m room
-unfolding dropped
-emptied p c e k new m room f h = quiet-settles p c e k new [] m room f h
+emptied p c e k new m room f h = quiet-settles p c e k new [] m room (f ∙ dropped-is c) h
 
 -- A step is its verdict and, accepted, its event's reaction.
 pub step-accepted : (o : Outcome) (x : Reaction) (p : Part) (c : Chip) (v w : Event) (m : Flash) (room : List ℕ)

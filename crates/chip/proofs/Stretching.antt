@@ -1,14 +1,14 @@
 -- A stretch of bytes that are only added to what is collected: each is a step that answers nothing, and the verdict on the next call stays accepted.
 -- Assumes nothing.
 use mathlib.Core.Bool.{Bool, false, not, true}
-use mathlib.Core.List.{List, [], _++_, _∷_, append-nil}
+use mathlib.Core.List.{List, [], _∷_}
 use mathlib.Core.Path.{_∙_, _≡_, ap, refl, subst, sym}
 use Prim.Native.Nat.{_+_, _-_, _<_, _≤_, suc, zero, ℕ}
 use native.Mathlib.Numerals.{add-one}
 use native.Mathlib.Omega.{arith}
 use lib.Dec.{eqb, leb, ltb}
-use lib.ListN.{drop, getD, length, length-set, set, take, take-append-drop}
-use lib.Seq.{append-snoc, drop-cons, drop-set-lt, getD-set-other, take-suc-set}
+use lib.ListN.{drop, getD, length, take}
+use lib.Seq.{drop-cons}
 use borrow.Author.Tests.{eqb-true, le-leb, le-ltb, leb-true, lt-leb, lt-ltb, ltb-false, ltb-true}
 use Rattle.chip.proofs.Feeding.{FedFrom, fed-turn}
 use Rattle.chip_state.proofs.Laws.{accepts, one-more-accepted}
@@ -20,21 +20,17 @@ use Rattle.chip_state.specs.declared.Chip.{Chip}
 use Rattle.chip.specs.declared.Event.{Event}
 use Rattle.chip.specs.declared.Event.the-variants.{Byte}
 use Rattle.chip.specs.declared.events.Way.the-variants.{Hears}
-use Rattle.chip.specs.inner.Ways.{completesAt, lackingOf, plainOf, stretchOf, stretchedBy, wayOf, wayOn}
+use Rattle.chip.specs.inner.Ways.{completesAt, lackingOf, plainOf, stretchOf, wayOf, wayOn}
 use Rattle.chip_core.specs.Effect.{Flash}
 use Rattle.chip_core.specs.declared.Phase.{Phase}
 use Rattle.chip_core.specs.declared.Phase.the-variants.{Awaiting, ModeByte, Ready, Setup}
-use Rattle.frame.proofs.Laws.Collector.{byte-added, complete-within, lacking}
+use Rattle.frame.proofs.Laws.Collector.{added-before, added-byte, added-count, added-more, added-none, added-places, complete-within}
 use Rattle.frame.proofs.Laws.Frame.{full-not}
-use Rattle.frame.specs.Collector.{byteOf, heard}
+use Rattle.frame.specs.Collector.{added, byteOf, heard}
 use Rattle.frame.specs.Frame.{complete, counted}
 use Rattle.frame.specs.declared.Header.{Header}
 use Rattle.frame.specs.declared.Header.the-variants.{Command, Data}
 use Rattle.frame.specs.declared.collector.Collector.{Collector}
-use Rattle.frame.specs.inner.Collector.{stored}
-use Rattle.lent.proofs.Laws.{put-lands}
-use Rattle.lent.specs.Lent.{Left, left, putAt, putOf}
-use Rattle.lent.specs.declared.Room.{Room}
 use Rattle.part.specs.declared.Part.{Part}
 use Rattle.part.specs.declared.refusal.Verdict.{Verdict}
 use Rattle.part.specs.declared.refusal.Verdict.the-variants.{Accepted, Refused}
@@ -100,7 +96,7 @@ heard-as Ready n head len h s e = record { header = Command; way = simp (le-leb 
 heard-as (Awaiting w) n head len h s e = record { header = Data; way = simp (le-leb 2 n h, lt-leb (counted len + 3) n s) }
 
 abbrev after : Chip → ℕ → Chip
-after c b = record { core = c .core; collector = stored (c .collector) b }
+after c b = record { core = c .core; collector = added (c .collector) (b ∷ []) }
 
 module _ (p : Part) (c : Chip) (m : Flash) (room : List ℕ) (places : length (c .collector .bytes) ≡ 260) (small : counted (getD (c .collector .bytes) 1 0) ≤ 256)
     (accepted : verdictAt p c m room ≡ Accepted) (begun : 2 ≤ c .collector .len) (short : c .collector .len < counted (getD (c .collector .bytes) 1 0) + 3) where
@@ -112,26 +108,25 @@ module _ (p : Part) (c : Chip) (m : Flash) (room : List ℕ) (places : length (c
       let a = accepts accepted in
       let w = heard-as (c .core .phase) (c .collector .len) (getD (c .collector .bytes) 0 0) (getD (c .collector .bytes) 1 0) begun short (state-collected p (c .core) (c .collector .len) (getD (c .collector .bytes) 0 0) (getD (c .collector .bytes) 1 0) (c .core .phase) good refl) in
       let lacking : complete (heard (c .collector)) ≡ false = complete-within (c .collector) places (omega arith) ∙ full-not _ _ (omega arith) in
-      let added : stored (c .collector) b ≡ byteOf (c .collector) (w .header) b = byte-added (c .collector) (w .header) b (λ z. omega arith) places (omega arith) lacking in
+      let adds : added (c .collector) (b ∷ []) ≡ byteOf (c .collector) (w .header) b = added-byte (c .collector) (w .header) b (λ z. omega arith) places (omega arith) lacking in
       step-accepted (before (after c b) m room) (byteIn (c .core .phase) p (c .core) (heard (c .collector)) b m) p c (Byte b) (Byte b) m room accepted refl (at-byte p (c .core) (heard (c .collector)) b m)
-      (hears-settles p (c .collector) (stored (c .collector) b) (c .core) (w .header) b m room places a (w .way) added)
+      (hears-settles p (c .collector) (added (c .collector) (b ∷ [])) (c .core) (w .header) b m room places a (w .way) adds)
 
-  stored-at : (i b : ℕ) → i < 2 → getD (stored (c .collector) b .bytes) i 0 ≡ getD (c .collector .bytes) i 0
-  unfolding stored
-  stored-at i b h = getD-set-other (c .collector .bytes) (c .collector .len) i b 0 (λ e. omega arith)
+  added-at : (i b : ℕ) → i < 2 → getD (added (c .collector) (b ∷ []) .bytes) i 0 ≡ getD (c .collector .bytes) i 0
+  added-at i b h = added-before (c .collector) (b ∷ []) i places (omega arith) (omega arith)
 
   pub still-accepted : (b : ℕ) → verdictAt p (after c b) m room ≡ Accepted
-  unfolding stored
-  still-accepted b = rw (stored-at 0 b (omega arith), stored-at 1 b (omega arith)) (one-more-accepted _ _ _ accepted begun (omega arith) small)
+  still-accepted b =
+      rw (added-count (c .collector) (b ∷ []) places (omega arith), added-at 0 b (omega arith), added-at 1 b (omega arith)) (one-more-accepted _ _ _ accepted begun (omega arith) small)
 
 -- One such byte, as the step adds it.
-pub byte-adds : (p : Part) (c : Chip) (v : Event) (b n : ℕ) (m : Flash) (room : List ℕ) → length (c .collector .bytes) ≡ 260 → counted (getD (c .collector .bytes) 1 0) ≤ 256
-    → verdictAt p c m room ≡ Accepted → n ≡ lackingOf (c .collector .len) (getD (c .collector .bytes) 1 0) 1 → 0 < n → v ≡ Byte b
-    → before (record { core = c .core; collector = record { bytes = set (c .collector .bytes) (c .collector .len) b; len = c .collector .len + 1 } }) m room ≡ stepOf p c v m room
-unfolding stored
-byte-adds p c v b n m room l s a e h f =
+pub byte-adds : (p : Part) (c : Chip) (d : Collector) (v : Event) (b n : ℕ) (m : Flash) (room : List ℕ) → length (c .collector .bytes) ≡ 260 → counted (getD (c .collector .bytes) 1 0) ≤ 256
+    → verdictAt p c m room ≡ Accepted → n ≡ lackingOf (c .collector .len) (getD (c .collector .bytes) 1 0) 1 → 0 < n → v ≡ Byte b → d ≡ added (c .collector) (b ∷ [])
+    → before (record { core = c .core; collector = d }) m room ≡ stepOf p c v m room
+byte-adds p c d v b n m room l s a e h f g =
     let x = lacks (c .collector .len) (getD (c .collector .bytes) 1 0) 1 n e h in
-    same-event _ p c v (Byte b) m room (byte-heard p c m room l s a (x .begun) (omega (arith, x .short)) b) f
+    ap (λ (z : Collector). before (record { core = c .core; collector = z }) m room) g
+    ∙ same-event _ p c v (Byte b) m room (byte-heard p c m room l s a (x .begun) (omega (arith, x .short)) b) f
 
 -- The loop over a stretch: what the bytes still to come make of it stays the same.
 any-answer : {p : Part} {bs : List ℕ} {i : ℕ} {o : Outcome} {t : Feeding} → FedFrom p bs i o t → i < length bs → FedFrom p bs i (before (o .chip) (o .memory) (o .room)) t
@@ -140,89 +135,49 @@ any-answer {p} {bs} {i} {o} {t} f h =
     record { rest = ap (λ (x : List ℕ). feedFrom p i x (before (o .chip) (o .memory) (o .room))) (drop-cons bs i 0 h) ∙ (rw (drop-cons bs i 0 h) at (f .rest)) }
 
 abbrev stretched : Chip → List ℕ → Chip
-stretched c bs = record { core = c .core; collector = stretchedBy (c .collector) bs }
+stretched c bs = record { core = c .core; collector = added (c .collector) bs }
 
-stored-places : (c : Collector) (b : ℕ) → length (stored c b .bytes) ≡ length (c .bytes)
-unfolding stored
-stored-places c b = length-set (c .bytes) (c .len) b
-
-stored-count : (c : Collector) (b : ℕ) → stored c b .len ≡ c .len + 1
-unfolding stored
-stored-count c b = refl
+take-most : (m : ℕ) (l : List ℕ) → length (take m l) ≤ m
+take-most zero l = omega arith
+take-most (suc m) [] = omega arith
+take-most (suc m) (x ∷ xs) = omega (arith, take-most m xs)
 
 stretch-fed : (p : Part) (bs : List ℕ) (k i : ℕ) (c : Chip) (m : Flash) (room : List ℕ) (t : Feeding) → FedFrom p bs i (before c m room) t
     → length (c .collector .bytes) ≡ 260 → counted (getD (c .collector .bytes) 1 0) ≤ 256 → verdictAt p c m room ≡ Accepted → 2 ≤ c .collector .len
     → c .collector .len + k ≤ counted (getD (c .collector .bytes) 1 0) + 3 → i + k ≤ length bs
     → FedFrom p bs (i + k) (before (stretched c (take k (drop i bs))) m room) t
-unfolding stretchedBy
-stretch-fed p bs zero i c m room t f l s a h n r = subst (λ (j : ℕ). FedFrom p bs j (before c m room) t) (omega arith) f
+stretch-fed p bs zero i c m room t f l s a h n r =
+    subst (λ (z : Collector). FedFrom p bs (i + 0) (before (record { core = c .core; collector = z }) m room) t) (sym (added-none (c .collector) l (omega arith)))
+    (subst (λ (j : ℕ). FedFrom p bs j (before c m room) t) (omega arith) f)
 stretch-fed p bs (suc k) i c m room t f l s a h n r =
     let b = getD bs i 0 in
+    let z = take k (drop (i + 1) bs) in
     let e : before (after c b) m room ≡ stepOf p c (Byte b) m room = byte-heard p c m room l s a h (omega arith) b in
     let g : FedFrom p bs (i + 1) (before (after c b) m room) t = fed-turn f e (omega arith) refl (omega arith) in
     let v : verdictAt p (after c b) m room ≡ Accepted = still-accepted p c m room l s a h (omega arith) b in
-    let q : getD (stored (c .collector) b .bytes) 1 0 ≡ getD (c .collector .bytes) 1 0 = stored-at p c m room l s a h (omega arith) 1 b (omega arith) in
-    let w : counted (getD (stored (c .collector) b .bytes) 1 0) ≡ counted (getD (c .collector .bytes) 1 0) = ap counted q in
-    let x : FedFrom p bs (i + 1 + k) (before (stretched (after c b) (take k (drop (i + 1) bs))) m room) t =
-    stretch-fed p bs k (i + 1) (after c b) m room t g (stored-places (c .collector) b ∙ l) (omega arith) v (omega (arith, stored-count (c .collector) b)) (omega (arith, stored-count (c .collector) b, w)) (omega arith) in
-    let y : take (suc k) (drop i bs) ≡ b ∷ take k (drop (i + 1) bs) = rw (drop-cons bs i 0 (omega arith), add-one) in
+    let q : getD (added (c .collector) (b ∷ []) .bytes) 1 0 ≡ getD (c .collector .bytes) 1 0 = added-at p c m room l s a h (omega arith) 1 b (omega arith) in
+    let w : counted (getD (added (c .collector) (b ∷ []) .bytes) 1 0) ≡ counted (getD (c .collector .bytes) 1 0) = ap counted q in
+    let o : added (c .collector) (b ∷ []) .len ≡ c .collector .len + 1 = added-count (c .collector) (b ∷ []) l (omega arith) in
+    let x : FedFrom p bs (i + 1 + k) (before (stretched (after c b) z) m room) t =
+    stretch-fed p bs k (i + 1) (after c b) m room t g (added-places (c .collector) (b ∷ []) l (omega arith)) (omega arith) v (omega (arith, o)) (omega (arith, o, w)) (omega arith) in
+    let y : take (suc k) (drop i bs) ≡ b ∷ z = rw (drop-cons bs i 0 (omega arith), add-one) in
+    let u : added (added (c .collector) (b ∷ [])) z ≡ added (c .collector) (take (suc k) (drop i bs)) =
+    added-more (c .collector) (b ∷ []) z l (omega (arith, take-most k (drop (i + 1) bs))) ∙ ap (added (c .collector)) (sym y) in
     subst (λ (j : ℕ). FedFrom p bs j (before (stretched c (take (suc k) (drop i bs))) m room) t) (omega arith)
-    (subst (λ (z : List ℕ). FedFrom p bs (i + 1 + k) (before (stretched c z) m room) t) (sym y) x)
-
--- The bytes of a stretch, put at the count, are the bytes stored one by one.
-put-stored : (l s : List ℕ) (at b : ℕ) → at + 1 + length s ≤ length l → putAt (set l at b) (at + 1) s ≡ putAt l at (b ∷ s)
-unfolding putAt
-put-stored l s at b h =
-    let x : take (at + 1) (set l at b) ≡ take at l ++ b ∷ [] = rw add-one (take-suc-set l at b (omega arith)) in
-    let y : drop (at + 1 + length s) (set l at b) ≡ drop (at + 1 + length s) l = drop-set-lt (at + 1 + length s) l at b (omega arith) in
-    let z : at + 1 + length s ≡ at + suc (length s) = omega arith in
-    rw (x, y, z, append-snoc (take at l) b s)
-
-put-none : (l : List ℕ) (at : ℕ) → putAt l at [] ≡ l
-unfolding putAt
-put-none l at =
-    let z : at + 0 ≡ at = omega arith in
-    rw (append-nil, z, take-append-drop)
-
-holds-same : {l k : List ℕ} {n j : ℕ} → l ≡ k → n ≡ j → _≡_ {A = Collector} (record { bytes = l; len = n }) (record { bytes = k; len = j })
-holds-same {l} {k} {n} {j} e f = ap {B = Collector} (λ (x : List ℕ). record { bytes = x; len = n }) e ∙ ap {B = Collector} (λ (x : ℕ). record { bytes = k; len = x }) f
-
-stretch-is : (bytes s : List ℕ) (len : ℕ) → len + length s ≤ length bytes
-    → stretchedBy (record { bytes = bytes; len = len }) s ≡ record { bytes = putAt bytes len s; len = len + length s }
-unfolding stretchedBy stored
-stretch-is bytes [] len h = holds-same (sym (put-none bytes len)) (omega arith)
-stretch-is bytes (b ∷ s) len h =
-    let n : len + 1 + length s ≤ length bytes = omega arith in
-    let m : len + 1 + length s ≤ length (set bytes len b) = rw length-set n in
-    stretch-is (set bytes len b) s (len + 1) m ∙ holds-same (put-stored bytes s len b n) (omega arith)
-
--- As the code does it.
-pub stretch-put : (c : Collector) (s l : List ℕ) (a : Room) (n : ℕ) → left a l ≡ putOf (c .bytes) (c .len) s → c .len + length s ≤ length (c .bytes) → n ≡ c .len + length s
-    → record { bytes = l; len = n } ≡ stretchedBy c s
-stretch-put c s l a n e h f =
-    let g : l ≡ putAt (c .bytes) (c .len) s = ap (λ (x : Left). x .bytes) (e ∙ put-lands (c .bytes) (c .len) s h) in
-    holds-same g f ∙ sym (stretch-is (c .bytes) s (c .len) h)
+    (subst (λ (d : Collector). FedFrom p bs (i + 1 + k) (before (record { core = c .core; collector = d }) m room) t) u x)
 
 the-part : (i k : ℕ) → i + k - i ≡ k
 the-part i k = omega arith
 
-pub part-short : (i k n : ℕ) (bs : List ℕ) → n + k ≤ 259 → n + length (take (i + k - i) (drop i bs)) ≤ 260
-part-short i k n bs h = omega (arith, take-most (i + k - i) (drop i bs), the-part i k)
-  where
-    take-most : (m : ℕ) (l : List ℕ) → length (take m l) ≤ m
-    take-most zero l = omega arith
-    take-most (suc m) [] = omega arith
-    take-most (suc m) (x ∷ xs) = omega (arith, take-most m xs)
-
 -- A turn of the loop that takes a stretch.
 pub fed-stretch : {p : Part} {bs : List ℕ} {i : ℕ} {o : Outcome} {t : Feeding} (k : ℕ) (d : Collector) → FedFrom p bs i o t → length (o .chip .collector .bytes) ≡ 260
     → counted (getD (o .chip .collector .bytes) 1 0) ≤ 256 → k ≡ plainOf p (o .chip) (length (o .memory .codeFlash)) (length (o .memory .dataFlash)) (length (o .room)) (length bs - i)
-    → 0 < k → i < length bs → d ≡ stretchedBy (o .chip .collector) (take (i + k - i) (drop i bs))
+    → 0 < k → i < length bs → d ≡ added (o .chip .collector) (take (i + k - i) (drop i bs))
     → FedFrom p bs (i + k) (before (record { core = o .chip .core; collector = d }) (o .memory) (o .room)) t
 fed-stretch {p} {bs} {i} {o} {t} k d f l s e h q g =
     let x = plain-is p (o .chip) (length (o .memory .codeFlash)) (length (o .memory .dataFlash)) (length (o .room)) (length bs - i) k e h in
     subst (λ (z : Collector). FedFrom p bs (i + k) (before (record { core = o .chip .core; collector = z }) (o .memory) (o .room)) t)
-    (sym (g ∙ ap (λ (j : ℕ). stretchedBy (o .chip .collector) (take j (drop i bs))) (the-part i k)))
+    (sym (g ∙ ap (λ (j : ℕ). added (o .chip .collector) (take j (drop i bs))) (the-part i k)))
     (stretch-fed p bs k i (o .chip) (o .memory) (o .room) t (any-answer f q) l s (x .accepted) (x .lacks .begun) (x .lacks .short) (omega (arith, x .lacks .there)))
 
 -- How many bytes are lacking, by the code's tests; x is what LEN counts.

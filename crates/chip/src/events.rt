@@ -6,7 +6,7 @@ ghost use lib.ListN.{getD, length};
 ghost use Rattle.chip_core.specs.Effect.{flash, effect};
 ghost use Rattle.frame.specs.Frame.{counted};
 ghost use Rattle.chip.specs.Run.{before, fed, feedOf};
-ghost use Rattle.chip.specs.inner.Ways.{completesAt, lackingOf, plainOf, stretchedBy, wayOn, wayOf};
+ghost use Rattle.chip.specs.inner.Ways.{completesAt, lackingOf, plainOf, wayOn, wayOf};
 ghost use Rattle.chip.specs.Step.{modeByte, poweredOn, frameDoes, outcome, stepOf, freshOf};
 use super::Answer;
 use super::Event;
@@ -295,9 +295,8 @@ pub fn step(
             }
             Event::Byte(b) => {
                 if 0 < lacking(at, len, 1) {
-                    let mut next = collector;
-                    next.bytes[at] = b;
-                    next.len = at + 1;
+                    let mut work = [0u8; 260];
+                    let next = collector.add(b, &mut work);
                     return Step {
                         answer: Answer::Replied {
                             bytes: 0,
@@ -344,18 +343,6 @@ fn plain(part: Part, chip: Chip, code: usize, data: usize, room: usize, rest: us
     }
 }
 
-// A stretch of bytes added at once.
-fn stretched(collector: Collector, s: &[u8]) -> Collector
-    requires { ⌜ collector .len + length (now s) ≤ 260 ⌝ }
-    ensures { λ r. ⌜ r ≡ stretchedBy collector (now (s .entry)) ⌝ }
-{
-    let at = collector.len;
-    let mut bytes = collector.bytes;
-    lent::put(&mut bytes, at, s);
-    let len = at + s.len();
-    Collector { bytes, len }
-}
-
 // Bytes one after the other, each a step, up to the first that is answered: its reply is in the room, and the rest of the bytes is the caller's to hand in
 // again. A byte that is refused is not taken.
 pub fn feed(
@@ -390,7 +377,7 @@ pub fn feed(
             let end = i + k;
             let core = next.core;
             let old = next.collector;
-            let collector = stretched(old, &bytes[i..end]);
+            let collector = old.add_all(&bytes[i..end]);
             i = end;
             last = Step {
                 answer: Answer::Replied {

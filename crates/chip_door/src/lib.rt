@@ -114,7 +114,7 @@ fn collector_in(state: &[u8]) -> Collector
     let len = number8(state, 25);
     let mut bytes = [0u8; 260];
     lent::put(&mut bytes, 0, &state[33..293]);
-    Collector { bytes, len }
+    Collector::restored(bytes, len)
 }
 
 fn core_in(state: &[u8]) -> Core

@@ -7,7 +7,7 @@ use Prim.Native.Nat.{_<_, _≤_, ℕ}
 use native.Mathlib.Omega.{arith}
 use lib.ListN.{getD, length}
 use borrow.Author.Tests.{eqb-true}
-use Rattle.chip.proofs.Settling.{begun, hear-long}
+use Rattle.chip.proofs.Settling.{begun}
 use Rattle.chip.specs.Run.{onward, run}
 use Rattle.chip.specs.Step.{Outcome, Reaction, byteIn, frameDoes, heardByte, modeByte, reactTo, reaction, settled, silent, stepOf}
 use Rattle.chip_state.specs.Refusals.{goodBegun, goodCollected, goodCore, goodPhase, goodState}
@@ -22,7 +22,7 @@ use Rattle.chip_core.specs.Effect.{Effect, Flash}
 use Rattle.chip_core.specs.declared.Core.{Core}
 use Rattle.chip_core.specs.declared.Phase.{Phase}
 use Rattle.chip_core.specs.declared.Phase.the-variants.{Awaiting, ModeByte, Ready, Setup}
-use Rattle.frame.proofs.Laws.Collector.{heard-holding, heard-none, length-heard}
+use Rattle.frame.proofs.Laws.Collector.{hear-long, heard-holding, heard-none, length-heard}
 use Rattle.frame.proofs.Laws.Sum.{Below, none}
 use Rattle.frame.specs.Collector.{hear, heard, holding}
 use Rattle.frame.specs.Frame.{complete}

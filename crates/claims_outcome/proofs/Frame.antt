@@ -2,12 +2,19 @@
 -- Assumes nothing.
 use mathlib.Core.Path.{_∙_, sym}
 use denote.Ref.{now}
+use Rattle.frame.specs.Collector.{adding}
 use Rattle.frame.specs.Wire.{wrote}
 use Rattle.claims_outcome.proofs.Outcome.{Once}
 use Rattle.frame.proofs.collector.Collector.new.Reads as collector-Collector-new
 use Rattle.frame.proofs.collector.Collector.new.Kinds as collector-Collector-new-kinds
 use Rattle.frame.proofs.collector.Collector.byte.Reads as collector-Collector-byte
 use Rattle.frame.proofs.collector.Collector.byte.Kinds as collector-Collector-byte-kinds
+use Rattle.frame.proofs.collector.Collector.restored.Reads as collector-Collector-restored
+use Rattle.frame.proofs.collector.Collector.restored.Kinds as collector-Collector-restored-kinds
+use Rattle.frame.proofs.collector.Collector.add.Reads as collector-Collector-add
+use Rattle.frame.proofs.collector.Collector.add.Kinds as collector-Collector-add-kinds
+use Rattle.frame.proofs.collector.Collector.add_all.Reads as collector-Collector-add-all
+use Rattle.frame.proofs.collector.Collector.add_all.Kinds as collector-Collector-add-all-kinds
 use Rattle.frame.proofs.collector.Collector.gap.Reads as collector-Collector-gap
 use Rattle.frame.proofs.collector.Collector.gap.Kinds as collector-Collector-gap-kinds
 use Rattle.frame.proofs.collector.Collector.power_on.Reads as collector-Collector-power-on
@@ -44,16 +51,25 @@ use Rattle.frame.proofs.counted.Reads as counted
 use Rattle.frame.proofs.counted.Kinds as counted-kinds
 use Rattle.frame.proofs.is_full.Reads as is-full
 use Rattle.frame.proofs.is_full.Kinds as is-full-kinds
-use Rattle.frame.proofs.is_complete.Reads as is-complete
-use Rattle.frame.proofs.is_complete.Kinds as is-complete-kinds
 use Rattle.frame.proofs.is_frame.Reads as is-frame
 use Rattle.frame.proofs.is_frame.Kinds as is-frame-kinds
+use Rattle.frame.proofs.payload.Reads as payload
+use Rattle.frame.proofs.payload.Kinds as payload-kinds
 
 pub collector-Collector-new-once : Once collector-Collector-new-kinds.ps collector-Collector-new-kinds.r collector-Collector-new.Post (λ κs r x. r)
 collector-Collector-new-once κs a r s x y p q = p ∙ sym q
 
 pub collector-Collector-byte-once : Once collector-Collector-byte-kinds.ps collector-Collector-byte-kinds.r collector-Collector-byte.Post (λ κs r x. r)
 collector-Collector-byte-once κs a r s x y p q = p ∙ sym q
+
+pub collector-Collector-restored-once : Once collector-Collector-restored-kinds.ps collector-Collector-restored-kinds.r collector-Collector-restored.Post (λ κs r x. r)
+collector-Collector-restored-once κs a r s x y p q = p ∙ sym q
+
+pub collector-Collector-add-once : Once collector-Collector-add-kinds.ps collector-Collector-add-kinds.r collector-Collector-add.Post (λ κs r x. adding r (now (x .1 .1 .0)))
+collector-Collector-add-once κs a r s x y p q = p ∙ sym q
+
+pub collector-Collector-add-all-once : Once collector-Collector-add-all-kinds.ps collector-Collector-add-all-kinds.r collector-Collector-add-all.Post (λ κs r x. r)
+collector-Collector-add-all-once κs a r s x y p q = p ∙ sym q
 
 pub collector-Collector-gap-once : Once collector-Collector-gap-kinds.ps collector-Collector-gap-kinds.r collector-Collector-gap.Post (λ κs r x. r)
 collector-Collector-gap-once κs a r s x y p q = p ∙ sym q
@@ -109,8 +125,8 @@ counted-once κs a r s x y p q = p ∙ sym q
 pub is-full-once : Once is-full-kinds.ps is-full-kinds.r is-full.Post (λ κs r x. r)
 is-full-once κs a r s x y p q = p ∙ sym q
 
-pub is-complete-once : Once is-complete-kinds.ps is-complete-kinds.r is-complete.Post (λ κs r x. r)
-is-complete-once κs a r s x y p q = p ∙ sym q
-
 pub is-frame-once : Once is-frame-kinds.ps is-frame-kinds.r is-frame.Post (λ κs r x. r)
 is-frame-once κs a r s x y p q = p ∙ sym q
+
+pub payload-once : Once payload-kinds.ps payload-kinds.r payload.Post (λ κs r x. now r)
+payload-once κs a r s x y p q = p ∙ sym q

@@ -1,9 +1,9 @@
 -- What a frame is: document 01, "Frames", first paragraph, and 000, chapter 2, table 2-1.
 use mathlib.Core.Bool.{Bool}
 use mathlib.Core.List.{List, [], _++_, _∷_}
-use Prim.Native.Nat.{_%_, _+_, ℕ}
+use Prim.Native.Nat.{_%_, _+_, _-_, ℕ}
 use lib.Dec.{eqb, leb}
-use lib.ListN.{getD, length}
+use lib.ListN.{drop, getD, length, take}
 use Rattle.frame.specs.Sum.{sumOf}
 use Rattle.frame.specs.declared.Footer.{Footer}
 use Rattle.frame.specs.declared.Footer.the-variants.{Last, More}
@@ -28,6 +28,13 @@ lenByte n = n % 256
 unfoldable pub counted : ℕ → ℕ
 counted len = if eqb len 0x00 then 256 else len
 
+-- What surrounds a payload: header, LEN, SUM and footer. The longest frame carries 256 bytes.
+abbrev pub overhead : ℕ
+overhead = 4
+
+abbrev pub longest : ℕ
+longest = 260
+
 -- "Command: 01h, LEN, COM, information, SUM, 03h. Data: 02h, LEN, data, SUM, then 03h .. else 17h."
 unfoldable pub framed : Header → List ℕ → Footer → List ℕ
 framed h ds f = headerByte h ∷ lenByte (length ds) ∷ ds ++ sumOf (lenByte (length ds) ∷ ds) ∷ footerByte f ∷ []
@@ -38,13 +45,17 @@ commandFrame cmd info = framed Command (cmd ∷ info) Last
 abbrev pub dataFrame : List ℕ → Footer → List ℕ
 dataFrame ds f = framed Data ds f
 
+-- The payload of a complete frame, COM and information or the data: what lies between LEN and SUM.
+unfoldable pub payload : List ℕ → List ℕ
+payload bs = take (length bs - overhead) (drop 2 bs)
+
 -- "A frame is complete at LEN + 4 bytes.": so many bytes, LEN among them, are as many as the frame begun needs, or more.
 unfoldable pub full : ℕ → ℕ → Bool
-full count len = leb 2 count and leb (counted len + 4) count
+full count len = leb 2 count and leb (counted len + overhead) count
 
 unfoldable pub complete : List ℕ → Bool
 complete bs = full (length bs) (getD bs 1 0)
 
 -- These bytes are one complete frame and nothing after it.
 unfoldable pub isFrame : List ℕ → Bool
-isFrame bs = leb 2 (length bs) and eqb (length bs) (counted (getD bs 1 0) + 4)
+isFrame bs = leb 2 (length bs) and eqb (length bs) (counted (getD bs 1 0) + overhead)

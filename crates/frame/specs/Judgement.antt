@@ -4,7 +4,7 @@ use mathlib.Core.List.{List}
 use Prim.Native.Nat.{_+_, _-_, ℕ}
 use lib.Dec.{eqb}
 use lib.ListN.{drop, getD, length, take}
-use Rattle.frame.specs.Frame.{footerByte, isFrame}
+use Rattle.frame.specs.Frame.{footerByte, isFrame, overhead}
 use Rattle.frame.specs.Sum.{sumOf}
 use Rattle.frame.specs.declared.Footer.{Footer}
 use Rattle.frame.specs.declared.judgement.Judgement.{Judgement}
@@ -26,7 +26,7 @@ judgeOf f bs =
 
 -- "a data frame also needs the right LEN": where a length is expected, it is judged last.
 unfoldable pub fitting : ℕ → List ℕ → Judgement → Judgement
-fitting n bs Good = if eqb (length bs) (n + 4) then Good else UnfitLength
+fitting n bs Good = if eqb (length bs) (n + overhead) then Good else UnfitLength
 fitting n bs WrongFooter = WrongFooter
 fitting n bs WrongSum = WrongSum
 fitting n bs UnfitLength = UnfitLength

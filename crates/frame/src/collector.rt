@@ -1,8 +1,9 @@
 // The collector, by value: what has come of the frame that is awaited. Document 01, "Frames", "Collecting".
 ghost use mathlib.Core.Path.{_≡_};
 ghost use Prim.Native.Nat.{_<_};
-ghost use Rattle.frame.specs.Collector.{fresh, byteOf, dropped};
+ghost use Rattle.frame.specs.Collector.{added, addOf, adding, collecting, fresh, byteOf, dropped};
 ghost use Rattle.frame.specs.inner.Collector.{stored};
+use lent::Room;
 
 // The bytes past `len` are spare: no method touches them.
 pub struct Collector {
@@ -18,6 +19,13 @@ impl Collector {
             bytes: [0u8; 260],
             len: 0,
         }
+    }
+
+    // As it was handed in.
+    pub fn restored(bytes: [u8; 260], len: usize) -> Collector
+        ensures { λ r. ⌜ r ≡ collecting bytes len ⌝ }
+    {
+        Collector { bytes, len }
     }
 
     fn put(self, b: u8) -> Collector
@@ -48,6 +56,37 @@ impl Collector {
             return self;
         }
         self.put(b)
+    }
+
+    // A byte that is only added. The caller lends an array for the work: one of this function's own would be copied once more (docs/BENCH.md).
+    pub fn add(self, b: u8, work: &mut [u8; 260]) -> Collector
+        ensures { λ r. ⌜ adding r (now (work .exit)) ≡ addOf self b ⌝ }
+    {
+        let at = self.len;
+        let old = self.bytes;
+        *work = old;
+        if at < 260 {
+            work[at] = b;
+            let bytes = *work;
+            return Collector { bytes, len: at + 1 };
+        }
+        self
+    }
+
+    // Bytes that are only added, at once.
+    pub fn add_all(self, s: &[u8]) -> Collector
+        ensures { λ r. ⌜ r ≡ added self (now (s .entry)) ⌝ }
+    {
+        let mut len = self.len;
+        let mut bytes = self.bytes;
+        let done = lent::put(&mut bytes, len, s);
+        match done {
+            Room::Enough => {
+                len = len + s.len();
+            }
+            Room::Short => {}
+        }
+        Collector { bytes, len }
     }
 
     pub fn gap(self) -> Collector

@@ -2,7 +2,7 @@
 // judgement of a complete frame, and the writing and reading of frames. Chip and dock rest on it and see only what it promises.
 ghost use mathlib.Core.Path.{_≡_};
 ghost use Prim.Native.Nat.{_+_, _≤_};
-ghost use Rattle.frame.specs.Frame.{headerByte, footerByte, lenByte, counted, full, complete, isFrame};
+ghost use Rattle.frame.specs.Frame.{headerByte, footerByte, lenByte, counted, full, isFrame, payload};
 
 pub mod collector;
 pub mod judgement;
@@ -75,16 +75,6 @@ pub fn is_full(count: usize, len: u8) -> bool
     needed(len) <= count
 }
 
-pub fn is_complete(bytes: &[u8]) -> bool
-    ensures { λ r. ⌜ r ≡ complete (now (bytes .entry)) ⌝ }
-{
-    let n = bytes.len();
-    if n < 2 {
-        return false;
-    }
-    is_full(n, bytes[1])
-}
-
 pub fn is_frame(bytes: &[u8]) -> bool
     ensures { λ r. ⌜ r ≡ isFrame (now (bytes .entry)) ⌝ }
 {
@@ -93,4 +83,15 @@ pub fn is_frame(bytes: &[u8]) -> bool
         return false;
     }
     n == needed(bytes[1])
+}
+
+// The payload of a complete frame; what is too short to be one has none.
+pub fn payload(bytes: &[u8]) -> &[u8]
+    ensures { λ r. ⌜ now r ≡ payload (now (bytes .entry)) ⌝ }
+{
+    let n = bytes.len();
+    if n < 4 {
+        return &bytes[n..n];
+    }
+    &bytes[2..n - 2]
 }

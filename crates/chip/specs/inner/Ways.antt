@@ -1,6 +1,5 @@
 -- The ways of a byte, by the count and the LEN byte of what is collected, as the code decides them; and how many bytes to come are only added.
 use mathlib.Core.Bool.{Bool}
-use mathlib.Core.List.{List, [], _∷_}
 use Prim.Native.Nat.{_+_, _-_, ℕ}
 use lib.Dec.{eqb, leb, ltb}
 use lib.ListN.{getD}
@@ -13,8 +12,6 @@ use Rattle.chip_core.specs.declared.Phase.the-variants.{Awaiting, ModeByte, Rea
 use Rattle.frame.specs.Frame.{counted}
 use Rattle.frame.specs.declared.Header.{Header}
 use Rattle.frame.specs.declared.Header.the-variants.{Command, Data}
-use Rattle.frame.specs.declared.collector.Collector.{Collector}
-use Rattle.frame.specs.inner.Collector.{stored}
 use Rattle.part.specs.declared.Part.{Part}
 use Rattle.part.specs.declared.refusal.Verdict.{Verdict}
 use Rattle.part.specs.declared.refusal.Verdict.the-variants.{Accepted, Refused}
@@ -48,8 +45,3 @@ unfoldable pub plainOf : Part → Chip → ℕ → ℕ → ℕ → ℕ → ℕ
 plainOf p c code «data» room rest =
     let n = lackingOf (c .collector .len) (getD (c .collector .bytes) 1 0) rest in
     if eqb n 0 then 0 else stretchOf (verdictOn p c code «data» room) n
-
--- The collector after a stretch, byte by byte.
-unfoldable pub stretchedBy : Collector → List ℕ → Collector
-stretchedBy c [] = c
-stretchedBy c (b ∷ bs) = stretchedBy (stored c b) bs

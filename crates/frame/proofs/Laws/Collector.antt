@@ -1,21 +1,26 @@
 -- Laws about the collector: what it has heard, as a list, after each of its methods.
 -- Assumes nothing.
-use mathlib.Core.Bool.{false}
-use mathlib.Core.List.{List, [], _++_, _∷_}
+use mathlib.Core.Bool.{Bool, false, true}
+use mathlib.Core.List.{List, [], _++_, _∷_, append-assoc, append-nil}
 use mathlib.Core.Path.{_∙_, _≡_, ap, refl, sym}
 use Prim.Native.Nat.{_+_, _<_, _≤_, ℕ}
 use native.Mathlib.Decide.{decLe, decLt}
 use native.Mathlib.Numerals.{add-one}
 use native.Mathlib.Omega.{arith}
-use lib.ListN.{drop, getD, length, length-append, take, take-append-drop}
-use lib.Seq.{append-snoc, getD-take, length-take-le, set-split, take-all, take-append-seam}
-use borrow.Author.Tests.{eq-eqb, ne-eqb}
+use lib.Dec.{eqb}
+use lib.ListN.{List·getD-append, drop, getD, length, length-append, length-drop, take, take-append-drop}
+use lib.Seq.{append-snoc, drop-append-add, drop-drop, getD-take, length-take-le, set-split, take-all, take-append-seam}
+use borrow.Author.Tests.{eq-eqb, le-leb, lt-leb, ne-eqb}
 use Rattle.frame.proofs.Laws.Frame.{full-not, full-short, full-yes}
-use Rattle.frame.specs.Collector.{byteOf, dropped, hear, heard, holding}
+use Rattle.frame.specs.Collector.{Adding, addOf, added, adding, byteOf, dropped, hear, heard, holding}
 use Rattle.frame.specs.Frame.{complete, counted, full, headerByte}
 use Rattle.frame.specs.declared.Header.{Header}
 use Rattle.frame.specs.declared.collector.Collector.{Collector}
 use Rattle.frame.specs.inner.Collector.{stored}
+use Rattle.lent.proofs.Laws.{Written, put-lands, put-short, written-put}
+use Rattle.lent.specs.Lent.{Left, left, putOf}
+use Rattle.lent.specs.declared.Room.{Room}
+use Rattle.lent.specs.declared.Room.the-variants.{Enough, Short}
 use Rattle.words.specs.Words.{_and_, if_then_else_}
 
 pub heard-none : (c : Collector) → c .len ≡ 0 → heard c ≡ []
@@ -113,3 +118,163 @@ heard-byte c h b n = simp (n, heard-holding)
 pub heard-dropped : (c : Collector) → heard (dropped c) ≡ []
 unfolding dropped
 heard-dropped c = heard-holding c []
+
+-- What the crates above use instead of the definitions' text.
+pub heard-is : (c : Collector) → heard c ≡ take (c .len) (c .bytes)
+unfolding heard
+heard-is c = refl
+
+pub heard-at : (c : Collector) (i : ℕ) → i < c .len → getD (heard c) i 0 ≡ getD (c .bytes) i 0
+unfolding heard
+heard-at c i h = getD-take (c .len) (c .bytes) i 0 h
+
+pub holding-count : (c : Collector) (hs : List ℕ) → holding c hs .len ≡ length hs
+unfolding holding
+holding-count c hs = refl
+
+pub dropped-is : (c : Collector) → dropped c ≡ holding c []
+unfolding dropped
+dropped-is c = refl
+
+pub complete-is : (hs : List ℕ) → complete hs ≡ full (length hs) (getD hs 1 0)
+unfolding complete
+complete-is hs = refl
+
+-- A byte where nothing is complete: it is heard as the list's rule says, and one byte more is heard at most.
+pub byte-hears : (c : Collector) (h : Header) (b : ℕ) → complete (heard c) ≡ false → byteOf c h b ≡ holding c (hear h (heard c) b)
+unfolding byteOf if_then_else_
+byte-hears c h b n = simp n
+
+pub hear-long : (h : Header) (hs : List ℕ) (b : ℕ) → length (hear h hs b) ≤ length hs + 1
+unfolding hear if_then_else_
+hear-long h [] b = go (eqb b (headerByte h))
+  where
+    go : (t : Bool) → length (if t then b ∷ [] else []) ≤ 1
+    go true = omega arith
+    go false = omega arith
+hear-long h (x ∷ xs) b = rw length-append (omega arith)
+
+-- Bytes that are only added: where they fit, and where they do not.
+pub added-holds : (c : Collector) (bs : List ℕ) → c .len + length bs ≤ 260 → added c bs ≡ holding c (heard c ++ bs)
+unfolding added if_then_else_
+added-holds c bs h = simp (le-leb (c .len + length bs) 260 h)
+
+pub added-long : (c : Collector) (bs : List ℕ) → 260 < c .len + length bs → c ≡ added c bs
+unfolding added if_then_else_
+added-long c bs h = simp (lt-leb (c .len + length bs) 260 h)
+
+heard-written : (c : Collector) → c .len ≤ length (c .bytes) → Written (heard c) (c .bytes) (c .bytes)
+unfolding heard
+heard-written c h =
+    let n : length (take (c .len) (c .bytes)) ≡ c .len = length-take-le (c .len) (c .bytes) h in
+    record { is = rw (n, take-append-drop); room = omega (arith, n); long = refl }
+
+written-holds : (c : Collector) (hs l : List ℕ) (n : ℕ) → Written hs (c .bytes) l → n ≡ length hs → _≡_ {A = Collector} (record { bytes = l; len = n }) (holding c hs)
+unfolding holding
+written-holds c hs l n w e =
+    ap {B = Collector} (λ (x : List ℕ). record { bytes = x; len = n }) (w .is)
+    ∙ ap {B = Collector} (λ (x : ℕ). record { bytes = hs ++ drop (length hs) (c .bytes); len = x }) e
+
+put-enough : (l : List ℕ) (at : ℕ) (s l′ : List ℕ) → left Enough l′ ≡ putOf l at s → at + length s ≤ length l
+put-enough l at s l′ e = go (decLe (at + length s) (length l))
+  where
+    go : Dec (at + length s ≤ length l) → at + length s ≤ length l
+    go (yes h) = h
+    go (no h) =
+        let x : Enough ≡ Short = ap (λ (y : Left). y .answer) (e ∙ sym (put-short l at s (omega arith))) in
+        absurd (let z : _≡_ {A = ℕ} 0 1 = cc in omega arith)
+
+put-refused : (l : List ℕ) (at : ℕ) (s l′ : List ℕ) → left Short l′ ≡ putOf l at s → length l < at + length s
+put-refused l at s l′ e = go (decLe (at + length s) (length l))
+  where
+    go : Dec (at + length s ≤ length l) → length l < at + length s
+    go (yes h) =
+        let x : Short ≡ Enough = ap (λ (y : Left). y .answer) (e ∙ put-lands l at s h) in
+        absurd (let z : _≡_ {A = ℕ} 0 1 = cc in omega arith)
+    go (no h) = omega arith
+
+-- As the code adds: one byte laid at the count, or a stretch put there.
+pub add-laid : (c : Collector) (b : ℕ) → length (c .bytes) ≡ 260 → c .len < 260 → stored c b ≡ added c (b ∷ [])
+add-laid c b l h = stored-holds c b (omega arith) ∙ sym (added-holds c (b ∷ []) (omega arith))
+
+pub add-fits : (c : Collector) (s l : List ℕ) (a : Room) → left a l ≡ putOf (c .bytes) (c .len) s → a ≡ Enough → length (c .bytes) ≡ 260 → c .len + length s ≤ 260
+add-fits c s l a e f g =
+    let h : c .len + length s ≤ length (c .bytes) = put-enough (c .bytes) (c .len) s l (ap (λ (x : Room). left x l) (sym f) ∙ e) in
+    omega arith
+
+pub add-put : (c : Collector) (s l : List ℕ) (a : Room) → left a l ≡ putOf (c .bytes) (c .len) s → a ≡ Enough → length (c .bytes) ≡ 260
+    → _≡_ {A = Collector} (record { bytes = l; len = c .len + length s }) (added c s)
+add-put c s l a e f g =
+    let h : c .len + length s ≤ 260 = add-fits c s l a e f g in
+    let m : length (heard c) ≡ c .len = length-heard c (omega arith) in
+    let w : Written (heard c ++ s) (c .bytes) l = written-put (c .len) s (heard-written c (omega arith)) e (sym m) (omega arith) in
+    written-holds c (heard c ++ s) l (c .len + length s) w (sym (rw (length-append, m))) ∙ sym (added-holds c s h)
+
+pub add-short : (c : Collector) (s l : List ℕ) (a : Room) → left a l ≡ putOf (c .bytes) (c .len) s → a ≡ Short → length (c .bytes) ≡ 260
+    → _≡_ {A = Collector} (record { bytes = l; len = c .len }) (added c s)
+add-short c s l a e f g =
+    let h : length (c .bytes) < c .len + length s = put-refused (c .bytes) (c .len) s l (ap (λ (x : Room). left x l) (sym f) ∙ e) in
+    let x : l ≡ c .bytes = ap (λ (y : Left). y .bytes) (e ∙ sym (put-short (c .bytes) (c .len) s h)) in
+    ap {B = Collector} (λ (y : List ℕ). record { bytes = y; len = c .len }) x ∙ added-long c s (omega arith)
+
+-- The lent array holds the new collector's bytes.
+pub adds : (c d : Collector) (b : ℕ) → d ≡ added c (b ∷ []) → adding d (d .bytes) ≡ addOf c b
+unfolding addOf
+adds c d b e = rw e
+
+pub adds-collector : (c d : Collector) (b : ℕ) (work : List ℕ) → adding d work ≡ addOf c b → d ≡ added c (b ∷ [])
+unfolding addOf
+adds-collector c d b work e = ap (λ (x : Adding). x .collector) e
+
+-- What added bytes leave: one after the other or at once, the count, the places, and what stood before them.
+pub added-byte : (c : Collector) (h : Header) (b : ℕ) → (c .len ≡ 0 → ⊥) → length (c .bytes) ≡ 260 → c .len < 260
+    → complete (heard c) ≡ false → added c (b ∷ []) ≡ byteOf c h b
+added-byte c h b z l r t = sym (add-laid c b l r) ∙ byte-added c h b z l r t
+
+pub added-none : (c : Collector) → length (c .bytes) ≡ 260 → c .len ≤ 260 → added c [] ≡ c
+added-none c l h = added-holds c [] (omega arith) ∙ ap (holding c) (append-nil (heard c)) ∙ holding-heard c (omega arith)
+
+pub added-count : (c : Collector) (bs : List ℕ) → length (c .bytes) ≡ 260 → c .len + length bs ≤ 260 → added c bs .len ≡ c .len + length bs
+added-count c bs l h =
+    let m : length (heard c) ≡ c .len = length-heard c (omega arith) in
+    ap (λ (x : Collector). x .len) (added-holds c bs h) ∙ holding-count c (heard c ++ bs) ∙ rw (length-append, m)
+
+holding-bytes : (c : Collector) (hs : List ℕ) → holding c hs .bytes ≡ hs ++ drop (length hs) (c .bytes)
+unfolding holding
+holding-bytes c hs = refl
+
+added-bytes : (c : Collector) (bs : List ℕ) → c .len + length bs ≤ 260 → added c bs .bytes ≡ (heard c ++ bs) ++ drop (length (heard c ++ bs)) (c .bytes)
+added-bytes c bs h = ap (λ (x : Collector). x .bytes) (added-holds c bs h) ∙ holding-bytes c (heard c ++ bs)
+
+pub added-places : (c : Collector) (bs : List ℕ) → length (c .bytes) ≡ 260 → c .len + length bs ≤ 260 → length (added c bs .bytes) ≡ 260
+added-places c bs l h =
+    let m : length (heard c) ≡ c .len = length-heard c (omega arith) in
+    let n : length (heard c ++ bs) ≡ c .len + length bs = rw (length-append, m) in
+    ap length (added-bytes c bs h) ∙ rw (length-append, length-drop) (omega (arith, n))
+
+pub added-before : (c : Collector) (bs : List ℕ) (i : ℕ) → length (c .bytes) ≡ 260 → c .len + length bs ≤ 260 → i < c .len
+    → getD (added c bs .bytes) i 0 ≡ getD (c .bytes) i 0
+added-before c bs i l h k =
+    let m : length (heard c) ≡ c .len = length-heard c (omega arith) in
+    let n : length (heard c ++ bs) ≡ c .len + length bs = rw (length-append, m) in
+    ap (λ (x : List ℕ). getD x i 0) (added-bytes c bs h)
+    ∙ List·getD-append (heard c ++ bs) (drop (length (heard c ++ bs)) (c .bytes)) 0 i (omega (arith, n))
+    ∙ List·getD-append (heard c) bs 0 i (omega (arith, m))
+    ∙ heard-at c i k
+
+holding-twice : (c : Collector) (hs ks : List ℕ) → holding (holding c hs) (hs ++ ks) ≡ holding c (hs ++ ks)
+unfolding holding
+holding-twice c hs ks =
+    ap {B = Collector} (λ (x : List ℕ). record { bytes = (hs ++ ks) ++ x; len = length (hs ++ ks) })
+    (rw length-append (drop-append-add hs (drop (length hs) (c .bytes)) (length ks) ∙ drop-drop (length ks) (length hs) (c .bytes)))
+
+pub added-more : (c : Collector) (bs ds : List ℕ) → length (c .bytes) ≡ 260 → c .len + length bs + length ds ≤ 260 → added (added c bs) ds ≡ added c (bs ++ ds)
+added-more c bs ds l h =
+    let n : added c bs .len ≡ c .len + length bs = added-count c bs l (omega arith) in
+    let m : length (bs ++ ds) ≡ length bs + length ds = length-append bs ds in
+    added-holds (added c bs) ds (omega arith)
+    ∙ ap (λ (x : Collector). holding x (heard x ++ ds)) (added-holds c bs (omega arith))
+    ∙ ap (λ (x : List ℕ). holding (holding c (heard c ++ bs)) (x ++ ds)) (heard-holding c (heard c ++ bs))
+    ∙ holding-twice c (heard c ++ bs) ds
+    ∙ ap (holding c) (append-assoc (heard c) bs ds)
+    ∙ sym (added-holds c (bs ++ ds) (omega arith))

@@ -1,13 +1,19 @@
 -- Laws about LEN and about complete frames.
 -- Assumes nothing.
 use mathlib.Core.Bool.{Bool, false, true}
-use mathlib.Core.Path.{_≡_, refl}
-use Prim.Native.Nat.{_+_, _<_, _≤_, ℕ}
+use mathlib.Core.List.{List, [], _++_, _∷_}
+use mathlib.Core.Path.{_∙_, _≡_, refl}
+use Prim.Native.Nat.{_+_, _-_, _<_, _≤_, suc, ℕ}
 use native.Mathlib.Omega.{arith}
 use lib.Dec.{eqb, leb}
-use borrow.Author.Tests.{eqb-false, le-leb, leb-false, lt-leb}
-use Rattle.frame.specs.Frame.{counted, full}
-use Rattle.words.proofs.Laws.{and-both}
+use lib.ListN.{drop, getD, length, length-append, length-drop, take}
+use lib.Seq.{drop-length, getD-drop, getD-take, length-take-le, take-append-seam, take-nil}
+use borrow.Author.Tests.{eqb-false, eqb-true, le-leb, leb-false, lt-leb}
+use Rattle.frame.specs.Frame.{counted, footerByte, framed, full, isFrame, lenByte, overhead, payload}
+use Rattle.frame.specs.Sum.{sumOf}
+use Rattle.frame.specs.declared.Footer.{Footer}
+use Rattle.frame.specs.declared.Header.{Header}
+use Rattle.words.proofs.Laws.{and-both, and-right}
 use Rattle.words.specs.Words.{_and_, if_then_else_}
 
 pub counted-some : (x : ℕ) → 1 ≤ counted x
@@ -50,3 +56,34 @@ full-room n x e b = go (leb 2 n) refl e
     go : (t : Bool) → leb 2 n ≡ t → t and leb (counted x + 4) n ≡ false → n < 260
     go true h e = let l : n < counted x + 4 = leb-false _ _ e in omega arith
     go false h e = let l : n < 2 = leb-false _ _ h in omega arith
+
+-- A frame's payload: how long it is, its bytes, and what was framed.
+pub payload-long : (bs : List ℕ) → length (payload bs) ≡ length bs - overhead
+unfolding payload
+payload-long bs = length-take-le (length bs - overhead) (drop 2 bs) (rw length-drop (omega arith))
+
+pub payload-at : (bs : List ℕ) (i : ℕ) → i < length bs - overhead → getD (payload bs) i 0 ≡ getD bs (2 + i) 0
+unfolding payload
+payload-at bs i h = getD-take (length bs - overhead) (drop 2 bs) i 0 h ∙ getD-drop 2 bs i 0
+
+pub payload-framed : (h : Header) (ds : List ℕ) (f : Footer) → payload (framed h ds f) ≡ ds
+unfolding payload framed
+payload-framed h ds f =
+    let e : length (ds ++ sumOf (lenByte (length ds) ∷ ds) ∷ footerByte f ∷ []) ≡ length ds + 2 = length-append ds _ in
+    let n : suc (suc (length (ds ++ sumOf (lenByte (length ds) ∷ ds) ∷ footerByte f ∷ []))) - 4 ≡ length ds = omega arith in
+    rw n (take-append-seam ds _)
+
+pub frame-payload : (bs : List ℕ) → isFrame bs ≡ true → length (payload bs) ≡ counted (getD bs 1 0)
+unfolding isFrame
+frame-payload bs e = payload-long bs ∙ (let n : length bs ≡ counted (getD bs 1 0) + 4 = eqb-true _ _ (and-right _ _ e) in omega arith)
+
+-- As the code lends it: the part from 2 up to SUM, or an empty one.
+pub payload-part : (bs : List ℕ) → 4 ≤ length bs → take (length bs - 2 - 2) (drop 2 bs) ≡ payload bs
+unfolding payload
+payload-part bs h = let e : length bs - 2 - 2 ≡ length bs - 4 = omega arith in rw e
+
+pub payload-none : (bs : List ℕ) → length bs < 4 → take (length bs - length bs) (drop (length bs) bs) ≡ payload bs
+unfolding payload
+payload-none bs h =
+    let e : length bs - 4 ≡ 0 = omega arith in
+    rw (drop-length, take-nil, e)

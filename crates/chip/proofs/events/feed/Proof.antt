@@ -7,7 +7,7 @@ use native.Mathlib.Omega.{arith}
 use lib.ListN.{length}
 use borrow.Author.Needs.{needs}
 use Rattle.chip.proofs.Feeding.{FedFrom, fed-end, fed-refused, fed-said, fed-start, fed-turn}
-use Rattle.chip.proofs.Stretching.{fed-stretch, part-short, plain-is}
+use Rattle.chip.proofs.Stretching.{fed-stretch, plain-is}
 use Rattle.chip.specs.Run.{feedOf}
 use Rattle.chip.specs.Step.{outcome}
 use Rattle.chip_core.specs.Effect.{flash}
@@ -28,39 +28,33 @@ abbrev μ-loop : tie.MeasureT-loop
 loop-holds : tie.Need-loop-holds Inv-loop μ-loop
 loop-holds c = (omega arith, refl, refl, refl, fed-start _ _ _)
 
--- What a stretch may rely on: it lies in the bytes, and in the collector's array.
+-- A stretch lies in the bytes.
 known : (c : tie.Then1 Inv-loop μ-loop)
-    → (c .before .plain .result ≤ length (c .before .before .before .before .before .before .before .before .before .args .bytes .now) - c .before .before .before .before .loop .i)
-    × (c .before .before .before .before .loop .last .chip .collector .len + c .before .plain .result ≤ 259)
-known c =
-    let x = plain-is _ _ _ _ _ _ _ (c .before .plain .ensures .0) (c .if1 .taken) in
-    (x .lacks .there, omega (arith, x .lacks .short, c .before .plain .ensures .1))
+    → c .before .plain .result ≤ length (c .before .before .before .before .before .before .before .before .before .args .bytes .now) - c .before .before .before .before .loop .i
+known c = plain-is _ _ _ _ _ _ _ (c .before .plain .ensures .0) (c .if1 .taken) .lacks .there
 
 add-end : tie.Need-add-end Inv-loop μ-loop
-add-end c = omega (arith, known c .0, c .before .before .before .loop-test .taken)
+add-end c = omega (arith, known c, c .before .before .before .loop-test .taken)
 
-sub-stretched : tie.Need-sub-stretched Inv-loop μ-loop
-sub-stretched c = omega arith
+sub-add-all : tie.Need-sub-add-all Inv-loop μ-loop
+sub-add-all c = omega arith
 
-part-stretched-start : tie.Need-part-stretched-start Inv-loop μ-loop
-part-stretched-start c = omega arith
+part-add-all-start : tie.Need-part-add-all-start Inv-loop μ-loop
+part-add-all-start c = omega arith
 
-part-stretched-end : tie.Need-part-stretched-end Inv-loop μ-loop
-part-stretched-end c = omega (arith, known (c .before .before) .0, c .before .before .before .before .before .loop-test .taken)
-
-stretched-requires : tie.Need-stretched-requires Inv-loop μ-loop
-stretched-requires c κs = part-short (c .before .before .before .before .before .before .before .loop .i) _ _ _ (known (c .before .before .before) .1)
+part-add-all-end : tie.Need-part-add-all-end Inv-loop μ-loop
+part-add-all-end c = omega (arith, known (c .before .before), c .before .before .before .before .before .loop-test .taken)
 
 loop-less : tie.Need-loop-less Inv-loop μ-loop
-loop-less c = omega (arith, known (c .before .before .before .before) .0, c .before .before .before .before .if1 .taken, c .before .before .before .before .before .before .before .loop-test .taken)
+loop-less c = omega (arith, known (c .before .before .before .before), c .before .before .before .before .if1 .taken, c .before .before .before .before .before .before .before .loop-test .taken)
 
 loop-again : tie.Need-loop-again Inv-loop μ-loop
 loop-again c = (
-  omega (arith, known (c .before .before .before .before) .0, c .before .before .before .before .before .before .before .loop-test .taken),
+  omega (arith, known (c .before .before .before .before), c .before .before .before .before .before .before .before .loop-test .taken),
   c .before .before .before .before .before .before .before .before .loop .inv .1,
   c .before .before .before .before .before .before .before .before .loop .inv .2,
   c .before .before .before .before .before .before .before .before .loop .inv .3,
-  fed-stretch _ _ (c .before .before .before .before .before .before .before .before .loop .inv .4) (c .before .before .before .before .before .plain .ensures .2) (c .before .before .before .before .before .plain .ensures .1) (c .before .before .before .before .before .plain .ensures .0) (c .before .before .before .before .if1 .taken) (c .before .before .before .before .before .before .before .loop-test .taken) (c .stretched .ensures),
+  fed-stretch _ _ (c .before .before .before .before .before .before .before .before .loop .inv .4) (c .before .before .before .before .before .plain .ensures .2) (c .before .before .before .before .before .plain .ensures .1) (c .before .before .before .before .before .plain .ensures .0) (c .before .before .before .before .if1 .taken) (c .before .before .before .before .before .before .before .loop-test .taken) (c .add-all .ensures),
 )
 
 returns : tie.Need-returns Inv-loop μ-loop
@@ -91,10 +85,10 @@ feed-spec =
     (λ c. omega arith)
     (λ c κs. search needs)
     add-end
-    sub-stretched
-    part-stretched-start
-    part-stretched-end
-    stretched-requires
+    sub-add-all
+    part-add-all-start
+    part-add-all-end
+    (λ c κs. search needs)
     loop-less
     loop-again
     (λ c. omega arith)

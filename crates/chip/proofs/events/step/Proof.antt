@@ -1,14 +1,13 @@
 -- `chip::events::step` meets its contract: refusals first; a gap and a byte that is only added are settled here, the rest is the long way's.
 -- Assumes nothing.
 use mathlib.Core.Path.{_∙_, _≡_, sym}
-use Prim.Native.Nat.{_<_}
-use native.Mathlib.Omega.{arith}
 use lib.ListN.{length}
 use borrow.Author.Needs.{needs}
 use Rattle.chip_state.proofs.Laws.{accepts}
 use Rattle.chip.proofs.Settling.{at-gap, emptied, same-event, step-accepted, step-barred}
-use Rattle.chip.proofs.Stretching.{byte-adds, lacks}
+use Rattle.chip.proofs.Stretching.{byte-adds}
 use Rattle.chip.specs.declared.Event.the-variants.{Gap}
+use Rattle.frame.proofs.Laws.Collector.{adds-collector}
 use Rattle.chip.proofs.events.step.Statement.{statement}
 use Rattle.chip.proofs.events.step.Tie as tie
 
@@ -23,19 +22,9 @@ returns-2 c =
     step-accepted _ _ _ _ _ Gap _ _ (sym (c .before .before .before .before .before .verdict .ensures) ∙ c .before .before .before .enum-told .given .1) (c .before .enum-told2 .given .1) (at-gap _ _ _ _)
     (emptied _ _ _ _ _ _ _ (c .gap .ensures) ((accepts (sym (c .before .before .before .before .before .verdict .ensures) ∙ c .before .before .before .enum-told .given .1)) .roomy))
 
--- There is a place for the byte: what LEN counts is at most 256, and the frame is not complete.
-place : (c : tie.Then1) → c .before .before .before .before .before .before .before .before .before .before .before .before .before .before .before .args .chip .collector .len < 259
-place c = omega (arith, lacks _ _ _ _ (c .before .lacking .ensures .0) (c .if1 .taken) .short, c .before .lacking .ensures .1, c .if1 .taken)
-
-element-write-next : tie.Need-element-write-next
-element-write-next c = omega (arith, place c, long (c .before .before .before .before .before .before .before .before .before .before .before .before .before .before .before))
-
-add-next : tie.Need-add-next
-add-next c = omega (arith, place c)
-
 returns-4 : tie.Need-returns-4
 returns-4 c =
-    byte-adds _ _ _ _ _ _ _ (long (c .before .before .before .before .before .before .before .before .before .before .before .before .before .before .before)) (c .before .lacking .ensures .1) (sym (c .before .before .before .before .before .before .before .verdict .ensures) ∙ c .before .before .before .before .before .enum-told .given .1) (c .before .lacking .ensures .0) (c .if1 .taken) (c .before .before .before .event .given .1)
+    byte-adds _ _ _ _ _ _ _ _ (long (c .before .before .before .before .before .before .before .before .before .before .before .before .before .before .before .before .before)) (c .before .before .before .lacking .ensures .1) (sym (c .before .before .before .before .before .before .before .before .before .verdict .ensures) ∙ c .before .before .before .before .before .before .before .enum-told .given .1) (c .before .before .before .lacking .ensures .0) (c .before .before .if1 .taken) (c .before .before .before .before .before .event .given .1) (adds-collector _ _ _ _ (c .add .ensures))
 
 returns-5 : tie.Need-returns-5
 returns-5 c = same-event _ _ _ _ _ _ _ (c .before .before .before .before .before .before .long-step2 .ensures) (c .before .before .before .before .before .before .before .before .before .before .before .before .before .event .given .1)
@@ -61,8 +50,7 @@ step-spec =
     (λ c. search needs)
     (λ c. search needs)
     (λ c κs. search needs)
-    element-write-next
-    add-next
+    (λ c κs. search needs)
     returns-4
     (λ c κs. search needs)
     (λ c. search needs)
