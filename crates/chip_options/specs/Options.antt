@@ -1,9 +1,11 @@
 -- The lasting options: document 01, "The part", second paragraph; its flags and the rule of A0h's data, "Commands".
 use mathlib.Core.Bool.{Bool, not}
-use mathlib.Core.List.{List, [], _∷_}
+use mathlib.Core.List.{List, [], _++_, _∷_}
 use Prim.Native.Nat.{_%_, _-_, _/_, ℕ}
 use lib.Dec.{eqb, leb, ltb}
+use lib.ListN.{getD}
 use Rattle.chip_options.specs.declared.Options.{Options}
+use Rattle.numbers.specs.Numbers.{lowFirst, numberAt}
 use Rattle.part.specs.Part.{blocks}
 use Rattle.part.specs.declared.Area.the-variants.{CodeFlash}
 use Rattle.part.specs.declared.Part.{Part}
@@ -54,6 +56,13 @@ raises p old new =
 unfoldable pub released : Part → Options → Options
 released p o = record { flags = 0xFF; boot = o .boot; start = 0; end = lastBlock p }
 
+-- The options as bytes: "flags, last boot block, window start and end (two bytes each, low first)"; and the options that bytes hold, from the first on.
+unfoldable pub optionBytes : Options → List ℕ
+optionBytes o = o .flags ∷ o .boot ∷ lowFirst 2 (o .start) ++ lowFirst 2 (o .end)
+
+unfoldable pub optionsIn : List ℕ → Options
+optionsIn bs = record { flags = getD bs 0 0; boot = getD bs 1 0; start = numberAt 2 2 bs; end = numberAt 2 4 bs }
+
 -- A1h: "8 bytes: flags, last boot block, window start and end (two bytes each, low first), FFh FFh"
 unfoldable pub security : Options → List ℕ
-security o = o .flags ∷ o .boot ∷ o .start % 256 ∷ o .start / 256 % 256 ∷ o .end % 256 ∷ o .end / 256 % 256 ∷ 0xFF ∷ 0xFF ∷ []
+security o = optionBytes o ++ 0xFF ∷ 0xFF ∷ []

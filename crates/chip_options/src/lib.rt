@@ -1,6 +1,6 @@
 // The lasting options: flags, last boot block and window, what they allow, and which are good. Document 01, "The part" and "Commands".
 ghost use mathlib.Core.Path.{_≡_};
-ghost use Rattle.chip_options.specs.Options.{bootAllowed, eraseAllowed, writeAllowed, fixedBits, lastBlock, freshOptions, goodOptions, isFresh, rises, raises, released, security};
+ghost use Rattle.chip_options.specs.Options.{bootAllowed, eraseAllowed, writeAllowed, fixedBits, lastBlock, freshOptions, goodOptions, isFresh, rises, raises, released, optionsIn, security};
 use part::Area;
 use part::Part;
 
@@ -121,6 +121,20 @@ impl Options {
             flags: 0xFF,
             boot: self.boot,
             start: 0,
+            end,
+        }
+    }
+
+    // The options that bytes hold; those that are not there count as 0.
+    pub fn read(bytes: &[u8]) -> Options
+        ensures { λ r. ⌜ r ≡ optionsIn (now (bytes .entry)) ⌝ }
+    {
+        let start = numbers::number2(bytes, 2) as u32;
+        let end = numbers::number2(bytes, 4) as u32;
+        Options {
+            flags: lent::byte_at(bytes, 0),
+            boot: lent::byte_at(bytes, 1),
+            start,
             end,
         }
     }

@@ -3,7 +3,7 @@
 use mathlib.Core.Bool.{false, true}
 use mathlib.Core.List.{List, [], _++_, _∷_, append-assoc, append-nil}
 use mathlib.Core.Path.{_∙_, _≡_, ap, refl}
-use Prim.Native.Nat.{_%_, _+_, _-_, _/_, _<_, _≤_, ℕ}
+use Prim.Native.Nat.{_+_, _-_, _<_, _≤_, ℕ}
 use native.Mathlib.Omega.{arith}
 use lib.ListN.{drop, drop-of-length-le, length, length-append, length-drop, take}
 use lib.Seq.{drop-at, drop-drop, take-all, take-at}
@@ -19,6 +19,8 @@ use Rattle.frame.specs.declared.wire.Wrote.{Wrote}
 use Rattle.chip_options.proofs.Laws.{security-long}
 use Rattle.chip_options.specs.Options.{security}
 use Rattle.chip_options.specs.declared.Options.{Options}
+use Rattle.numbers.proofs.Laws.{low-long}
+use Rattle.numbers.specs.Numbers.{lowFirst}
 use Rattle.part.proofs.LawsSignature.{signature-long}
 use Rattle.part.specs.Part.{described}
 use Rattle.part.specs.Signature.{signature}
@@ -129,7 +131,7 @@ reply-long p o (Status s) d n v = omega (arith, one-long (s ∷ []))
 reply-long p o (Rate mode) d n v = omega (arith, one-long (0x06 ∷ p .clock ∷ mode ∷ []))
 reply-long p o (Pair s t) d n v = omega (arith, one-long (s ∷ t ∷ []))
 reply-long p o LastStored d n v = omega (arith, two-long (0x06 ∷ 0x06 ∷ []) (0x06 ∷ []))
-reply-long p o (Sum x) d n v = omega (arith, two-long (0x06 ∷ []) (x % 256 ∷ x / 256 ∷ []))
+reply-long p o (Sum x) d n v = omega (arith, two-long (0x06 ∷ []) (lowFirst 2 x), low-long 2 x)
 reply-long p o Signature d n v = omega (arith, two-long (0x06 ∷ []) (signature p), signature-long p d n v)
 reply-long p o Security d n v = omega (arith, two-long (0x06 ∷ []) (security o), security-long o)
 

@@ -1,7 +1,7 @@
 -- The replies: document 01, "Commands" and the paragraphs on pages. A reply is a value; what it says on the wire is a list of data frames' payloads.
 use mathlib.Core.Bool.{not}
 use mathlib.Core.List.{List, [], _++_, _∷_}
-use Prim.Native.Nat.{_%_, _/_, ℕ}
+use Prim.Native.Nat.{ℕ}
 use lib.Dec.{ltb}
 use lib.ListN.{drop, length}
 use Rattle.frame.specs.Frame.{dataFrame}
@@ -9,6 +9,7 @@ use Rattle.frame.specs.Framing.{frames}
 use Rattle.frame.specs.declared.Footer.the-variants.{Last}
 use Rattle.chip_options.specs.Options.{security}
 use Rattle.chip_options.specs.declared.Options.{Options}
+use Rattle.numbers.specs.Numbers.{lowFirst}
 use Rattle.part.specs.Part.{described}
 use Rattle.part.specs.Signature.{signature}
 use Rattle.part.specs.declared.Part.{Part}
@@ -24,7 +25,7 @@ payloads p o (Status s) = (s ∷ []) ∷ []
 payloads p o (Rate mode) = (0x06 ∷ p .clock ∷ mode ∷ []) ∷ []
 payloads p o (Pair s t) = (s ∷ t ∷ []) ∷ []
 payloads p o LastStored = (0x06 ∷ 0x06 ∷ []) ∷ (0x06 ∷ []) ∷ []
-payloads p o (Sum n) = (0x06 ∷ []) ∷ (n % 256 ∷ n / 256 ∷ []) ∷ []
+payloads p o (Sum n) = (0x06 ∷ []) ∷ lowFirst 2 n ∷ []
 payloads p o Signature = (0x06 ∷ []) ∷ signature p ∷ []
 payloads p o Security = (0x06 ∷ []) ∷ security o ∷ []
 

@@ -90,7 +90,7 @@ pub fn send(part: Part, options: Options, reply: Reply, room: &mut [u8]) -> Sent
             send_two(room, &d, &further)
         }
         Reply::Sum(n) => {
-            let d = [(n % 256) as u8, (n / 256) as u8];
+            let d = numbers::low2(n);
             send_two(room, &status, &d)
         }
         Reply::Signature => {

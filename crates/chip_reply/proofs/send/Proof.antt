@@ -41,7 +41,7 @@ returns-7 c = sends _ _ _ _ _ _ _ _ (omega arith) (sym (c .before .before .befor
 
 returns-8 : tie.Need-returns-8
 unfolding payloads
-returns-8 c = sends _ _ _ _ _ _ _ _ (omega arith) (sym (c .before .before .before .before .before .before .before .before .before .before .is-described .ensures) ∙ not-false _ (c .before .before .before .before .before .before .before .before .before .if2 .left)) (c .before .before .before .before .before .before .before .reply4 .given .1) refl (c .before .before .send-two2 .ensures)
+returns-8 c = sends _ _ _ _ _ _ _ _ (omega arith) (sym (c .before .before .before .before .before .before .before .before .before .before .before .is-described .ensures) ∙ not-false _ (c .before .before .before .before .before .before .before .before .before .before .if2 .left)) (c .before .before .before .before .before .before .before .before .reply4 .given .1) (rw (← c .before .before .before .before .before .before .low2 .ensures)) (c .before .before .send-two2 .ensures)
 
 returns-9 : tie.Need-returns-9
 unfolding payloads
@@ -74,8 +74,7 @@ send-spec =
     (λ c. search needs)
     (λ c κs. search needs)
     (λ c. search needs)
-    (λ c. search needs)
-    (λ c. search needs)
+    (λ c κs. search needs)
     (λ c. search needs)
     (λ c. search needs)
     (λ c κs. search needs)
