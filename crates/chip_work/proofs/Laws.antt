@@ -6,7 +6,7 @@ use Prim.Native.Nat.{_*_, _-_, _<_, _^_, _≤_, ℕ}
 use native.Mathlib.Nat.{mul-le-mul-right}
 use native.Mathlib.Omega.{arith}
 use lib.ListN.{drop, take}
-use Rattle.chip_work.specs.Work.{bytesOf}
+use Rattle.chip_work.specs.Work.{rangeBytes}
 use Rattle.chip_core.specs.Effect.{flash}
 use Rattle.part.proofs.Laws.{size-small}
 use Rattle.part.specs.Part.{blockSize, blocks}
@@ -21,11 +21,11 @@ counts p a n s e h i j =
     rw e (omega (arith, size-small p a i j))
 
 pub range-in-code : (p : Part) (a : Area) (block count s : ℕ) (c d : List ℕ) → a ≡ CodeFlash → s ≡ blockSize p a
-    → take (count * s) (drop (block * s) c) ≡ bytesOf p a block count (flash c d)
-unfolding bytesOf
+    → take (count * s) (drop (block * s) c) ≡ rangeBytes p a block count (flash c d)
+unfolding rangeBytes
 range-in-code p a block count s c d e f = rw (f, e)
 
 pub range-in-data : (p : Part) (a : Area) (block count s : ℕ) (c d : List ℕ) → a ≡ DataFlash → s ≡ blockSize p a
-    → take (count * s) (drop (block * s) d) ≡ bytesOf p a block count (flash c d)
-unfolding bytesOf
+    → take (count * s) (drop (block * s) d) ≡ rangeBytes p a block count (flash c d)
+unfolding rangeBytes
 range-in-data p a block count s c d e f = rw (f, e)

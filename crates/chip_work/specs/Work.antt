@@ -50,15 +50,15 @@ blockErase p k (In a offset block page) m =
     else effect (says acknowledge k) (erasedIn a offset (blockSize p a) m)
 
 -- The bytes of a good range.
-unfoldable pub bytesOf : Part → Area → ℕ → ℕ → Flash → List ℕ
-bytesOf p a block count m = take (count * blockSize p a) (drop (block * blockSize p a) (bytesIn a m))
+unfoldable pub rangeBytes : Part → Area → ℕ → ℕ → Flash → List ℕ
+rangeBytes p a block count m = take (count * blockSize p a) (drop (block * blockSize p a) (bytesIn a m))
 
 -- 32h: "range and D01. 00h: 1Bh unless all FFh. 01h: also unless flags and window are fresh. Other D01: 05h"
 unfoldable pub blankCheck : Part → Core → Range → ℕ → Flash → Done
 blankCheck p k Bad d01 m = says parameterError k
 blankCheck p k (Blocks a block count) d01 m =
-    if ltb 0x01 d01 then says parameterError k
-    else if not (blank (bytesOf p a block count m)) then says notBlank k
+    if not (eqb d01 0x00 or eqb d01 0x01) then says parameterError k
+    else if not (blank (rangeBytes p a block count m)) then says notBlank k
     else if eqb d01 0x01 and not (isFresh p (k .options)) then says notBlank k
     else says acknowledge k
 
@@ -77,7 +77,7 @@ verify k (Blocks a block count) start end = says acknowledge (awaiting 0x13 star
 -- B0h: "range; 06h, then a two-byte data frame, low first: 0000h less each byte, 16 bits"
 unfoldable pub checksum : Part → Core → Range → Flash → Done
 checksum p k Bad m = says parameterError k
-checksum p k (Blocks a block count) m = told (Sum (sumOfBytes (bytesOf p a block count m))) k
+checksum p k (Blocks a block count) m = told (Sum (sumOfBytes (rangeBytes p a block count m))) k
 
 -- A2h: "fresh flags and window"; 10h "if bit 1 or bit 2 is 0. Then A2h answers 1Bh unless all flash is blank."
 unfoldable pub securityRelease : Part → Core → Flash → Done

@@ -2,11 +2,12 @@
 ghost use mathlib.Core.Path.{_≡_};
 ghost use Prim.Native.Nat.{_≤_, _+_};
 ghost use Rattle.part.specs.Part.{rangeOf, placeOf, blocks};
-ghost use Rattle.words.specs.Words.{_and_};
+ghost use lib.Dec.{eqb};
+ghost use Rattle.words.specs.Words.{_and_, _or_};
 ghost use Rattle.chip_flash.specs.Flash.{blank};
 ghost use Rattle.chip_options.specs.Options.{bootAllowed, eraseAllowed};
 ghost use Rattle.chip_core.specs.Effect.{flash, effect, says, awaiting};
-ghost use Rattle.chip_work.specs.Work.{rateSet, isBoot, forbidden, erasedIn, blockErase, bytesOf, blankCheck, programming, verify, checksum, securityRelease};
+ghost use Rattle.chip_work.specs.Work.{rateSet, isBoot, forbidden, erasedIn, blockErase, rangeBytes, blankCheck, programming, verify, checksum, securityRelease};
 use chip_core::Core;
 use chip_core::Done;
 use chip_core::Phase;
@@ -129,13 +130,23 @@ fn range_bytes<'a>(
     data: &'a [u8],
 ) -> &'a [u8]
     requires { ⌜ block + count ≤ blocks part area ⌝ }
-    ensures { λ r. ⌜ now r ≡ bytesOf part area block count (flash (now (code .entry)) (now («data» .entry))) ⌝ }
+    ensures { λ r. ⌜ now r ≡ rangeBytes part area block count (flash (now (code .entry)) (now («data» .entry))) ⌝ }
 {
     let size = part.block_size(area);
     match area {
         Area::CodeFlash => lent::span(code, block * size, count * size),
         Area::DataFlash => lent::span(data, block * size, count * size),
     }
+}
+
+// 32h knows two values of D01.
+fn is_known(d01: u8) -> bool
+    ensures { λ r. ⌜ r ≡ (eqb d01 0x00 or eqb d01 0x01) ⌝ }
+{
+    if d01 == 0x00 {
+        return true;
+    }
+    d01 == 0x01
 }
 
 pub fn blank_check<'a>(
@@ -152,20 +163,20 @@ pub fn blank_check<'a>(
     let range = part.range(start, end);
     match range {
         Range::Blocks { area, block, count } => {
-            if 0x01 < d01 {
-                return says(core, 0x05);
-            }
-            if chip_flash::is_blank(range_bytes(part, area, block, count, code, data)) {
-                if d01 == 0x01 {
-                    let options = core.options;
-                    if options.is_fresh(part) {
-                        return says(core, 0x06);
+            if is_known(d01) {
+                if chip_flash::is_blank(range_bytes(part, area, block, count, code, data)) {
+                    if d01 == 0x01 {
+                        let options = core.options;
+                        if options.is_fresh(part) {
+                            return says(core, 0x06);
+                        }
+                        return says(core, 0x1B);
                     }
-                    return says(core, 0x1B);
+                    return says(core, 0x06);
                 }
-                return says(core, 0x06);
+                return says(core, 0x1B);
             }
-            says(core, 0x1B)
+            says(core, 0x05)
         }
         Range::Bad => says(core, 0x05),
     }

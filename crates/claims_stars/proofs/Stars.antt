@@ -7,7 +7,7 @@ use Rattle.chip.specs.Step.{byteIn, frameDoes, heardByte, reactTo, settled, ste
 use Rattle.chip_state.specs.Refusals.{goodBegun, goodCollected, goodCore, goodPhase, goodState, verdictOf}
 use Rattle.claims_stars.specs.Table.{Example, replyTo, table}
 use Rattle.chip_commands.specs.Commands.{askedIn, commandDoes, commandsIn, fitted, readyCommands, work}
-use Rattle.chip_work.specs.Work.{blockErase, bytesOf, checksum, erasedIn, forbidden}
+use Rattle.chip_work.specs.Work.{blockErase, rangeBytes, checksum, erasedIn, forbidden}
 use Rattle.chip_core.specs.Effect.{number3}
 use Rattle.chip_flash.specs.Flash.{eraseOf, sumOfBytes}
 use Rattle.frame.specs.Collector.{fresh, hear, heard, holding}
@@ -26,8 +26,8 @@ pub stars : map (λ (x : Example). x .gives) table ≡ map (λ (x : Example). x 
 unfolding table replyTo heardBack answers stepOf settled verdictOf firstOf described _from_to_ _and_ _or_ if_then_else_ goodState goodCollected goodBegun goodCore
     goodOptions fixedBits goodPhase lastBlock freshOptions fresh heard holding hear complete full counted isFrame reactTo byteIn heardByte frameDoes commandDoes
     judgeOf summed sumOf lessAll less askedIn commandsIn readyCommands fitted work blockErase placeOf liesIn placeIn blockOf pageOf blockSize forbidden erasedIn
-    eraseOf putOf putAt checksum rangeOf wholeBlocks startsBlock endsBlock stretch bytesOf sumOfBytes number3 sendOf framesOf framed payloads
+    eraseOf putOf putAt checksum rangeOf wholeBlocks startsBlock endsBlock stretch rangeBytes sumOfBytes number3 sendOf framesOf framed payloads
 =======
-unfolding table replyTo heardBack answers stepOf settled verdictOf firstOf described _from_to_ _and_ _or_ if_then_else_ goodState goodCollected goodBegun goodCore goodOptions fixedBits goodPhase lastBlock freshOptions fresh heard holding hear complete full counted isFrame reactTo byteIn heardByte frameDoes commandDoes judgeOf summed sumOf lessAll less askedIn commandsIn readyCommands fitted work blockErase placeOf liesIn placeIn blockOf pageOf blockSize forbidden erasedIn eraseOf putOf putAt checksum rangeOf wholeBlocks startsBlock endsBlock stretch bytesOf sumOfBytes number3 saidOf framesOf framed payloads
+unfolding table replyTo heardBack answers stepOf settled verdictOf firstOf described _from_to_ _and_ _or_ if_then_else_ goodState goodCollected goodBegun goodCore goodOptions fixedBits goodPhase lastBlock freshOptions fresh heard holding hear complete full counted isFrame reactTo byteIn heardByte frameDoes commandDoes judgeOf summed sumOf lessAll less askedIn commandsIn readyCommands fitted work blockErase placeOf liesIn placeIn blockOf pageOf blockSize forbidden erasedIn eraseOf putOf putAt checksum rangeOf wholeBlocks startsBlock endsBlock stretch rangeBytes sumOfBytes number3 saidOf framesOf framed payloads
 >>>>>>> a7d8301 (What is said has no branch for short room; sending says what it does not send)
 stars = refl
