@@ -85,13 +85,9 @@ long-noise = record { stands = ready-stands; nothing = refl; bytes = proper-by l
 
 -- In it the chip does answer: 07h, then 15h.
 pub long-noise-said : allSaid (saysBy stepOf thePart (thenGap longNoise) readyChip) ≡ 0x02 ∷ 0x01 ∷ 0x07 ∷ 0xF8 ∷ 0x03 ∷ 0x02 ∷ 0x01 ∷ 0x15 ∷ 0xEA ∷ 0x03 ∷ []
-<<<<<<< HEAD
 unfolding allSaid saysBy thenGap longNoise stepOf settled verdictOf firstOf described _from_to_ _and_ _or_ if_then_else_ goodState goodCollected goodBegun goodCore
     goodOptions fixedBits goodPhase lastBlock freshOptions fresh heard holding hear complete full counted isFrame reactTo byteIn heardByte frameDoes commandDoes
-    judgeOf summed sumOf lessAll less placeOf liesIn placeIn blockOf pageOf blockSize sendOf framesOf framed payloads
-=======
-unfolding allSaid saysBy thenGap longNoise stepOf settled verdictOf firstOf described _from_to_ _and_ _or_ if_then_else_ goodState goodCollected goodBegun goodCore goodOptions fixedBits goodPhase lastBlock freshOptions fresh heard holding hear complete full counted isFrame reactTo byteIn heardByte frameDoes commandDoes judgeOf summed sumOf lessAll less placeOf liesIn placeIn blockOf pageOf blockSize saidOf framesOf framed payloads
->>>>>>> a7d8301 (What is said has no branch for short room; sending says what it does not send)
+    judgeOf summed sumOf lessAll less placeOf liesIn placeIn blockOf pageOf blockSize saidOf framesOf framed payloads
 long-noise-said = refl
 
 -- So the chip is as before it, though it has answered.
@@ -118,14 +114,10 @@ wrong-page-completes-one = refl
 
 -- In it the page is blamed twice over, 15h 15h, and then the command with the wrong footer.
 pub wrong-page-said : allSaid (saysBy stepOf thePart (thenGap wrongPage) writingChip) ≡ 0x02 ∷ 0x02 ∷ 0x15 ∷ 0x15 ∷ 0xD4 ∷ 0x03 ∷ 0x02 ∷ 0x01 ∷ 0x15 ∷ 0xEA ∷ 0x03 ∷ []
-<<<<<<< HEAD
 unfolding allSaid saysBy thenGap wrongPage dataDoes badData fitting footerOf lengthOf isLastPage goodAwaited goodPlaces stepOf settled verdictOf firstOf described
     _from_to_ _and_ _or_ if_then_else_ goodState goodCollected goodBegun goodCore goodOptions fixedBits goodPhase lastBlock freshOptions fresh heard holding hear
     complete full counted isFrame reactTo byteIn heardByte frameDoes commandDoes judgeOf summed sumOf lessAll less placeOf liesIn placeIn blockOf pageOf blockSize
-    sendOf framesOf framed payloads
-=======
-unfolding allSaid saysBy thenGap wrongPage dataDoes badData fitting footerOf lengthOf isLastPage goodAwaited goodPlaces stepOf settled verdictOf firstOf described _from_to_ _and_ _or_ if_then_else_ goodState goodCollected goodBegun goodCore goodOptions fixedBits goodPhase lastBlock freshOptions fresh heard holding hear complete full counted isFrame reactTo byteIn heardByte frameDoes commandDoes judgeOf summed sumOf lessAll less placeOf liesIn placeIn blockOf pageOf blockSize saidOf framesOf framed payloads
->>>>>>> a7d8301 (What is said has no branch for short room; sending says what it does not send)
+    saidOf framesOf framed payloads
 wrong-page-said = refl
 
 -- The inner Reset: the premise fails, because the rule completes a good frame. It is met with that frame allowed, where nothing follows it.
@@ -182,14 +174,10 @@ page-changed =
 
 -- So the one changed byte keeps the page out: unchanged it is stored at 0500h, changed it is not, and it is blamed.
 pub page-stored : getD (runBy stepOf thePart (map Byte pageFrame) writingChip .memory .codeFlash) 0x0500 0 ≡ 0xAA
-<<<<<<< HEAD
 unfolding runBy pageFrame dataDoes goodData programPage pageIn pageStored blank allAre putOf putAt nextPage storedReply badData fitting footerOf lengthOf isLastPage
     goodAwaited goodPlaces stepOf settled verdictOf firstOf described _from_to_ _and_ _or_ if_then_else_ goodState goodCollected goodBegun goodCore goodOptions
     fixedBits goodPhase lastBlock freshOptions fresh heard holding hear complete full counted isFrame reactTo byteIn heardByte frameDoes commandDoes judgeOf summed
-    sumOf lessAll less placeOf liesIn placeIn blockOf pageOf blockSize sendOf framesOf framed payloads
-=======
-unfolding runBy pageFrame dataDoes goodData programPage pageIn pageStored blank allAre putOf putAt nextPage storedReply badData fitting footerOf lengthOf isLastPage goodAwaited goodPlaces stepOf settled verdictOf firstOf described _from_to_ _and_ _or_ if_then_else_ goodState goodCollected goodBegun goodCore goodOptions fixedBits goodPhase lastBlock freshOptions fresh heard holding hear complete full counted isFrame reactTo byteIn heardByte frameDoes commandDoes judgeOf summed sumOf lessAll less placeOf liesIn placeIn blockOf pageOf blockSize saidOf framesOf framed payloads
->>>>>>> a7d8301 (What is said has no branch for short room; sending says what it does not send)
+    sumOf lessAll less placeOf liesIn placeIn blockOf pageOf blockSize saidOf framesOf framed payloads
 page-stored = refl
 
 pub page-changed-is-bad : IsBad stepOf thePart writingChip (set pageFrame 259 0x03)

@@ -20,13 +20,8 @@ use Rattle.chip_options.specs.Options.{fixedBits, freshOptions, goodOptions, la
 use Rattle.part.specs.Part.{blockSize, described}
 use Rattle.part.specs.Rate.{acceptsRate, modeOf}
 use Rattle.part.specs.Refusal.{firstOf}
-<<<<<<< HEAD
 use Rattle.replay_records.specs.Records.{eventsOf, goesOn, playedInto, nextBy, played, replayOf, replayedFrom, answering, playBy, playOf, playWith, endedBy, whileWhole}
-use Rattle.chip_reply.specs.Reply.{framesOf, payloads, sendOf}
-=======
-use Rattle.replay_records.specs.Records.{eventsOf, goesOn, kept, nextBy, played, replayOf, replayedFrom, saying, turnBy, turnOf, turnWith, turnedBy, whileWhole}
 use Rattle.chip_reply.specs.Reply.{framesOf, payloads, saidOf}
->>>>>>> a7d8301 (What is said has no branch for short room; sending says what it does not send)
 use Rattle.words.specs.Words.{_and_, _from_to_, _or_, if_then_else_}
 
 abbrev pub wholeCase : List ℕ
@@ -46,15 +41,11 @@ wholePrinted =
     ++ 0x45 ∷ 0x4E ∷ 0x44 ∷ 0x20 ∷ 0x33 ∷ 0x0A ∷ []
 
 pub whole-case : printed wholeCase ≡ wholePrinted
-<<<<<<< HEAD
 unfolding printed linesIn digitsIn lastLine replayOf replayedFrom recordsOf recordsIn nextBy whileWhole playOf playBy playWith recordOf gapRecord bytesRecord unused
     allAre eventsOf played answering goesOn playedInto endedBy stepOf settled verdictOf firstOf described blockSize _from_to_ _and_ _or_ if_then_else_ goodState
     goodCollected goodBegun goodCore goodOptions fixedBits goodPhase lastBlock freshOptions freshChip fresh heard holding hear complete full counted isFrame reactTo
     byteIn modeByte heardByte frameDoes commandDoes judgeOf summed sumOf lessAll less askedIn commandsIn setupCommands readyCommands fitted work rateSet acceptsRate
-    modeOf number3 sendOf framesOf framed payloads security lineOf digitOf separator
-=======
-unfolding printed linesIn digitsIn lastLine replayOf replayedFrom recordsOf recordsIn nextBy whileWhole turnOf turnBy turnWith recordOf gapRecord bytesRecord unused allAre eventsOf played saying goesOn kept turnedBy stepOf settled verdictOf firstOf described blockSize _from_to_ _and_ _or_ if_then_else_ goodState goodCollected goodBegun goodCore goodOptions fixedBits goodPhase lastBlock freshOptions freshChip fresh heard holding hear complete full counted isFrame reactTo byteIn modeByte heardByte frameDoes commandDoes judgeOf summed sumOf lessAll less askedIn commandsIn setupCommands readyCommands fitted work rateSet acceptsRate modeOf number3 saidOf framesOf framed payloads security lineOf digitOf separator
->>>>>>> a7d8301 (What is said has no branch for short room; sending says what it does not send)
+    modeOf number3 saidOf framesOf framed payloads security lineOf digitOf separator
 whole-case = refl
 
 -- An empty capture prints "END 0", a short record "BAD" and its number.

@@ -22,12 +22,8 @@ use Rattle.chip_reply.specs.Reply.{framesOf, payloads, saidOf}
 use Rattle.words.specs.Words.{_and_, _from_to_, _or_, if_then_else_}
 
 pub stars : map (λ (x : Example). x .gives) table ≡ map (λ (x : Example). x .printed) table
-<<<<<<< HEAD
 unfolding table replyTo heardBack answers stepOf settled verdictOf firstOf described _from_to_ _and_ _or_ if_then_else_ goodState goodCollected goodBegun goodCore
     goodOptions fixedBits goodPhase lastBlock freshOptions fresh heard holding hear complete full counted isFrame reactTo byteIn heardByte frameDoes commandDoes
     judgeOf summed sumOf lessAll less askedIn commandsIn readyCommands fitted work blockErase placeOf liesIn placeIn blockOf pageOf blockSize forbidden erasedIn
-    eraseOf putOf putAt checksum rangeOf wholeBlocks startsBlock endsBlock stretch rangeBytes sumOfBytes number3 sendOf framesOf framed payloads
-=======
-unfolding table replyTo heardBack answers stepOf settled verdictOf firstOf described _from_to_ _and_ _or_ if_then_else_ goodState goodCollected goodBegun goodCore goodOptions fixedBits goodPhase lastBlock freshOptions fresh heard holding hear complete full counted isFrame reactTo byteIn heardByte frameDoes commandDoes judgeOf summed sumOf lessAll less askedIn commandsIn readyCommands fitted work blockErase placeOf liesIn placeIn blockOf pageOf blockSize forbidden erasedIn eraseOf putOf putAt checksum rangeOf wholeBlocks startsBlock endsBlock stretch rangeBytes sumOfBytes number3 saidOf framesOf framed payloads
->>>>>>> a7d8301 (What is said has no branch for short room; sending says what it does not send)
+    eraseOf putOf putAt checksum rangeOf wholeBlocks startsBlock endsBlock stretch rangeBytes sumOfBytes number3 saidOf framesOf framed payloads
 stars = refl
