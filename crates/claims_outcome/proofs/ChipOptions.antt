@@ -18,6 +18,8 @@ use Rattle.chip_options.proofs.Options.is_fresh.Reads as Options-is-fresh
 use Rattle.chip_options.proofs.Options.is_fresh.Kinds as Options-is-fresh-kinds
 use Rattle.chip_options.proofs.Options.released.Reads as Options-released
 use Rattle.chip_options.proofs.Options.released.Kinds as Options-released-kinds
+use Rattle.chip_options.proofs.Options.read.Reads as Options-read
+use Rattle.chip_options.proofs.Options.read.Kinds as Options-read-kinds
 use Rattle.chip_options.proofs.Options.security.Reads as Options-security
 use Rattle.chip_options.proofs.Options.security.Kinds as Options-security-kinds
 
@@ -44,6 +46,9 @@ Options-is-fresh-once κs a r s x y p q = p ∙ sym q
 
 pub Options-released-once : Once Options-released-kinds.ps Options-released-kinds.r Options-released.Post (λ κs r x. r)
 Options-released-once κs a r s x y p q = p ∙ sym q
+
+pub Options-read-once : Once Options-read-kinds.ps Options-read-kinds.r Options-read.Post (λ κs r x. r)
+Options-read-once κs a r s x y p q = p ∙ sym q
 
 pub Options-security-once : Once Options-security-kinds.ps Options-security-kinds.r Options-security.Post (λ κs r x. r)
 Options-security-once κs a r s x y p q = p ∙ sym q

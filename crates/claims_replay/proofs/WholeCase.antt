@@ -16,7 +16,8 @@ use Rattle.frame.specs.Judgement.{judgeOf, summed}
 use Rattle.frame.specs.Sum.{less, lessAll, sumOf}
 use Rattle.replay_hex.specs.Hex.{digitOf, lineOf, separator}
 use Rattle.lent.specs.Lent.{allAre}
-use Rattle.chip_options.specs.Options.{fixedBits, freshOptions, goodOptions, lastBlock, security}
+use Rattle.numbers.specs.Numbers.{lowFirst}
+use Rattle.chip_options.specs.Options.{fixedBits, freshOptions, goodOptions, lastBlock, optionBytes, security}
 use Rattle.part.specs.Part.{blockSize, described}
 use Rattle.part.specs.Rate.{acceptsRate, modeOf}
 use Rattle.part.specs.Refusal.{firstOf}
@@ -45,7 +46,7 @@ unfolding printed linesIn digitsIn lastLine replayOf replayedFrom recordsOf reco
     allAre eventsOf played answering goesOn playedInto endedBy stepOf settled verdictOf firstOf described blockSize _from_to_ _and_ _or_ if_then_else_ goodState
     goodCollected goodBegun goodCore goodOptions fixedBits goodPhase lastBlock freshOptions freshChip fresh heard holding hear complete full counted isFrame reactTo
     byteIn modeByte heardByte frameDoes commandDoes judgeOf summed sumOf lessAll less askedIn commandsIn setupCommands readyCommands fitted work rateSet acceptsRate
-    modeOf number3 saidOf framesOf framed payloads security lineOf digitOf separator
+    modeOf number3 saidOf framesOf framed payloads security optionBytes lowFirst lineOf digitOf separator
 whole-case = refl
 
 -- An empty capture prints "END 0", a short record "BAD" and its number.

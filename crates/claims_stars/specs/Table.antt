@@ -12,6 +12,7 @@ use Rattle.frame.specs.Judgement.{judgeOf, statusOf}
 use Rattle.frame.specs.Sum.{sumOf}
 use Rattle.frame.specs.declared.Footer.the-variants.{Last}
 use Rattle.chip_options.specs.Options.{freshOptions}
+use Rattle.chip_options.specs.declared.Options.{Options}
 use Rattle.part.specs.declared.Part.{Part}
 use Rattle.replay_records.specs.Records.{replayPart}
 
@@ -19,14 +20,20 @@ use Rattle.replay_records.specs.Records.{replayPart}
 abbrev pub thePart : Part
 thePart = replayPart
 
--- Ready, all fresh, nothing collected; the room is the least that is accepted.
-abbrev pub readyChip : Outcome
-readyChip =
-    before (record { core = record { options = freshOptions thePart; rate = 0x00; phase = Ready }; collector = fresh })
+-- Ready, flash fresh, nothing collected; the room is the least that is accepted.
+abbrev pub chipWith : Options → Outcome
+chipWith o =
+    before (record { core = record { options = o; rate = 0x00; phase = Ready }; collector = fresh })
     (flash (replicate 16384 0xFF) (replicate 4096 0xFF)) (replicate 32 0x00)
 
-unfoldable pub replyTo : List ℕ → List ℕ
-replyTo bs = heardBack (answers thePart (map Byte bs) readyChip)
+abbrev pub readyChip : Outcome
+readyChip = chipWith (freshOptions thePart)
+
+unfoldable pub replyBy : Outcome → List ℕ → List ℕ
+replyBy chip bs = heardBack (answers thePart (map Byte bs) chip)
+
+abbrev pub replyTo : List ℕ → List ℕ
+replyTo bs = replyBy readyChip bs
 
 pub record Example : Type 0 where
   pub gives : List ℕ
@@ -40,6 +47,9 @@ acknowledged = 0x02 ∷ 0x01 ∷ 0x06 ∷ 0xF9 ∷ 0x03 ∷ []
 
 abbrev pub refusedParameter : List ℕ
 refusedParameter = 0x02 ∷ 0x01 ∷ 0x05 ∷ 0xFA ∷ 0x03 ∷ []
+
+abbrev pub refusedProtection : List ℕ
+refusedProtection = 0x02 ∷ 0x01 ∷ 0x10 ∷ 0xEF ∷ 0x03 ∷ []
 
 unfoldable pub table : List Example
 table =
@@ -62,4 +72,14 @@ table =
     -- 01 07 B0 01 01 00 FF 03 00 45 03 is answered 05h. With its first byte 11h, the inner 01 01 00 FF 03 is a good Reset
     ∷ example (replyTo (0x01 ∷ 0x07 ∷ 0xB0 ∷ 0x01 ∷ 0x01 ∷ 0x00 ∷ 0xFF ∷ 0x03 ∷ 0x00 ∷ 0x45 ∷ 0x03 ∷ [])) refusedParameter
     ∷ example (replyTo (0x11 ∷ 0x07 ∷ 0xB0 ∷ 0x01 ∷ 0x01 ∷ 0x00 ∷ 0xFF ∷ 0x03 ∷ 0x00 ∷ 0x45 ∷ 0x03 ∷ [])) acknowledged
+    ∷ []
+
+-- "judged in this order ..: parameters 05h; protection 10h": while block erase is forbidden, 0401h is answered 05h, and 0400h 10h.
+abbrev pub eraseForbidden : Outcome
+eraseForbidden = chipWith (record { flags = 0xFB; boot = 0x03; start = 0; end = 15 })
+
+unfoldable pub order : List Example
+order =
+    example (replyBy eraseForbidden (0x01 ∷ 0x04 ∷ 0x22 ∷ 0x01 ∷ 0x04 ∷ 0x00 ∷ 0xD5 ∷ 0x03 ∷ [])) refusedParameter
+    ∷ example (replyBy eraseForbidden (0x01 ∷ 0x04 ∷ 0x22 ∷ 0x00 ∷ 0x04 ∷ 0x00 ∷ 0xD6 ∷ 0x03 ∷ [])) refusedProtection
     ∷ []
