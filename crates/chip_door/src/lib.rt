@@ -1,215 +1,247 @@
-// How a chip's state crosses the door as bytes: one layout, read and written here alone. The calls for C and Rust stand in `calls`.
+// The calls for C and Rust. Each takes a part as three numbers and sixteen bytes and a chip's state as 293 lent bytes, and answers a refusal number, 0 where it
+// was not refused; what else it tells goes into lent numbers. Document 01, "Refusal numbers".
 ghost use mathlib.Core.Path.{_≡_};
-ghost use Prim.Native.Nat.{_+_, _≤_};
-ghost use lib.ListN.{drop, length, take};
-ghost use Rattle.numbers.specs.Numbers.{numberAt};
-ghost use Rattle.lent.specs.Lent.{allAre};
-ghost use Rattle.chip_door.specs.Layout.{awaitedIn, awaitedOf, chipIn, collectorIn, coreIn, optionsHeld, headOf, isState, layoutOf, phaseIn, phaseNumber, stateSize};
-use chip_core::Awaited;
-use chip_core::Core;
-use chip_core::Phase;
-use chip_options::Options;
-use chip_state::Chip;
-use frame::collector::Collector;
+ghost use Rattle.chip.specs.declared.Event.the-variants.{Byte, Gap, PowerOn};
+ghost use Rattle.chip_core.specs.Effect.{flash};
+ghost use Rattle.part.specs.Crossing.{partOf};
+ghost use Rattle.part.specs.declared.refusal.Verdict.the-variants.{Accepted};
+ghost use Rattle.chip_door.specs.Calls.{bytesTold, fedThrough, framesTold, freshThrough, made, answerNumber, steppedThrough, feedTold, stepTold};
+use chip::Answer;
+use chip::Event;
+use chip::events;
+use chip_layout::admission;
+use part::refusal::Verdict;
 
-pub mod calls;
-
-// The bytes of a state are known to be there: they are read without a test for each.
-fn number2(bytes: &[u8], at: usize) -> u32
-    requires { ⌜ at + 2 ≤ length (now bytes) ⌝ }
-    ensures { λ r. ⌜ r ≡ numberAt 2 at (now (bytes .entry)) ⌝ }
+fn answer_number(answer: Answer) -> u32
+    ensures { λ r. ⌜ r ≡ answerNumber answer ⌝ }
 {
-    numbers::two(bytes[at], bytes[at + 1]) as u32
+    match answer {
+        Answer::Replied {
+            bytes: n,
+            frames: k,
+        } => 0,
+        Answer::Refused(refusal) => refusal.number() as u32,
+    }
 }
 
-fn number4(bytes: &[u8], at: usize) -> u32
-    requires { ⌜ at + 4 ≤ length (now bytes) ⌝ }
-    ensures { λ r. ⌜ r ≡ numberAt 4 at (now (bytes .entry)) ⌝ }
+fn bytes_told(answer: Answer) -> usize
+    ensures { λ r. ⌜ r ≡ bytesTold answer ⌝ }
 {
-    numbers::four(bytes[at], bytes[at + 1], bytes[at + 2], bytes[at + 3])
+    match answer {
+        Answer::Replied {
+            bytes: n,
+            frames: k,
+        } => n,
+        Answer::Refused(refusal) => 0,
+    }
 }
 
-fn number8(bytes: &[u8], at: usize) -> usize
-    requires { ⌜ at + 8 ≤ length (now bytes) ⌝ }
-    ensures { λ r. ⌜ r ≡ numberAt 8 at (now (bytes .entry)) ⌝ }
+fn frames_told(answer: Answer) -> usize
+    ensures { λ r. ⌜ r ≡ framesTold answer ⌝ }
 {
-    let low = number4(bytes, at);
-    let high = number4(bytes, at + 4);
-    (low as usize) + 4294967296 * (high as usize)
+    match answer {
+        Answer::Replied {
+            bytes: n,
+            frames: k,
+        } => k,
+        Answer::Refused(refusal) => 0,
+    }
 }
 
-// Whether nothing is said to be awaited.
-fn is_nothing_awaited(state: &[u8]) -> bool
-    requires { ⌜ length (now state) ≡ stateSize ⌝ }
-    ensures { λ r. ⌜ r ≡ allAre 0x00 (take 17 (drop 8 (now (state .entry)))) ⌝ }
+// A fresh chip of the part into the lent state.
+#[no_mangle]
+pub extern "C" fn zc_fresh(
+    code_blocks: u32,
+    data_blocks: u32,
+    clock: u32,
+    names: &[u8],
+    state: &mut [u8],
+) -> u32
+    ensures { λ r. ⌜ made r (now (state .exit)) ≡ freshThrough (partOf «code_blocks» «data_blocks» clock (now (names .entry))) (now (state .entry)) ⌝ }
 {
-    lent::are_all(&state[8..25], 0x00)
-}
-
-fn is_state(state: &[u8]) -> bool
-    ensures { λ r. ⌜ r ≡ isState (now (state .entry)) ⌝ }
-{
-    if state.len() == 293 {
-        let n = state[7];
-        if n < 1 {
-            return false;
+    let part = part::crossing::part_of(code_blocks, data_blocks, clock, names);
+    let step = events::fresh(part);
+    let answer = step.answer;
+    match answer {
+        Answer::Replied {
+            bytes: n,
+            frames: k,
+        } => {
+            if state.len() == 293 {
+                chip_layout::lay_chip(step.chip, state);
+                return 0;
+            }
+            9
         }
-        if 4 < n {
-            return false;
+        Answer::Refused(refusal) => refusal.number() as u32,
+    }
+}
+
+fn step(
+    code_blocks: u32,
+    data_blocks: u32,
+    clock: u32,
+    names: &[u8],
+    state: &mut [u8],
+    event: Event,
+    code: &mut [u8],
+    data: &mut [u8],
+    room: &mut [u8],
+    bytes: &mut usize,
+    frames: &mut usize,
+) -> u32
+    ensures { λ r. ⌜ stepTold r (now (bytes .exit)) (now (frames .exit)) (now (state .exit)) (flash (now (code .exit)) (now («data» .exit))) (now (room .exit)) ≡ steppedThrough (partOf «code_blocks» «data_blocks» clock (now (names .entry))) event (now (state .entry)) (flash (now (code .entry)) (now («data» .entry))) (now (room .entry)) ⌝ }
+{
+    let part = part::crossing::part_of(code_blocks, data_blocks, clock, names);
+    let v = admission::chip_admission(part, state, code.len(), data.len());
+    match v {
+        Verdict::Refused(refusal) => {
+            *bytes = 0;
+            *frames = 0;
+            refusal.number() as u32
         }
-        if n == 4 {
-            return true;
+        Verdict::Accepted => {
+            let chip = chip_layout::chip_in(state);
+            let s = events::step(part, chip, event, code, data, room);
+            let answer = s.answer;
+            chip_layout::lay_chip(s.chip, state);
+            *bytes = bytes_told(answer);
+            *frames = frames_told(answer);
+            answer_number(answer)
         }
-        return is_nothing_awaited(state);
-    }
-    false
-}
-
-fn phase_in(n: u8, w: Awaited) -> Phase
-    ensures { λ r. ⌜ r ≡ phaseIn n w ⌝ }
-{
-    if n == 1 {
-        return Phase::ModeByte;
-    }
-    if n == 2 {
-        return Phase::Setup;
-    }
-    if n == 3 {
-        return Phase::Ready;
-    }
-    Phase::Awaiting(w)
-}
-
-fn awaited_in(state: &[u8]) -> Awaited
-    requires { ⌜ length (now state) ≡ stateSize ⌝ }
-    ensures { λ r. ⌜ r ≡ awaitedIn (now (state .entry)) ⌝ }
-{
-    let next = number8(state, 9);
-    let last = number8(state, 17);
-    Awaited {
-        command: state[8],
-        next,
-        last,
     }
 }
 
-fn options_in(state: &[u8]) -> Options
-    requires { ⌜ length (now state) ≡ stateSize ⌝ }
-    ensures { λ r. ⌜ r ≡ optionsHeld (now (state .entry)) ⌝ }
+// A byte comes. The reply, if one is made, lies at the start of the room: so many bytes, so many frames.
+#[no_mangle]
+pub extern "C" fn zc_byte(
+    code_blocks: u32,
+    data_blocks: u32,
+    clock: u32,
+    names: &[u8],
+    state: &mut [u8],
+    b: u8,
+    code: &mut [u8],
+    data: &mut [u8],
+    room: &mut [u8],
+    bytes: &mut usize,
+    frames: &mut usize,
+) -> u32
+    ensures { λ r. ⌜ stepTold r (now (bytes .exit)) (now (frames .exit)) (now (state .exit)) (flash (now (code .exit)) (now («data» .exit))) (now (room .exit)) ≡ steppedThrough (partOf «code_blocks» «data_blocks» clock (now (names .entry))) (Byte b) (now (state .entry)) (flash (now (code .entry)) (now («data» .entry))) (now (room .entry)) ⌝ }
 {
-    let start = number2(state, 2);
-    let end = number2(state, 4);
-    Options {
-        flags: state[0],
-        boot: state[1],
-        start,
-        end,
+    step(
+        code_blocks,
+        data_blocks,
+        clock,
+        names,
+        state,
+        Event::Byte(b),
+        code,
+        data,
+        room,
+        bytes,
+        frames,
+    )
+}
+
+// A gap comes.
+#[no_mangle]
+pub extern "C" fn zc_gap(
+    code_blocks: u32,
+    data_blocks: u32,
+    clock: u32,
+    names: &[u8],
+    state: &mut [u8],
+    code: &mut [u8],
+    data: &mut [u8],
+    room: &mut [u8],
+    bytes: &mut usize,
+    frames: &mut usize,
+) -> u32
+    ensures { λ r. ⌜ stepTold r (now (bytes .exit)) (now (frames .exit)) (now (state .exit)) (flash (now (code .exit)) (now («data» .exit))) (now (room .exit)) ≡ steppedThrough (partOf «code_blocks» «data_blocks» clock (now (names .entry))) Gap (now (state .entry)) (flash (now (code .entry)) (now («data» .entry))) (now (room .entry)) ⌝ }
+{
+    step(
+        code_blocks,
+        data_blocks,
+        clock,
+        names,
+        state,
+        Event::Gap,
+        code,
+        data,
+        room,
+        bytes,
+        frames,
+    )
+}
+
+// Power-on.
+#[no_mangle]
+pub extern "C" fn zc_power_on(
+    code_blocks: u32,
+    data_blocks: u32,
+    clock: u32,
+    names: &[u8],
+    state: &mut [u8],
+    code: &mut [u8],
+    data: &mut [u8],
+    room: &mut [u8],
+    bytes: &mut usize,
+    frames: &mut usize,
+) -> u32
+    ensures { λ r. ⌜ stepTold r (now (bytes .exit)) (now (frames .exit)) (now (state .exit)) (flash (now (code .exit)) (now («data» .exit))) (now (room .exit)) ≡ steppedThrough (partOf «code_blocks» «data_blocks» clock (now (names .entry))) PowerOn (now (state .entry)) (flash (now (code .entry)) (now («data» .entry))) (now (room .entry)) ⌝ }
+{
+    step(
+        code_blocks,
+        data_blocks,
+        clock,
+        names,
+        state,
+        Event::PowerOn,
+        code,
+        data,
+        room,
+        bytes,
+        frames,
+    )
+}
+
+// Bytes one after the other, up to the first that is answered, and how many were taken: the caller hands the rest in again.
+#[no_mangle]
+pub extern "C" fn zc_feed(
+    code_blocks: u32,
+    data_blocks: u32,
+    clock: u32,
+    names: &[u8],
+    state: &mut [u8],
+    fed: &[u8],
+    code: &mut [u8],
+    data: &mut [u8],
+    room: &mut [u8],
+    taken: &mut usize,
+    bytes: &mut usize,
+    frames: &mut usize,
+) -> u32
+    ensures { λ r. ⌜ feedTold r (now (taken .exit)) (now (bytes .exit)) (now (frames .exit)) (now (state .exit)) (flash (now (code .exit)) (now («data» .exit))) (now (room .exit)) ≡ fedThrough (partOf «code_blocks» «data_blocks» clock (now (names .entry))) (now (fed .entry)) (now (state .entry)) (flash (now (code .entry)) (now («data» .entry))) (now (room .entry)) ⌝ }
+{
+    let part = part::crossing::part_of(code_blocks, data_blocks, clock, names);
+    let v = admission::chip_acceptance(part, state, code.len(), data.len(), room.len());
+    match v {
+        Verdict::Refused(refusal) => {
+            *taken = 0;
+            *bytes = 0;
+            *frames = 0;
+            refusal.number() as u32
+        }
+        Verdict::Accepted => {
+            let chip = chip_layout::chip_in(state);
+            let f = events::feed(part, chip, fed, code, data, room);
+            let answer = f.answer;
+            chip_layout::lay_chip(f.chip, state);
+            *taken = f.taken;
+            *bytes = bytes_told(answer);
+            *frames = frames_told(answer);
+            answer_number(answer)
+        }
     }
-}
-
-fn collector_in(state: &[u8]) -> Collector
-    requires { ⌜ length (now state) ≡ stateSize ⌝ }
-    ensures { λ r. ⌜ r ≡ collectorIn (now (state .entry)) ⌝ }
-{
-    let len = number8(state, 25);
-    let mut bytes = [0u8; 260];
-    lent::put(&mut bytes, 0, &state[33..293]);
-    Collector::restored(bytes, len)
-}
-
-fn core_in(state: &[u8]) -> Core
-    requires { ⌜ length (now state) ≡ stateSize ⌝ }
-    ensures { λ r. ⌜ r ≡ coreIn (now (state .entry)) ⌝ }
-{
-    let options = options_in(state);
-    let awaited = awaited_in(state);
-    let phase = phase_in(state[7], awaited);
-    Core {
-        options,
-        rate: state[6],
-        phase,
-    }
-}
-
-fn chip_in(state: &[u8]) -> Chip
-    requires { ⌜ length (now state) ≡ stateSize ⌝ }
-    ensures { λ r. ⌜ r ≡ chipIn (now (state .entry)) ⌝ }
-{
-    let core = core_in(state);
-    let collector = collector_in(state);
-    Chip { core, collector }
-}
-
-fn phase_number(phase: Phase) -> u8
-    ensures { λ r. ⌜ r ≡ phaseNumber phase ⌝ }
-{
-    match phase {
-        Phase::ModeByte => 1,
-        Phase::Setup => 2,
-        Phase::Ready => 3,
-        Phase::Awaiting(w) => 4,
-    }
-}
-
-fn awaited_of(phase: Phase) -> Awaited
-    ensures { λ r. ⌜ r ≡ awaitedOf phase ⌝ }
-{
-    match phase {
-        Phase::ModeByte => Awaited {
-            command: 0x00,
-            next: 0,
-            last: 0,
-        },
-        Phase::Setup => Awaited {
-            command: 0x00,
-            next: 0,
-            last: 0,
-        },
-        Phase::Ready => Awaited {
-            command: 0x00,
-            next: 0,
-            last: 0,
-        },
-        Phase::Awaiting(w) => w,
-    }
-}
-
-fn head(options: Options, rate: u8, phase: u8, command: u8) -> [u8; 9]
-    ensures { λ r. ⌜ r ≡ headOf options rate phase command ⌝ }
-{
-    let start = options.start;
-    let end = options.end;
-    [
-        options.flags,
-        options.boot,
-        (start % 256) as u8,
-        (start / 256 % 256) as u8,
-        (end % 256) as u8,
-        (end / 256 % 256) as u8,
-        rate,
-        phase,
-        command,
-    ]
-}
-
-// The chip's state into the lent bytes.
-fn lay(chip: Chip, state: &mut [u8])
-    requires { ⌜ length (now state) ≡ stateSize ⌝ }
-    ensures { λ r. ⌜ now (state .exit) ≡ layoutOf chip ⌝ }
-{
-    let core = chip.core;
-    let collector = chip.collector;
-    let phase = core.phase;
-    let awaited = awaited_of(phase);
-    let options = core.options;
-    let first = head(options, core.rate, phase_number(phase), awaited.command);
-    let next = numbers::low8(awaited.next);
-    let last = numbers::low8(awaited.last);
-    let count = numbers::low8(collector.len);
-    let bytes = collector.bytes;
-    lent::put(state, 0, &first);
-    lent::put(state, 9, &next);
-    lent::put(state, 17, &last);
-    lent::put(state, 25, &count);
-    lent::put(state, 33, &bytes);
 }

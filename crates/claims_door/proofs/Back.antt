@@ -11,7 +11,8 @@ use lib.Seq.{drop-cons, getD-drop, getD-take, length-take-le, take-add, take-all
 use borrow.Author.Tests.{eqb-true, leb-true, ne-eqb}
 use Rattle.chip_state.specs.declared.Chip.{Chip}
 use Rattle.claims_door.specs.Held.{Held}
-use Rattle.chip_door.specs.Layout.{awaitedIn, awaitedOf, chipIn, collectorIn, headOf, isState, layoutOf, optionsHeld, phaseIn, phaseNumber}
+use Rattle.chip_layout.proofs.Laws.{chip-in-is, state-long}
+use Rattle.chip_layout.specs.Layout.{awaitedHeld, awaitedOf, chipIn, collectorIn, coreIn, headOf, isState, chipBytes, optionsHeld, phaseIn, phaseNumber}
 use Rattle.chip_core.specs.declared.Awaited.{Awaited}
 use Rattle.chip_core.specs.declared.Phase.{Phase}
 use Rattle.chip_core.specs.declared.Phase.the-variants.{Awaiting, ModeByte, Ready, Setup}
@@ -54,11 +55,15 @@ waits cmd next last = Awaiting (record { command = cmd; next = next; last = last
 same-waits : {n m l k : ℕ} (cmd : ℕ) → n ≡ m → l ≡ k → waits cmd n l ≡ waits cmd m k
 same-waits {n} {m} {l} {k} cmd e f = ap (λ (x : ℕ). waits cmd x l) e ∙ ap (λ (x : ℕ). waits cmd m x) f
 
+-- What stands in as many bytes as a state has.
+abbrev heldIn : List ℕ → Chip
+heldIn bs = record { core = coreIn bs; collector = collectorIn bs }
+
 -- The four phases, each read back.
 back : (flags boot start end rate : ℕ) (f : Phase) (bytes : List ℕ) (len : ℕ) → start < 256 ^ 2 → end < 256 ^ 2 → awaitedOf f .next < 256 ^ 8
     → awaitedOf f .last < 256 ^ 8 → len < 256 ^ 8 → length bytes ≡ 260
-    → chipIn (layoutOf (made flags boot start end rate f bytes len)) ≡ made flags boot start end rate f bytes len
-unfolding chipIn layoutOf headOf lowFirst numberAt optionsHeld awaitedIn collectorIn phaseIn if_then_else_ together
+    → heldIn (chipBytes (made flags boot start end rate f bytes len)) ≡ made flags boot start end rate f bytes len
+unfolding chipBytes headOf lowFirst numberAt optionsHeld awaitedHeld collectorIn phaseIn if_then_else_ together
 back flags boot start end rate ModeByte bytes len s e n l c p =
     same flags boot rate (together-is 2 start s) (together-is 2 end e) (refl {a = ModeByte}) (take-all 260 bytes (omega arith)) (together-is 8 len c)
 back flags boot start end rate Setup bytes len s e n l c p =
@@ -68,22 +73,23 @@ back flags boot start end rate Ready bytes len s e n l c p =
 back flags boot start end rate (Awaiting w) bytes len s e n l c p =
     same flags boot rate (together-is 2 start s) (together-is 2 end e) (same-waits (w .command) (together-is 8 (w .next) n) (together-is 8 (w .last) l)) (take-all 260 bytes (omega arith)) (together-is 8 len c)
 
--- A chip that is written is read back the same.
-pub read-back : (c : Chip) → Held c → chipIn (layoutOf c) ≡ c
-read-back c h =
-    back (c .core .options .flags) (c .core .options .boot) (c .core .options .start) (c .core .options .end) (c .core .rate) (c .core .phase) (c .collector .bytes) (c .collector .len) (h .start) (h .end) (h .next) (h .last) (h .count) (h .places)
-
 -- What is written is a state.
 state : (o : Options) (rate : ℕ) (f : Phase) (bytes : List ℕ) (len : ℕ) → length bytes ≡ 260
-    → isState (layoutOf (record { core = record { options = o; rate = rate; phase = f }; collector = record { bytes = bytes; len = len } })) ≡ true
-unfolding isState layoutOf headOf lowFirst allAre _and_ _or_ _from_to_
+    → isState (chipBytes (record { core = record { options = o; rate = rate; phase = f }; collector = record { bytes = bytes; len = len } })) ≡ true
+unfolding isState chipBytes headOf lowFirst allAre _and_ _or_ _from_to_
 state o rate ModeByte bytes len p = rw p
 state o rate Setup bytes len p = rw p
 state o rate Ready bytes len p = rw p
 state o rate (Awaiting w) bytes len p = rw p
 
-pub written-state : (c : Chip) → length (c .collector .bytes) ≡ 260 → isState (layoutOf c) ≡ true
+pub written-state : (c : Chip) → length (c .collector .bytes) ≡ 260 → isState (chipBytes c) ≡ true
 written-state c p = state (c .core .options) (c .core .rate) (c .core .phase) (c .collector .bytes) (c .collector .len) p
+
+-- A chip that is written is read back the same.
+pub read-back : (c : Chip) → Held c → chipIn (chipBytes c) ≡ c
+read-back c h =
+    chip-in-is (chipBytes c) (state-long (chipBytes c) (written-state c (h .places)))
+    ∙ back (c .core .options .flags) (c .core .options .boot) (c .core .options .start) (c .core .options .end) (c .core .rate) (c .core .phase) (c .collector .bytes) (c .collector .len) (h .start) (h .end) (h .next) (h .last) (h .count) (h .places)
 
 -- Bytes from a place on, one by one.
 unfoldable bytesAt : ℕ → ℕ → List ℕ → List ℕ
@@ -117,8 +123,8 @@ zeros bs (suc k) at e h j l = omega (arith, zero-at bs at e h j (omega arith), z
 none : Awaited
 none = record { command = 0x00; next = 0; last = 0 }
 
-none-awaited : (bs : List ℕ) → allAre 0x00 (take 17 (drop 8 bs)) ≡ true → 25 ≤ length bs → none ≡ awaitedIn bs
-unfolding awaitedIn none
+none-awaited : (bs : List ℕ) → allAre 0x00 (take 17 (drop 8 bs)) ≡ true → 25 ≤ length bs → none ≡ awaitedHeld bs
+unfolding awaitedHeld none
 none-awaited bs e h =
     ap (λ (x : ℕ). record { command = x; next = 0; last = 0 }) (sym (zero-at bs 8 e h (omega arith) (omega arith)))
     ∙ ap (λ (x : ℕ). record { command = getD bs 8 0; next = x; last = 0 }) (sym (zeros bs 8 9 e h (omega arith) (omega arith)))
@@ -170,22 +176,25 @@ joined : (bs : List ℕ) → length bs ≡ 293 → take 9 bs ++ take 8 (drop 9 b
 joined bs h = rw (← take-add 9 8 bs, ← take-add 17 8 bs, ← take-add 25 8 bs, ← take-add 33 260 bs) (take-all 293 bs (omega arith))
 
 -- Bytes that are a state are written back the same.
-pub written-back : (bs : List ℕ) → Below 256 bs → isState bs ≡ true → layoutOf (chipIn bs) ≡ bs
-unfolding isState layoutOf chipIn collectorIn awaitedIn _from_to_ _or_
-written-back bs b e =
+held-back : (bs : List ℕ) → Below 256 bs → isState bs ≡ true → chipBytes (heldIn bs) ≡ bs
+unfolding isState chipBytes collectorIn awaitedHeld _from_to_ _or_
+held-back bs b e =
     let long : length bs ≡ 293 = eqb-true _ _ (and-left _ _ e) in
     let range = and-left _ _ (and-right _ _ e) in
     let low : 1 ≤ getD bs 7 0 = leb-true _ _ (and-left _ _ range) in
     let high : getD bs 7 0 ≤ 4 = leb-true _ _ (and-right _ _ range) in
     let kind = and-right _ _ (and-right _ _ e) in
-    let w : awaitedOf (phaseIn (getD bs 7 0) (awaitedIn bs)) ≡ awaitedIn bs = awaited-back (getD bs 7 0) (awaitedIn bs) low high (λ n. none-awaited bs (or-right (ne-eqb _ _ n) kind) (omega arith)) in
-    pieces bs (awaitedOf (phaseIn (getD bs 7 0) (awaitedIn bs))) (phaseNumber (phaseIn (getD bs 7 0) (awaitedIn bs))) b long w (phase-back (getD bs 7 0) (awaitedIn bs) low high)
+    let w : awaitedOf (phaseIn (getD bs 7 0) (awaitedHeld bs)) ≡ awaitedHeld bs = awaited-back (getD bs 7 0) (awaitedHeld bs) low high (λ n. none-awaited bs (or-right (ne-eqb _ _ n) kind) (omega arith)) in
+    pieces bs (awaitedOf (phaseIn (getD bs 7 0) (awaitedHeld bs))) (phaseNumber (phaseIn (getD bs 7 0) (awaitedHeld bs))) b long w (phase-back (getD bs 7 0) (awaitedHeld bs) low high)
   where
     or-right : {t u : Bool} → t ≡ false → t or u ≡ true → u ≡ true
     or-right {t} {u} f e = sym (ap (λ (x : Bool). x or u) f) ∙ e
 
-    pieces : (bs : List ℕ) (w : Awaited) (q : ℕ) → Below 256 bs → length bs ≡ 293 → w ≡ awaitedIn bs → q ≡ getD bs 7 0
+    pieces : (bs : List ℕ) (w : Awaited) (q : ℕ) → Below 256 bs → length bs ≡ 293 → w ≡ awaitedHeld bs → q ≡ getD bs 7 0
         → headOf (optionsHeld bs) (getD bs 6 0) q (w .command) ++ lowFirst 8 (w .next) ++ lowFirst 8 (w .last) ++ lowFirst 8 (numberAt 8 25 bs) ++ take 260 (drop 33 bs) ≡ bs
     pieces bs w q b h e f =
         let each : (i : ℕ) → getD bs i 0 < 256 = λ i. below-at i (omega arith) b in
         rw (head-back bs q (w .command) b (omega arith) f (ap (λ (x : Awaited). x .command) e), ap (λ (x : Awaited). lowFirst 8 (x .next)) e, ap (λ (x : Awaited). lowFirst 8 (x .last)) e, low-number 8 9 bs each (omega arith), low-number 8 17 bs each (omega arith), low-number 8 25 bs each (omega arith)) (joined bs h)
+
+pub written-back : (bs : List ℕ) → Below 256 bs → isState bs ≡ true → chipBytes (chipIn bs) ≡ bs
+written-back bs b e = ap chipBytes (chip-in-is bs (state-long bs e)) ∙ held-back bs b e

@@ -2,17 +2,18 @@
 -- Assumes nothing.
 use mathlib.Core.Bool.{true}
 use mathlib.Core.List.{List}
-use mathlib.Core.Path.{_≡_, refl}
+use mathlib.Core.Path.{_∙_, _≡_, refl}
 use Prim.Native.Nat.{ℕ}
 use lib.ListN.{length}
-use Rattle.chip.specs.Step.{Reaction, reactTo, settled, stepOf}
+use Rattle.chip.specs.Step.{Outcome, Reaction, reactTo, settled, stepOf}
 use Rattle.chip_state.specs.Refusals.{verdictOn}
 use Rattle.chip.specs.declared.Event.{Event}
 use Rattle.claims_door.proofs.Back.{written-back}
 use Rattle.claims_door.specs.Kept.{Kept}
-use Rattle.chip_door.proofs.Laws.{admitted}
-use Rattle.chip_door.specs.Calls.{admission, bytesTold, framesTold, refusalNumber, stepTold, steppedBy, steppedThrough}
-use Rattle.chip_door.specs.Layout.{chipIn, isState, layoutOf}
+use Rattle.chip_layout.proofs.Laws.{admitted, chip-laid-is, state-long}
+use Rattle.chip_door.specs.Calls.{answerNumber, bytesTold, framesTold, StepTold, stepTold, steppedBy, steppedThrough}
+use Rattle.chip_layout.specs.Admission.{chipAdmission}
+use Rattle.chip_layout.specs.Layout.{chipIn, chipLaid, isState}
 use Rattle.chip_core.specs.Effect.{Flash}
 use Rattle.frame.proofs.Laws.Sum.{Below}
 use Rattle.frame.specs.Collector.{heard}
@@ -20,12 +21,15 @@ use Rattle.part.specs.declared.Part.{Part}
 use Rattle.part.specs.declared.refusal.Verdict.{Verdict}
 use Rattle.part.specs.declared.refusal.Verdict.the-variants.{Accepted, Refused}
 
+abbrev toldOf : Outcome → List ℕ → StepTold
+toldOf o state = stepTold (answerNumber (o .answer)) (bytesTold (o .answer)) (framesTold (o .answer)) (chipLaid (o .chip) state) (o .memory) (o .room)
+
 -- The chip is asked, and refuses: it hands the chip back as it was, and that is written back as the bytes it was read from.
 asked : (u : Verdict) (p : Part) (x : Reaction) (state : List ℕ) (m : Flash) (room : List ℕ) → Below 256 state → isState state ≡ true
-    → (refusalNumber (settled u p x (chipIn state) m room .answer) ≡ 0 → ⊥)
-    → Kept (stepTold (refusalNumber (settled u p x (chipIn state) m room .answer)) (bytesTold (settled u p x (chipIn state) m room .answer)) (framesTold (settled u p x (chipIn state) m room .answer)) (layoutOf (settled u p x (chipIn state) m room .chip)) (settled u p x (chipIn state) m room .memory) (settled u p x (chipIn state) m room .room)) state m room
-unfolding settled refusalNumber
-asked (Refused r) p x state m room b e h = record { stateStays = written-back state b e; flashStays = refl; roomStays = refl }
+    → (answerNumber (settled u p x (chipIn state) m room .answer) ≡ 0 → ⊥)
+    → Kept (toldOf (settled u p x (chipIn state) m room) state) state m room
+unfolding settled answerNumber
+asked (Refused r) p x state m room b e h = record { stateStays = chip-laid-is _ state (state-long state e) ∙ written-back state b e; flashStays = refl; roomStays = refl }
 asked Accepted p x state m room b e h = absurd (h refl)
 
 admits-kept : (u : Verdict) (p : Part) (v : Event) (state : List ℕ) (m : Flash) (room : List ℕ) → Below 256 state → (u ≡ Accepted → isState state ≡ true)
@@ -43,4 +47,4 @@ unfolding steppedThrough
 refused-keeps p v state m room b h =
     let x = length (m .codeFlash) in
     let y = length (m .dataFlash) in
-    admits-kept (admission p state x y) p v state m room b (λ e. admitted p state x y e .held) h
+    admits-kept (chipAdmission p state x y) p v state m room b (λ e. admitted p state x y e .held) h

@@ -3,7 +3,7 @@ use mathlib.Core.Path.{_≡_}
 use Prim.Native.Nat.{_<_, _^_}
 use lib.ListN.{length}
 use Rattle.chip_state.specs.declared.Chip.{Chip}
-use Rattle.chip_door.specs.Layout.{awaitedOf}
+use Rattle.chip_layout.specs.Layout.{awaitedOf}
 
 pub record Held (c : Chip) : Type 0 where
   pub start : c .core .options .start < 256 ^ 2

@@ -2,6 +2,7 @@ pub mod Outcome
 pub mod Chip
 pub mod ChipCommands
 pub mod ChipCore
+pub mod ChipLayout
 pub mod ChipDoor
 pub mod ChipFlash
 pub mod ChipOptions
@@ -22,3 +23,4 @@ pub mod Part
 pub mod ReplayCapture
 pub mod ReplayHex
 pub mod ReplayRecords
+pub mod ReplayDoor

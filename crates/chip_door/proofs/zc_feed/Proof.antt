@@ -1,0 +1,38 @@
+-- `chip_door::zc_feed` meets its contract: as `step`, by the chip's `feed`.
+-- Assumes nothing.
+use borrow.Author.Needs.{needs}
+use Rattle.chip_door.specs.Calls.{fedBy, fedThrough}
+use Rattle.chip_door.proofs.zc_feed.Statement.{statement}
+use Rattle.chip_door.proofs.zc_feed.Tie as tie
+
+returns : tie.Need-returns
+unfolding fedThrough fedBy
+returns c = simp (← c .before .before .before .before .before .before .part-of .ensures, ← c .before .before .before .before .chip-acceptance .ensures, c .before .before .v .given .1, ← c .number .ensures)
+
+returns-2 : tie.Need-returns-2
+unfolding fedThrough fedBy
+returns-2 c = simp (← c .before .before .before .before .before .before .before .before .before .before .before .before .before .before .before .before .before .before .before .before .before .before .before .part-of .ensures, ← c .before .before .before .before .before .before .before .before .before .before .before .before .before .before .before .before .before .before .before .before .before .chip-acceptance .ensures, c .before .before .before .before .before .before .before .before .before .before .before .before .before .before .before .before .before .before .before .enum-told .given .1, ← c .before .before .before .before .before .before .before .before .before .before .before .before .before .before .before .before .before .chip-in .ensures, ← c .before .before .before .before .before .before .before .before .before .before .before .before .before .feed .ensures, ← c .before .before .before .before .before .lay-chip .ensures, ← c .before .before .bytes-told .ensures, ← c .before .frames-told .ensures, ← c .answer-number .ensures)
+
+pub zc-feed-spec : {M : Type 1} → statement M
+zc-feed-spec =
+    tie.close
+    (tie.spec
+    (λ c κs. search needs)
+    (λ c κs. search needs)
+    (λ c. search needs)
+    (λ c κs. search needs)
+    (λ c. search needs)
+    (λ c. search needs)
+    (λ c κs. search needs)
+    (λ c κs. search needs)
+    (λ c κs. search needs)
+    (λ c κs. search needs)
+    (λ c κs. search needs)
+    (λ c κs. search needs)
+    (λ c. search needs)
+    returns
+    (λ c. search needs)
+    (λ c. search needs)
+    (λ c. search needs)
+    (λ c. search needs)
+    returns-2)

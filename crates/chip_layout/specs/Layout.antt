@@ -1,0 +1,78 @@
+-- How a chip's state crosses the door as bytes: one layout of 293 bytes. Numbers cross as the crate `numbers` says, a part as `part` says.
+use mathlib.Core.Bool.{Bool}
+use mathlib.Core.List.{List, [], _++_, _∷_}
+use Prim.Native.Nat.{_%_, _/_, ℕ}
+use lib.Dec.{eqb}
+use lib.ListN.{drop, getD, length, take}
+use Rattle.chip_state.specs.declared.Chip.{Chip}
+use Rattle.chip_core.specs.declared.Awaited.{Awaited}
+use Rattle.chip_core.specs.declared.Core.{Core}
+use Rattle.chip_core.specs.declared.Phase.{Phase}
+use Rattle.chip_core.specs.declared.Phase.the-variants.{Awaiting, ModeByte, Ready, Setup}
+use Rattle.frame.specs.Collector.{fresh}
+use Rattle.frame.specs.declared.collector.Collector.{Collector}
+use Rattle.numbers.specs.Numbers.{lowFirst, numberAt}
+use Rattle.lent.specs.Lent.{allAre}
+use Rattle.chip_options.specs.declared.Options.{Options}
+use Rattle.words.specs.Words.{_and_, _from_to_, _or_, if_then_else_}
+
+-- The phases by the document's numbers, 1 to 4. Only phase 4 awaits: in the others command, next and last address are 0.
+abbrev pub phaseNumber : Phase → ℕ
+phaseNumber ModeByte = 1
+phaseNumber Setup = 2
+phaseNumber Ready = 3
+phaseNumber (Awaiting w) = 4
+
+abbrev pub awaitedOf : Phase → Awaited
+awaitedOf ModeByte = record { command = 0x00; next = 0; last = 0 }
+awaitedOf Setup = record { command = 0x00; next = 0; last = 0 }
+awaitedOf Ready = record { command = 0x00; next = 0; last = 0 }
+awaitedOf (Awaiting w) = w
+
+-- Bytes 0 to 8: flags, last boot block, window start and end (two bytes each), rate, phase, and the command that awaits data.
+unfoldable pub headOf : Options → ℕ → ℕ → ℕ → List ℕ
+headOf o rate phase cmd = o .flags ∷ o .boot ∷ o .start % 256 ∷ o .start / 256 % 256 ∷ o .end % 256 ∷ o .end / 256 % 256 ∷ rate ∷ phase ∷ cmd ∷ []
+
+-- Then next address, last address and the count of what is collected, eight bytes each (from 9, 17 and 25 on), and from 33 on the collector's 260 bytes.
+unfoldable pub chipBytes : Chip → List ℕ
+chipBytes c =
+    let w = awaitedOf (c .core .phase) in
+    headOf (c .core .options) (c .core .rate) (phaseNumber (c .core .phase)) (w .command)
+    ++ lowFirst 8 (w .next) ++ lowFirst 8 (w .last) ++ lowFirst 8 (c .collector .len) ++ c .collector .bytes
+
+abbrev pub stateSize : ℕ
+stateSize = 293
+
+-- Bytes that are a state: 293 of them, with a phase from 1 to 4, and nothing awaited but in phase 4. Whether the state is one that the chip accepts, the
+-- chip says.
+unfoldable pub isState : List ℕ → Bool
+isState bs =
+    eqb (length bs) stateSize
+    and getD bs 7 0 from 1 to 4
+    and (eqb (getD bs 7 0) 4 or allAre 0x00 (take 17 (drop 8 bs)))
+
+unfoldable pub phaseIn : ℕ → Awaited → Phase
+phaseIn n w = if eqb n 1 then ModeByte else if eqb n 2 then Setup else if eqb n 3 then Ready else Awaiting w
+
+unfoldable pub awaitedHeld : List ℕ → Awaited
+awaitedHeld bs = record { command = getD bs 8 0; next = numberAt 8 9 bs; last = numberAt 8 17 bs }
+
+unfoldable pub optionsHeld : List ℕ → Options
+optionsHeld bs = record { flags = getD bs 0 0; boot = getD bs 1 0; start = numberAt 2 2 bs; end = numberAt 2 4 bs }
+
+unfoldable pub collectorIn : List ℕ → Collector
+collectorIn bs = record { bytes = take 260 (drop 33 bs); len = numberAt 8 25 bs }
+
+abbrev pub coreIn : List ℕ → Core
+coreIn bs = record { options = optionsHeld bs; rate = getD bs 6 0; phase = phaseIn (getD bs 7 0) (awaitedHeld bs) }
+
+-- Bytes of another number are no state: they are read as a chip that awaits a mode byte and has no options.
+abbrev pub noChip : Chip
+noChip = record { core = record { options = record { flags = 0; boot = 0; start = 0; end = 0 }; rate = 0x00; phase = ModeByte }; collector = fresh }
+
+unfoldable pub chipIn : List ℕ → Chip
+chipIn bs = if eqb (length bs) stateSize then record { core = coreIn bs; collector = collectorIn bs } else noChip
+
+-- A chip into lent bytes: where they are not as many as a state has, they stay.
+unfoldable pub chipLaid : Chip → List ℕ → List ℕ
+chipLaid c bs = if eqb (length bs) stateSize then chipBytes c else bs

@@ -1,0 +1,25 @@
+-- `replay_door::play` meets its contract: the chip is read, the records are played, and what that leaves is written.
+-- Assumes nothing.
+use borrow.Author.Needs.{needs}
+use Rattle.replay_door.specs.Calls.{replayedBy}
+use Rattle.replay_door.proofs.play.Statement.{statement}
+use Rattle.replay_door.proofs.play.Tie as tie
+
+returns : tie.Need-returns
+unfolding replayedBy
+returns c = simp (← c .before .before .before .before .before .before .before .before .before .before .before .before .before .before .before .before .before .before .chip-in .ensures, ← c .before .before .before .before .before .before .before .before .before .before .before .before .before .replay .ensures, ← c .before .before .before .lay-chip .ensures, ← c .end-number .ensures)
+
+pub play-spec : {M : Type 1} → statement M
+play-spec =
+    tie.close
+    (tie.spec
+    (λ c κs. search needs)
+    (λ c κs. search needs)
+    (λ c κs. search needs)
+    (λ c κs. search needs)
+    (λ c. search needs)
+    (λ c. search needs)
+    (λ c. search needs)
+    (λ c. search needs)
+    (λ c. search needs)
+    returns)

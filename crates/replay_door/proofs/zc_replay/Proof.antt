@@ -1,0 +1,34 @@
+-- `replay_door::zc_replay` meets its contract: barred, it changes nothing; accepted, its records are played.
+-- Assumes nothing.
+use borrow.Author.Needs.{needs}
+use Rattle.replay_door.specs.Calls.{replayedBy, replayedThrough}
+use Rattle.replay_door.proofs.zc_replay.Statement.{statement}
+use Rattle.replay_door.proofs.zc_replay.Tie as tie
+
+returns : tie.Need-returns
+unfolding replayedThrough replayedBy
+returns c = simp (← c .before .before .before .before .before .before .part-of .ensures, ← c .before .before .before .before .chip-acceptance .ensures, c .before .before .v .given .1, ← c .number .ensures)
+
+returns-2 : tie.Need-returns-2
+unfolding replayedThrough
+returns-2 c = simp (← c .before .before .before .before .before .before .before .before .before .before .before .before .before .before .before .before .before .before .before .before .before .before .before .part-of .ensures, ← c .before .before .before .before .before .before .before .before .before .before .before .before .before .before .before .before .before .before .before .before .before .chip-acceptance .ensures, c .before .before .before .before .before .before .before .before .before .before .before .before .before .before .before .before .before .before .before .enum-told .given .1, ← c .before .before .before .before .before .before .before .before .before .before .play .ensures)
+
+pub zc-replay-spec : {M : Type 1} → statement M
+zc-replay-spec =
+    tie.close
+    (tie.spec
+    (λ c κs. search needs)
+    (λ c κs. search needs)
+    (λ c. search needs)
+    (λ c κs. search needs)
+    (λ c. search needs)
+    (λ c. search needs)
+    (λ c κs. search needs)
+    (λ c. search needs)
+    returns
+    (λ c. search needs)
+    (λ c. search needs)
+    (λ c. search needs)
+    (λ c. search needs)
+    (λ c. search needs)
+    returns-2)
