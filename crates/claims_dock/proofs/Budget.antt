@@ -14,7 +14,9 @@ use Rattle.dock_answer.specs.declared.Decoded.{Decoded}
 use Rattle.dock_answer.specs.declared.Decoded.the-variants.{Garbled, Said}
 use Rattle.claims_dock.specs.Examples.{at}
 use Rattle.dock_flow.proofs.Laws.{not-last}
-use Rattle.dock_flow.specs.Flow.{Heard, afterAnswer, afterHeard, afterSetup, afterStatus, afterWork, answered, blockAt, blockFrom, erasing, failing, fails, formAt, isBlankCheck, lastPage, leads, next, pageAt, pageOfWork, restart, retried, saysNotBlank, setupCommand, setupFrom, firstStage, silence}
+use Rattle.dock_flow.specs.Flow.{Heard, afterAnswer, afterHeard, afterSetup, afterStatus, afterWork, answered, blockFrom, failing, fails, firstStage, inBlock, leads, next, retried, saysNotBlank, setupFrom, silence}
+use Rattle.dock_flow.specs.Frames.{queryAt}
+use Rattle.dock_flow.specs.Frames.{lastPage, queryAt}
 use Rattle.dock_flow.specs.declared.Turned.{Turned}
 use Rattle.dock_job.proofs.Laws.{block-yes, page-is, page-yes, pages-some, place-is, verified-is}
 use Rattle.dock_job.specs.Job.{blocksOf, bound, isOver, pagesOf, perBlock, setup}
@@ -40,20 +42,20 @@ workNeeds n (ProgramPage p) = 1 + (n - p) + n
 workNeeds n VerifyBlock = 1 + n
 workNeeds n (VerifyPage p) = n - p
 
-unfoldable pub leftIn : Setup → List Setup → ℕ
-leftIn s [] = 0
-leftIn s (x ∷ xs) = if eqb (setupCommand s) (setupCommand x) then length (x ∷ xs) else leftIn s xs
+unfoldable pub leftIn : Job → Setup → List Setup → ℕ
+leftIn j s [] = 0
+leftIn j s (x ∷ xs) = if eqb (queryAt j (SetUp s) .command) (queryAt j (SetUp x) .command) then length (x ∷ xs) else leftIn j s xs
 
 unfoldable pub needs : Job → Stage → ℕ
-needs j (SetUp s) = leftIn s (setup j) + perBlock j * blocksOf j
+needs j (SetUp s) = leftIn j s (setup j) + perBlock j * blocksOf j
 needs j (InBlock k w) = workNeeds (pagesOf j) w + perBlock j * (blocksOf j - (k + 1))
 needs j (Over e) = 0
 
 one-more : (q a b : ℕ) → a ≡ b + 1 → q * a ≡ q * b + q
 one-more q a b e = rw e (omega arith)
 
-setup-some : (j : Job) (s : Setup) → 1 ≤ leftIn s (setup j)
-unfolding leftIn setup if_then_else_
+setup-some : (j : Job) (s : Setup) → 1 ≤ leftIn j s (setup j)
+unfolding queryAt leftIn setup if_then_else_
 setup-some j BaudRate = omega arith
 setup-some j ResetChip = omega arith
 setup-some j SiliconSignature = omega arith
@@ -103,7 +105,7 @@ the-rest j k = go (ltb k (blocksOf j)) refl
     go false e = record { good = refl; few = omega arith }
 
 setup-kept : (j : Job) (used : ℕ) (s : Setup) → used ≤ j .retries → Kept j used (SetUp s) (leads (afterSetup j s (setup j)) 0)
-unfolding afterSetup setupFrom setup leftIn if_then_else_ needs goodStage
+unfolding queryAt afterSetup setupFrom setup leftIn if_then_else_ needs goodStage
 setup-kept j used BaudRate u = free j used (SetUp BaudRate) (SetUp ResetChip) u refl (omega arith)
 setup-kept j used ResetChip u = free j used (SetUp ResetChip) (SetUp SiliconSignature) u refl (omega arith)
 setup-kept j used SiliconSignature u =
@@ -155,36 +157,34 @@ next-kept j used (SetUp s) u g o = setup-kept j used s u
 next-kept j used (InBlock k w) u g o = work-kept j used k u (place-is j k w g .in-job) w (place-is j k w g .in-block)
 next-kept j used (Over e) u g o = absurd (true≢false o)
 
-named-page : (j : Job) (w : Work) → goodWork j w ≡ true → goodNamedPage j (pageOfWork w) ≡ true
-unfolding goodNamedPage pageOfWork goodWork
-named-page j Blank g = refl
-named-page j Erase g = refl
-named-page j Program g = refl
-named-page j (ProgramPage p) g = g
-named-page j VerifyBlock g = refl
-named-page j (VerifyPage p) g = g
-
-failing-good : (j : Job) (c : Cause) (s : ℕ) (st : Stage) → goodStage j st ≡ true → goodFailure j (failing c s st) ≡ true
-unfolding goodFailure goodNamedBlock goodNamedPage blockAt pageAt _and_
-failing-good j c s (SetUp x) g = refl
-failing-good j c s (InBlock k w) g = and-both (place-is j k w g .in-job) (named-page j w (place-is j k w g .in-block))
+failing-good : (j : Job) (c : Cause) (s : ℕ) (st : Stage) → goodStage j st ≡ true → goodFailure j (failing c s (queryAt j st)) ≡ true
+unfolding goodFailure goodNamedBlock goodNamedPage queryAt goodWork _and_
+failing-good j c s (SetUp BaudRate) g = refl
+failing-good j c s (SetUp ResetChip) g = refl
+failing-good j c s (SetUp SiliconSignature) g = refl
+failing-good j c s (InBlock k Blank) g = and-both (place-is j k Blank g .in-job) refl
+failing-good j c s (InBlock k Erase) g = and-both (place-is j k Erase g .in-job) refl
+failing-good j c s (InBlock k Program) g = and-both (place-is j k Program g .in-job) refl
+failing-good j c s (InBlock k (ProgramPage p)) g = let q = place-is j k (ProgramPage p) g in and-both (q .in-job) (q .in-block)
+failing-good j c s (InBlock k VerifyBlock) g = and-both (place-is j k VerifyBlock g .in-job) refl
+failing-good j c s (InBlock k (VerifyPage p)) g = let q = place-is j k (VerifyPage p) g in and-both (q .in-job) (q .in-block)
 failing-good j c s (Over e) g = refl
 
 fails-kept : (j : Job) (used : ℕ) (st : Stage) (c : Cause) (s : ℕ) → used ≤ j .retries → goodStage j st ≡ true → isOver st ≡ false
-    → Kept j used st (fails c s st)
+    → Kept j used st (fails j c s st)
 unfolding needs goodStage goodEnding
 fails-kept j used st c s u g o =
-    free j used st (Over (Failed (failing c s st))) u (failing-good j c s st g) (omega (arith, needs-some j st g o))
+    free j used st (Over (Failed (failing c s (queryAt j st)))) u (failing-good j c s st g) (omega (arith, needs-some j st g o))
 
-restart-good : (j : Job) (st : Stage) → goodStage j st ≡ true → goodStage j (restart st) ≡ true
-unfolding restart goodStage goodWork
+restart-good : (j : Job) (st : Stage) → goodStage j st ≡ true → goodStage j (inBlock Blank st) ≡ true
+unfolding inBlock goodStage goodWork
 restart-good j (SetUp s) g = refl
 restart-good j (InBlock k w) g = and-both (place-is j k w g .in-job) refl
 restart-good j (Over e) g = g
 
 -- A restart needs at most a block's frames more, less the one that was answered.
-restart-few : (j : Job) (st : Stage) → goodStage j st ≡ true → isOver st ≡ false → 1 + needs j (restart st) ≤ needs j st + perBlock j
-unfolding restart needs isOver workNeeds
+restart-few : (j : Job) (st : Stage) → goodStage j st ≡ true → isOver st ≡ false → 1 + needs j (inBlock Blank st) ≤ needs j st + perBlock j
+unfolding inBlock needs isOver workNeeds
 restart-few j (SetUp s) g o = omega arith
 restart-few j (InBlock k w) g o = omega (arith, work-some j w (place-is j k w g .in-block))
 restart-few j (Over e) g o = absurd (true≢false o)
@@ -193,7 +193,7 @@ retried-kept : (j : Job) (used : ℕ) (st : Stage) (s : ℕ) → used ≤ j .ret
 unfolding retried if_then_else_
 retried-kept j used st s u g o = go (ltb used (j .retries)) refl
   where
-    go : (t : Bool) → ltb used (j .retries) ≡ t → Kept j used st (if t then leads (restart st) 1 else fails UnexpectedStatus s st)
+    go : (t : Bool) → ltb used (j .retries) ≡ t → Kept j used st (if t then leads (inBlock Blank st) 1 else fails j UnexpectedStatus s st)
     go true e =
         let h : used < j .retries = ltb-true used (j .retries) e in
         let m = one-more (perBlock j) (j .retries - used) (j .retries - (used + 1)) (omega arith) in
@@ -201,20 +201,19 @@ retried-kept j used st s u g o = go (ltb used (j .retries)) refl
     go false e = fails-kept j used st UnexpectedStatus s u g o
 
 -- 22h comes only after 32h.
-erasing-kept : (j : Job) (used : ℕ) (st : Stage) (s : ℕ) → used ≤ j .retries → goodStage j st ≡ true → saysNotBlank st s ≡ true
-    → Kept j used st (leads (erasing st) 0)
-unfolding saysNotBlank erasing isBlankCheck goodWork workNeeds
-erasing-kept j used (SetUp x) s u g n = absurd (false≢true n)
-erasing-kept j used (InBlock k w) s u g n = go w (and-left _ _ n)
-  where
-    go : (w : Work) → isBlankCheck w ≡ true → Kept j used (InBlock k w) (leads (InBlock k Erase) 0)
-    go Blank e = within j used k u (place-is j k w g .in-job) Blank Erase refl (omega arith)
-    go Erase e = absurd (false≢true e)
-    go Program e = absurd (false≢true e)
-    go (ProgramPage p) e = absurd (false≢true e)
-    go VerifyBlock e = absurd (false≢true e)
-    go (VerifyPage p) e = absurd (false≢true e)
-erasing-kept j used (Over e) s u g n = absurd (false≢true n)
+erasing-kept : (j : Job) (used : ℕ) (st : Stage) (s : ℕ) → used ≤ j .retries → goodStage j st ≡ true → saysNotBlank j st s ≡ true
+    → Kept j used st (leads (inBlock Erase st) 0)
+unfolding saysNotBlank inBlock queryAt goodWork workNeeds
+erasing-kept j used (SetUp BaudRate) s u g n = absurd (false≢true (and-left _ _ n))
+erasing-kept j used (SetUp ResetChip) s u g n = absurd (false≢true (and-left _ _ n))
+erasing-kept j used (SetUp SiliconSignature) s u g n = absurd (false≢true (and-left _ _ n))
+erasing-kept j used (InBlock k Blank) s u g n = within j used k u (place-is j k Blank g .in-job) Blank Erase refl (omega arith)
+erasing-kept j used (InBlock k Erase) s u g n = absurd (false≢true (and-left _ _ n))
+erasing-kept j used (InBlock k Program) s u g n = absurd (false≢true (and-left _ _ n))
+erasing-kept j used (InBlock k (ProgramPage p)) s u g n = absurd (false≢true (and-left _ _ n))
+erasing-kept j used (InBlock k VerifyBlock) s u g n = absurd (false≢true (and-left _ _ n))
+erasing-kept j used (InBlock k (VerifyPage p)) s u g n = absurd (false≢true (and-left _ _ n))
+erasing-kept j used (Over e) s u g n = absurd (false≢true (and-left _ _ n))
 
 status-kept : (j : Job) (used : ℕ) (st : Stage) (s : ℕ) (m : Bool) → used ≤ j .retries → goodStage j st ≡ true → isOver st ≡ false
     → Kept j used st (afterStatus j used st s m)
@@ -222,17 +221,17 @@ unfolding afterStatus if_then_else_
 status-kept j used st s m u g o =
     if-both (Kept j used st) (eqb s 0x06)
     (if-both (Kept j used st) m (next-kept j used st u g o) (fails-kept j used st Mismatch 0x06 u g o))
-    (go (saysNotBlank st s) refl)
+    (go (saysNotBlank j st s) refl)
   where
-    go : (t : Bool) → saysNotBlank st s ≡ t
-        → Kept j used st (if t then leads (erasing st) 0 else if eqb s 0x07 or eqb s 0x15 then retried j used st s else fails UnexpectedStatus s st)
+    go : (t : Bool) → saysNotBlank j st s ≡ t
+        → Kept j used st (if t then leads (inBlock Erase st) 0 else if eqb s 0x07 or eqb s 0x15 then retried j used st s else fails j UnexpectedStatus s st)
     go true e = erasing-kept j used st s u g e
     go false e = if-both (Kept j used st) (eqb s 0x07 or eqb s 0x15) (retried-kept j used st s u g o) (fails-kept j used st UnexpectedStatus s u g o)
 
 pub heard-kept : (j : Job) (used : ℕ) (st : Stage) (h : Heard) → used ≤ j .retries → goodStage j st ≡ true → isOver st ≡ false
     → Kept j used st (afterHeard j used st h)
 unfolding afterHeard afterAnswer
-heard-kept j used st (answered bs) u g o = go (readAnswer (j .part) (j .supply) (formAt j st) bs)
+heard-kept j used st (answered bs) u g o = go (readAnswer (j .part) (j .supply) (queryAt j st .form) bs)
   where
     go : (d : Decoded) → Kept j used st (afterAnswer j used st d)
     go (Said s m) = status-kept j used st s m u g o
@@ -241,7 +240,7 @@ heard-kept j used st silence u g o = fails-kept j used st TimedOut 0x00 u g o
 
 -- At the start what is needed, and a block's frames for each retry allowed, are the bound.
 pub start-needs : (j : Job) → needs j (firstStage j) + perBlock j * j .retries ≡ bound j
-unfolding needs setupFrom setup leftIn if_then_else_ bound
+unfolding queryAt needs setupFrom setup leftIn if_then_else_ bound
 start-needs j = omega arith
 
 pub start-good : (j : Job) → goodStage j (firstStage j) ≡ true

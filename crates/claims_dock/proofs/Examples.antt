@@ -5,7 +5,8 @@ use mathlib.Core.Path.{_≡_, refl}
 use lib.ListN.{length}
 use Rattle.dock_answer.specs.Answer.{carriedBy, deciding, exactly, matching, rateMatches, readAnswer, readable, shape, signatureMatches, statuses}
 use Rattle.claims_dock.specs.Examples.{Frame, Place, RefusalRow, frames, places, refusals, theImage, theJob, worst}
-use Rattle.dock_flow.specs.Flow.{afterAnswer, afterHeard, afterSetup, afterStatus, afterWork, blockAt, blockFrom, commandAt, erasing, exchanges, flow, formAt, frameAt, framesIn, isBlankCheck, lastPage, next, pageAt, pageFooter, pageOfWork, placeAfter, restart, retried, saysNotBlank, setupForm, setupFrame, setupFrom, spentIn, workCommand, workForm, workFrame}
+use Rattle.dock_flow.specs.Flow.{afterAnswer, afterHeard, afterSetup, afterStatus, afterWork, blockFrom, exchanges, flow, framesIn, inBlock, next, placeAfter, retried, saysNotBlank, setupFrom, spentIn}
+use Rattle.dock_flow.specs.Frames.{frameAt, lastPage, pageFooter, queryAt, setupFrame, storedForm, workFrame}
 use Rattle.frame.specs.Frame.{counted, framed, isFrame}
 use Rattle.frame.specs.Judgement.{judgeOf, summed}
 use Rattle.frame.specs.Sum.{less, lessAll, sumOf}
@@ -23,16 +24,16 @@ use Rattle.part.specs.Signature.{signature}
 use Rattle.words.specs.Words.{_and_, _from_to_, _or_, if_then_else_}
 
 pub frames-printed : map (λ (x : Frame). x .gives) frames ≡ map (λ (x : Frame). x .printed) frames
-unfolding frames flow exchanges placeAfter framesIn spentIn afterHeard afterAnswer afterStatus retried next afterSetup setupFrom setup afterWork blockFrom restart erasing saysNotBlank isBlankCheck commandAt workCommand pageAt pageOfWork blockAt formAt setupForm workForm lastPage frameAt setupFrame workFrame pageFooter readAnswer readable exactly carriedBy shape statuses deciding matching rateMatches signatureMatches same signature lowFirst lastOf blockSize rangeOf wholeBlocks liesIn startsBlock endsBlock stretch blockOf modeOf readOf framed counted isFrame judgeOf summed sumOf lessAll less blocksIn areaIn isOver bound _and_ _or_ if_then_else_
+unfolding frames flow exchanges placeAfter framesIn spentIn afterHeard afterAnswer afterStatus retried next afterSetup setupFrom setup afterWork blockFrom inBlock saysNotBlank queryAt storedForm lastPage frameAt setupFrame workFrame pageFooter readAnswer readable exactly carriedBy shape statuses deciding matching rateMatches signatureMatches same signature lowFirst lastOf blockSize rangeOf wholeBlocks liesIn startsBlock endsBlock stretch blockOf modeOf readOf framed counted isFrame judgeOf summed sumOf lessAll less blocksIn areaIn isOver bound _and_ _or_ if_then_else_
 frames-printed = refl
 
 pub places-expected : map (λ (x : Place). x .stands) places ≡ map (λ (x : Place). x .expected) places
-unfolding places flow exchanges placeAfter framesIn spentIn afterHeard afterAnswer afterStatus retried next afterSetup setupFrom setup afterWork blockFrom restart erasing saysNotBlank isBlankCheck commandAt workCommand pageAt pageOfWork blockAt formAt setupForm workForm lastPage frameAt setupFrame workFrame pageFooter readAnswer readable exactly carriedBy shape statuses deciding matching rateMatches signatureMatches same signature lowFirst lastOf blockSize rangeOf wholeBlocks liesIn startsBlock endsBlock stretch blockOf modeOf readOf framed counted isFrame judgeOf summed sumOf lessAll less blocksIn areaIn isOver bound _and_ _or_ if_then_else_
+unfolding places flow exchanges placeAfter framesIn spentIn afterHeard afterAnswer afterStatus retried next afterSetup setupFrom setup afterWork blockFrom inBlock saysNotBlank queryAt storedForm lastPage frameAt setupFrame workFrame pageFooter readAnswer readable exactly carriedBy shape statuses deciding matching rateMatches signatureMatches same signature lowFirst lastOf blockSize rangeOf wholeBlocks liesIn startsBlock endsBlock stretch blockOf modeOf readOf framed counted isFrame judgeOf summed sumOf lessAll less blocksIn areaIn isOver bound _and_ _or_ if_then_else_
 places-expected = refl
 
 -- "at most 3 + 12(B + R) frames": 39 for two blocks and one retry, and that many are sent.
 pub bound-reached : (length (flow theJob theImage worst .sent) ≡ 39) × (flow theJob theImage worst .spent ≡ 1) × (flow theJob theImage worst .place ≡ Over Finished) × (bound theJob ≡ 39)
-unfolding worst flow exchanges placeAfter framesIn spentIn afterHeard afterAnswer afterStatus retried next afterSetup setupFrom setup afterWork blockFrom restart erasing saysNotBlank isBlankCheck commandAt workCommand pageAt pageOfWork blockAt formAt setupForm workForm lastPage frameAt setupFrame workFrame pageFooter readAnswer readable exactly carriedBy shape statuses deciding matching rateMatches signatureMatches same signature lowFirst lastOf blockSize rangeOf wholeBlocks liesIn startsBlock endsBlock stretch blockOf modeOf readOf framed counted isFrame judgeOf summed sumOf lessAll less blocksIn areaIn isOver bound _and_ _or_ if_then_else_
+unfolding worst flow exchanges placeAfter framesIn spentIn afterHeard afterAnswer afterStatus retried next afterSetup setupFrom setup afterWork blockFrom inBlock saysNotBlank queryAt storedForm lastPage frameAt setupFrame workFrame pageFooter readAnswer readable exactly carriedBy shape statuses deciding matching rateMatches signatureMatches same signature lowFirst lastOf blockSize rangeOf wholeBlocks liesIn startsBlock endsBlock stretch blockOf modeOf readOf framed counted isFrame judgeOf summed sumOf lessAll less blocksIn areaIn isOver bound _and_ _or_ if_then_else_
 bound-reached = (refl, refl, refl, refl)
 
 pub refusals-expected : map (λ (x : RefusalRow). x .gives) refusals ≡ map (λ (x : RefusalRow). x .expected) refusals

@@ -1,4 +1,4 @@
--- The stepped dock is the flow: for every accepted job, every history and every room of 260 bytes, the frames handed out are those of the flow, in
+-- The stepped dock is the flow: for every accepted job, every history and every room of 260 bytes, the frames hands-out out are those of the flow, in
 -- order, the dock stands at the flow's place, and its two counts are the number of frames sent and of retries spent in the flow.
 -- Assumes nothing.
 use mathlib.Core.Bool.{Bool, false, true, true≢false}
@@ -12,11 +12,13 @@ use Rattle.claims_dock.proofs.Bounds.{ask-denied, hear-denied}
 use Rattle.claims_dock.proofs.Budget.{Kept, heard-kept, needs, needs-some, start-good, start-needs}
 use Rattle.claims_dock.specs.Examples.{frames}
 use Rattle.claims_dock.specs.Stepping.{Course, asFlow, handedOut, stepping}
-use Rattle.dock.specs.Calls.{Asking, askOf, asked, asking, freshDock, hearOf, placing, sending, startOf, starting, stepped, turning}
+use Rattle.dock.specs.Calls.{Asking, askOf, asked, asking, freshDock, hearOf, sending, startOf, starting, stepped, turning}
 use Rattle.dock.specs.declared.Report.the-variants.{Put}
 use Rattle.dock.specs.declared.Report.the-variants as Report
 use Rattle.dock.specs.declared.Stepped.{Stepped}
-use Rattle.dock_flow.specs.Flow.{Exchange, Flow, Heard, afterHeard, exchanges, flow, frameAt, framesIn, placeAfter, firstStage, spentIn}
+use Rattle.dock_flow.specs.Flow.{Exchange, Flow, Heard, afterHeard, exchanges, firstStage, flow, framesIn, placeAfter, spentIn}
+use Rattle.dock_flow.specs.Frames.{handed, placing, sendOf}
+use Rattle.dock_flow.specs.Frames.{frameAt, handed, placing, sendOf}
 use Rattle.frame.proofs.Laws.Sum.{none}
 use Rattle.dock_job.proofs.Laws.{Accepts, GoodDock, accepts, ask-accepted, asked-is, tell-accepted, told-is}
 use Rattle.dock_job.specs.Job.{bound, isOver, perBlock}
@@ -116,10 +118,10 @@ onward j image st used n h hs o =
     (counts (placeAfter j (used + t .spent) (t .stage) hs) (used + t .spent + spentIn xs) (used + (t .spent + spentIn xs)) (n + 1 + length (framesIn xs)) (n + suc (length (framesIn xs)))
     (omega arith) (omega arith)))
 
--- The frame that is due is handed out, and what is heard moves the dock on as the flow says.
+-- The frame that is due is hands-out out, and what is heard moves the dock on as the flow says.
 sent-asked : (j : Job) (image room : List ℕ) (d : Dock) → callVerdict j (length image) (Asks d (length room)) ≡ Accepted
     → askOf j image d room ≡ asking (stepped (Put (length (frameAt j image (d .stage)))) (sending d)) (placing (frameAt j image (d .stage)) room .room)
-unfolding askOf asked
+unfolding askOf asked sendOf handed
 sent-asked j image room d e = rw e
 
 moved-told : (j : Job) (image : List ℕ) (d : Dock) (h : Heard) → callVerdict j (length image) (Tells d) ≡ Accepted
@@ -127,9 +129,9 @@ moved-told : (j : Job) (image : List ℕ) (d : Dock) (h : Heard) → callVerdict
 unfolding hearOf
 moved-told j image d h e = rw e
 
-handed : (f room : List ℕ) → handedOut (Put (length f)) (f ++ drop (length f) room) ≡ f ∷ []
+hands-out : (f room : List ℕ) → handedOut (Put (length f)) (f ++ drop (length f) room) ≡ f ∷ []
 unfolding handedOut
-handed f room = rw (take-append-seam f (drop (length f) room))
+hands-out f room = rw (take-append-seam f (drop (length f) room))
 
 steps : (j : Job) (image : List ℕ) (hs : List Heard) (room : List ℕ) (st : Stage) (used n : ℕ) → Accepts j (length image) Begins → 260 ≤ length room
     → goodStage j st ≡ true → used ≤ j .retries → n + needs j st + perBlock j * (j .retries - used) ≤ bound j
@@ -170,7 +172,7 @@ steps j image (h ∷ hs) room st used n b r g u i =
         let l : 260 ≤ length room′ = rw (length-append, length-drop) (omega arith) in
         step-by j image room d h hs (asking (stepped (Put (length f)) (sending d)) room′) (turning Accepted (sending d) t) (sent-asked j image room d a) (moved-told j image (sending d) h w)
         ∙ ap (λ (x : List (List ℕ)). record { sent = x ++ stepping j image room′ (at (t .stage) (used + t .spent) (n + 1)) hs .sent; dock = stepping j image room′ (at (t .stage) (used + t .spent) (n + 1)) hs .dock })
-        (handed f room)
+        (hands-out f room)
         ∙ ap (λ (c : Course). record { sent = f ∷ c .sent; dock = c .dock }) (rest room′ l (heard-kept j used st h u g o))
         ∙ onward j image st used n h hs o
 

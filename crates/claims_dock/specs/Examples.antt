@@ -3,7 +3,8 @@ use mathlib.Core.Bool.{Bool, false, true}
 use mathlib.Core.List.{List, [], _++_, _∷_}
 use Prim.Native.Nat.{ℕ}
 use lib.ListN.{replicate}
-use Rattle.dock_flow.specs.Flow.{Heard, answered, flow, frameAt, silence}
+use Rattle.dock_flow.specs.Flow.{Heard, answered, flow, silence}
+use Rattle.dock_flow.specs.Frames.{frameAt}
 use Rattle.frame.specs.Frame.{dataFrame}
 use Rattle.frame.specs.declared.Footer.the-variants.{Last, More}
 use Rattle.dock_job.specs.Refusals.{callVerdict}

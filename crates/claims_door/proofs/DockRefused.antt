@@ -8,12 +8,14 @@ use lib.Dec.{eqb}
 use lib.ListN.{length}
 use Rattle.claims_door.proofs.DockBack.{dock-written-back}
 use Rattle.claims_door.specs.Docked.{AskKept}
-use Rattle.dock.specs.Calls.{Placed, askOf, asked, hearOf, moved, placing, standing, startOf, turning}
+use Rattle.dock.specs.Calls.{Asking, askOf, asked, hearOf, moved, standing, startOf, turning}
 use Rattle.dock.specs.declared.Stepped.{Stepped}
 use Rattle.dock_door.proofs.Laws.{admitted}
-use Rattle.dock_door.specs.Calls.{admission, askThrough, askTold, askedBy, bytesPut, hearThrough, heardBy, refusalNumber, startThrough, startTold, startedBy, toldOf}
+use Rattle.dock_door.specs.Calls.{AskTold, admission, askThrough, askTold, askedBy, bytesPut, hearThrough, heardBy, refusalNumber, startThrough, startTold, startedBy, toldOf}
 use Rattle.dock_door.specs.Layout.{dockIn, dockSize, isDock, layoutOf}
-use Rattle.dock_flow.specs.Flow.{Heard, afterHeard, frameAt}
+use Rattle.dock_flow.specs.Flow.{Heard, afterHeard}
+use Rattle.dock_flow.specs.Frames.{handed, placing, sendOf}
+use Rattle.dock_flow.specs.Frames.{Placed, frameAt, handed, placing, sendOf}
 use Rattle.dock_flow.specs.declared.Turned.{Turned}
 use Rattle.dock_job.specs.Refusals.{callVerdict}
 use Rattle.dock_job.specs.declared.Dock.{Dock}
@@ -27,16 +29,20 @@ use Rattle.part.specs.declared.refusal.Verdict.{Verdict}
 use Rattle.part.specs.declared.refusal.Verdict.the-variants.{Accepted, Refused}
 use Rattle.words.specs.Words.{if_then_else_}
 
+abbrev askAnswered : Asking → AskTold
+askAnswered a = askTold (refusalNumber (a .report)) (bytesPut (a .report)) (layoutOf (a .dock)) (a .room)
+
 -- The dock is asked, and refuses: it hands the dock back as it was, and that is written back as the bytes it was read from.
-asks-kept : (u : Verdict) (f : Placed) (state room : List ℕ) → isDock state ≡ true → (refusalNumber (asked u f (dockIn state) room .report) ≡ 0 → ⊥)
-    → AskKept (askTold (refusalNumber (asked u f (dockIn state) room .report)) (bytesPut (asked u f (dockIn state) room .report)) (layoutOf (asked u f (dockIn state) room .dock)) (asked u f (dockIn state) room .room)) state room
-unfolding asked refusalNumber
+asks-kept : (u : Verdict) (f : Placed) (state room : List ℕ) → isDock state ≡ true
+    → (refusalNumber (asked (handed u f room) (handed u f room .answer) (dockIn state) .report) ≡ 0 → ⊥)
+    → AskKept (askAnswered (asked (handed u f room) (handed u f room .answer) (dockIn state))) state room
+unfolding asked handed refusalNumber
 asks-kept (Refused r) f state room e h = record { stateStays = dock-written-back state e; roomStays = refl }
 asks-kept Accepted f state room e h = absurd (h refl)
 
 asked-kept : (u : Verdict) (j : Job) (image state room : List ℕ) → (u ≡ Accepted → isDock state ≡ true) → (askedBy u j image state room .refusal ≡ 0 → ⊥)
     → AskKept (askedBy u j image state room) state room
-unfolding askedBy askOf
+unfolding askedBy askOf sendOf
 asked-kept (Refused r) j image state room e h = record { stateStays = refl; roomStays = refl }
 asked-kept Accepted j image state room e h =
     asks-kept (callVerdict j (length image) (Asks (dockIn state) (length room))) (placing (frameAt j image (dockIn state .stage)) room) state room (e refl) h

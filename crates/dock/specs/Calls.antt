@@ -1,14 +1,18 @@
 -- The calls on the dock: to start, to ask for the next frame, to hand in an answer, to report a timeout. Document 01, "The dock's flow" and "Refusal
 -- numbers". A refused call changes nothing.
 use mathlib.Core.Bool.{false, true}
-use mathlib.Core.List.{List, _++_}
+use mathlib.Core.List.{List}
 use Prim.Native.Nat.{_+_, ℕ}
-use lib.ListN.{drop, length}
+use lib.ListN.{length}
 use Rattle.dock.specs.declared.Report.{Report}
 use Rattle.dock.specs.declared.Report.the-variants.{Due, Ended, Put}
 use Rattle.dock.specs.declared.Report.the-variants as Report
 use Rattle.dock.specs.declared.Stepped.{Stepped}
-use Rattle.dock_flow.specs.Flow.{Heard, afterHeard, firstStage, frameAt}
+use Rattle.dock_flow.specs.Flow.{Heard, afterHeard, firstStage}
+use Rattle.dock_flow.specs.Frames.{Handing, sendOf}
+use Rattle.dock_flow.specs.declared.frames.Handed.{Handed}
+use Rattle.dock_flow.specs.declared.frames.Handed.the-variants.{Sent}
+use Rattle.dock_flow.specs.declared.frames.Handed.the-variants as Handed
 use Rattle.dock_flow.specs.declared.Turned.{Turned}
 use Rattle.frame.specs.Framing.{frames}
 use Rattle.dock_job.specs.Refusals.{callVerdict}
@@ -16,7 +20,7 @@ use Rattle.dock_job.specs.declared.Dock.{Dock}
 use Rattle.dock_job.specs.declared.Job.{Job}
 use Rattle.dock_job.specs.declared.Stage.{Stage}
 use Rattle.dock_job.specs.declared.Stage.the-variants.{InBlock, Over, SetUp}
-use Rattle.dock_job.specs.declared.refusals.Call.the-variants.{Asks, Begins, Tells}
+use Rattle.dock_job.specs.declared.refusals.Call.the-variants.{Begins, Tells}
 use Rattle.part.specs.declared.refusal.Verdict.{Verdict}
 use Rattle.part.specs.declared.refusal.Verdict.the-variants.{Accepted}
 use Rattle.part.specs.declared.refusal.Verdict.the-variants as Verdict
@@ -54,23 +58,13 @@ asking s room = record { report = s .report; dock = s .dock; room = room }
 abbrev pub sending : Dock → Dock
 sending d = record { stage = d .stage; awaited = true; retries = d .retries; frames = d .frames + 1 }
 
--- The frame lies at the start of the room, and the room past it stays.
-pub record Placed : Type 0 where
-  pub long : ℕ
-  pub room : List ℕ
-
-abbrev pub placed : ℕ → List ℕ → Placed
-placed n r = record { long = n; room = r }
-
-abbrev pub placing : List ℕ → List ℕ → Placed
-placing f room = placed (length f) (f ++ drop (length f) room)
-
-unfoldable pub asked : Verdict → Placed → Dock → List ℕ → Asking
-asked (Verdict.Refused r) f d room = asking (stepped (Report.Refused r) d) room
-asked Accepted f d room = asking (stepped (Put (f .long)) (sending d)) (f .room)
+-- The stage's frame is put into the room, or the call refused.
+unfoldable pub asked : Handing → Handed → Dock → Asking
+asked h (Handed.Refused r) d = asking (stepped (Report.Refused r) d) (h .room)
+asked h (Sent n) d = asking (stepped (Put n) (sending d)) (h .room)
 
 unfoldable pub askOf : Job → List ℕ → Dock → List ℕ → Asking
-askOf j image d room = asked (callVerdict j (length image) (Asks d (length room))) (placing (frameAt j image (d .stage)) room) d room
+askOf j image d room = let h = sendOf j image d room in asked h (h .answer) d
 
 -- A dock after what was heard.
 abbrev pub moved : Dock → Turned → Dock

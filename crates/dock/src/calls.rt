@@ -7,8 +7,9 @@ ghost use Rattle.dock.specs.Calls.{startOf, asking, askOf, hearOf, stand
 use super::Account;
 use super::Report;
 use super::Stepped;
-use super::frames;
 use dock_flow::Turned;
+use dock_flow::frames;
+use dock_flow::frames::Handed;
 use dock_job::Dock;
 use dock_job::Job;
 use dock_job::Stage;
@@ -44,22 +45,14 @@ pub fn start(job: Job, image: &[u8]) -> Stepped
 pub fn ask(job: Job, image: &[u8], dock: Dock, room: &mut [u8]) -> Stepped
     ensures { λ r. ⌜ asking r (now (room .exit)) ≡ askOf job (now (image .entry)) dock (now (room .entry)) ⌝ }
 {
-    let v = refusals::verdict(
-        job,
-        image.len(),
-        Call::Asks {
-            dock,
-            room: room.len(),
-        },
-    );
-    match v {
-        Verdict::Refused(refusal) => Stepped {
+    let handed = frames::send(job, image, dock, room);
+    match handed {
+        Handed::Refused(refusal) => Stepped {
             report: Report::Refused(refusal),
             dock,
         },
-        Verdict::Accepted => {
+        Handed::Sent(n) => {
             let stage = dock.stage;
-            let n = frames::send(job, image, stage, room);
             Stepped {
                 report: Report::Put(n),
                 dock: Dock {
@@ -116,12 +109,9 @@ pub fn answer(job: Job, image: &[u8], dock: Dock, bytes: &[u8]) -> Stepped
         },
         Verdict::Accepted => {
             let stage = dock.stage;
-            let form = dock_flow::form_at(job, stage);
-            let part = job.part;
-            let decoded = dock_answer::read(part, job.supply, form, bytes);
             moved(
                 dock,
-                dock_flow::after_answer(job, dock.retries, stage, decoded),
+                dock_flow::after_answer(job, dock.retries, stage, bytes),
             )
         }
     }
@@ -139,7 +129,7 @@ pub fn timeout(job: Job, image: &[u8], dock: Dock) -> Stepped
         },
         Verdict::Accepted => {
             let stage = dock.stage;
-            moved(dock, dock_flow::after_timeout(stage))
+            moved(dock, dock_flow::after_timeout(job, stage))
         }
     }
 }

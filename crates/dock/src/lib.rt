@@ -4,7 +4,6 @@ use dock_job::Ending;
 use part::refusal::Refusal;
 
 pub mod calls;
-mod frames;
 
 // How a job ended, with the frames and retries used.
 pub struct Account {

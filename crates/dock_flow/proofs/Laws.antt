@@ -9,12 +9,14 @@ use borrow.Author.Tests.{leb-false, ltb-true}
 use Rattle.dock_answer.specs.Answer.{readAnswer}
 use Rattle.dock_answer.specs.declared.Decoded.{Decoded}
 use Rattle.dock_answer.specs.declared.Decoded.the-variants.{Garbled, Said}
-use Rattle.dock_flow.specs.Flow.{Heard, afterAnswer, afterHeard, afterStatus, answered, fails, formAt, lastPage, leads, restart, retried, saysNotBlank, silence}
+use Rattle.dock_flow.specs.Flow.{Heard, afterAnswer, afterHeard, afterStatus, afterTimeout, answered, fails, inBlock, leads, retried, saysNotBlank, silence}
+use Rattle.dock_flow.specs.Frames.{lastPage, queryAt}
 use Rattle.dock_flow.specs.declared.Turned.{Turned}
 use Rattle.dock_job.specs.Job.{areaOf, pagesOf}
 use Rattle.dock_job.specs.declared.Cause.the-variants.{UnexpectedStatus}
 use Rattle.dock_job.specs.declared.Job.{Job}
 use Rattle.dock_job.specs.declared.Stage.{Stage}
+use Rattle.dock_job.specs.declared.Work.the-variants.{Blank}
 use Rattle.part.proofs.Laws.{pages-small}
 use Rattle.words.proofs.Laws.{if-both}
 use Rattle.words.specs.Words.{_or_, if_then_else_}
@@ -38,7 +40,7 @@ retried-within : (j : Job) (used : ℕ) (st : Stage) (s : ℕ) → used ≤ j .r
 unfolding retried if_then_else_
 retried-within j used st s h = go (ltb used (j .retries)) refl
   where
-    go : (t : Bool) → ltb used (j .retries) ≡ t → Within j used (if t then leads (restart st) 1 else fails UnexpectedStatus s st)
+    go : (t : Bool) → ltb used (j .retries) ≡ t → Within j used (if t then leads (inBlock Blank st) 1 else fails j UnexpectedStatus s st)
     go true e = record { allowed = omega (arith, ltb-true used (j .retries) e) }
     go false e = within-none j used _ h
 
@@ -46,7 +48,7 @@ status-within : (j : Job) (used : ℕ) (st : Stage) (s : ℕ) (m : Bool) → use
 unfolding afterStatus
 status-within j used st s m h =
     if-both (Within j used) (eqb s 0x06) (if-both (Within j used) m (within-none j used _ h) (within-none j used _ h))
-    (if-both (Within j used) (saysNotBlank st s) (within-none j used _ h)
+    (if-both (Within j used) (saysNotBlank j st s) (within-none j used _ h)
     (if-both (Within j used) (eqb s 0x07 or eqb s 0x15) (retried-within j used st s h) (within-none j used _ h)))
 
 pub answer-within : (j : Job) (used : ℕ) (st : Stage) (d : Decoded) → used ≤ j .retries → Within j used (afterAnswer j used st d)
@@ -56,5 +58,9 @@ answer-within j used st Garbled h = within-none j used _ h
 
 pub heard-within : (j : Job) (used : ℕ) (st : Stage) (h : Heard) → used ≤ j .retries → Within j used (afterHeard j used st h)
 unfolding afterHeard
-heard-within j used st (answered bs) l = answer-within j used st (readAnswer (j .part) (j .supply) (formAt j st) bs) l
+heard-within j used st (answered bs) l = answer-within j used st (readAnswer (j .part) (j .supply) (queryAt j st .form) bs) l
 heard-within j used st silence l = within-none j used _ l
+
+pub heard-silence : (j : Job) (used : ℕ) (st : Stage) → afterHeard j used st silence ≡ afterTimeout j st
+unfolding afterHeard
+heard-silence j used st = refl

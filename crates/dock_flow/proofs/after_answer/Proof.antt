@@ -1,19 +1,13 @@
--- `dock_flow::after_answer` meets its contract: what was decoded is taken apart.
+-- `dock_flow::after_answer` meets its contract: the stage's form is read, and what it says leads on.
 -- Assumes nothing.
 use borrow.Author.Needs.{needs}
-use Rattle.dock_flow.specs.Flow.{afterAnswer}
+use Rattle.dock_flow.specs.Flow.{afterHeard}
 use Rattle.dock_flow.proofs.after_answer.Statement.{statement}
 use Rattle.dock_flow.proofs.after_answer.Tie as tie
 
 returns : tie.Need-returns
-unfolding afterAnswer
-returns c = simp (c .before .enum-told .given .1, ← c .fails .ensures)
-
-returns-2 : tie.Need-returns-2
-unfolding afterAnswer
-returns-2 c = simp (c .before .before .decoded .given .1, ← c .after-status .ensures)
+unfolding afterHeard
+returns c = simp (← c .before .before .before .query-at .ensures, ← c .before .read .ensures, ← c .after-reading .ensures)
 
 pub after-answer-spec : {M : Type 1} → statement M
-after-answer-spec =
-    tie.close
-    (tie.spec (λ c. search needs) (λ c. search needs) (λ c κs. search needs) returns (λ c κs. search needs) returns-2)
+after-answer-spec = tie.close (tie.spec (λ c κs. search needs) (λ c κs. search needs) (λ c κs. search needs) returns)

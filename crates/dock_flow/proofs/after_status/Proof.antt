@@ -17,7 +17,7 @@ returns-2 c = simp (eq-eqb _ _ (c .before .before .if1 .taken), c .before .if2 .
 
 returns-3 : tie.Need-returns-3
 unfolding afterStatus if_then_else_ _or_
-returns-3 c = simp (ne-eqb _ _ (c .before .before .before .if1 .left), ← c .before .before .says-not-blank .ensures, c .before .if3 .taken, ← c .erasing .ensures)
+returns-3 c = simp (ne-eqb _ _ (c .before .before .before .if1 .left), ← c .before .before .says-not-blank .ensures, c .before .if3 .taken, ← c .in-block .ensures)
 
 returns-4 : tie.Need-returns-4
 unfolding afterStatus if_then_else_ _or_

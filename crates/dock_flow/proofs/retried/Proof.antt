@@ -9,7 +9,7 @@ use Rattle.dock_flow.proofs.retried.Tie as tie
 
 returns : tie.Need-returns
 unfolding retried if_then_else_
-returns c = simp (lt-ltb _ _ (c .before .if1 .taken), ← c .restart .ensures)
+returns c = simp (lt-ltb _ _ (c .before .if1 .taken), ← c .in-block .ensures)
 
 returns-2 : tie.Need-returns-2
 unfolding retried if_then_else_

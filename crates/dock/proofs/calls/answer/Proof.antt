@@ -5,8 +5,8 @@ use Prim.Native.Nat.{_<_, _^_}
 use native.Mathlib.Omega.{arith}
 use borrow.Author.Needs.{needs}
 use Rattle.dock.specs.Calls.{hearOf, turning}
-use Rattle.dock_flow.proofs.Laws.{answer-within}
-use Rattle.dock_flow.specs.Flow.{afterAnswer, afterHeard}
+use Rattle.dock_flow.proofs.Laws.{heard-within}
+use Rattle.dock_flow.specs.Flow.{afterHeard, answered}
 use Rattle.dock_flow.specs.declared.Turned.{Turned}
 use Rattle.dock_job.proofs.Laws.{Told, accepts, told-is}
 use Rattle.dock_job.specs.declared.refusals.Call.the-variants.{Tells}
@@ -15,22 +15,26 @@ use Rattle.dock.proofs.calls.answer.Tie as tie
 
 -- What the verdict says of the state.
 waits : (c : tie.After-enum-told) → Told (c .before .before .before .before .before .args .job) (c .before .before .before .before .before .args .dock)
-waits c = told-is _ _ _ (accepts _ _ (Tells (c .before .before .before .before .before .args .dock)) (sym (c .before .before .verdict .ensures) ∙ c .enum-told .given .1))
+waits c =
+    told-is _ _ _ (accepts _ _ (Tells (c .before .before .before .before .before .args .dock)) (sym (c .before .before .verdict .ensures) ∙ c .enum-told .given .1))
 
 moved-requires : tie.Need-moved-requires
 moved-requires c κs =
-    let r : c .before .before .before .before .before .before .before .before .before .args .job .retries < 2 ^ 32 = search needs in
-    let w = answer-within (c .before .before .before .before .before .before .before .before .before .args .job) (c .before .before .before .before .before .before .before .before .before .args .dock .retries) (c .before .before .before .before .before .before .before .before .before .args .dock .stage) (c .before .read .result) (waits (c .before .before .before .before) .good .few-used) in
-    let s : c .after-answer .result .spent ≡ afterAnswer (c .before .before .before .before .before .before .before .before .before .args .job) (c .before .before .before .before .before .before .before .before .before .args .dock .retries) (c .before .before .before .before .before .before .before .before .before .args .dock .stage) (c .before .read .result) .spent = ap (λ (t : Turned). t .spent) (c .after-answer .ensures) in
+    let o = c .before .before .before .before .before .before .args in
+    let r : o .job .retries < 2 ^ 32 = search needs in
+    let h = answered (o .bytes .now) in
+    let w = heard-within (o .job) (o .dock .retries) (o .dock .stage) h (waits (c .before) .good .few-used) in
+    let s : c .after-answer .result .spent ≡ afterHeard (o .job) (o .dock .retries) (o .dock .stage) h .spent =
+    ap (λ (t : Turned). t .spent) (c .after-answer .ensures) in
     omega (arith, w .allowed)
 
 returns : tie.Need-returns
-unfolding hearOf turning afterHeard
+unfolding hearOf turning
 returns c = simp (← c .before .before .before .verdict .ensures, c .before .v .given .1)
 
 returns-2 : tie.Need-returns-2
-unfolding hearOf turning afterHeard
-returns-2 c = simp (← c .before .before .before .before .before .before .before .verdict .ensures, c .before .before .before .before .before .enum-told .given .1, ← c .before .before .before .before .form-at .ensures, ← c .before .before .read .ensures, ← c .before .after-answer .ensures, ← c .moved .ensures)
+unfolding hearOf turning
+returns-2 c = simp (← c .before .before .before .before .verdict .ensures, c .before .before .enum-told .given .1, ← c .before .after-answer .ensures, ← c .moved .ensures)
 
 pub answer-spec : {M : Type 1} → statement M
 answer-spec =
@@ -39,8 +43,6 @@ answer-spec =
     (λ c κs. search needs)
     (λ c. search needs)
     (λ c. search needs)
-    (λ c κs. search needs)
-    (λ c κs. search needs)
     (λ c κs. search needs)
     moved-requires
     returns

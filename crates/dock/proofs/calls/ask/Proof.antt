@@ -1,35 +1,33 @@
--- `dock::calls::ask` meets its contract: the verdict decides; what it accepts is what the frame needs.
+-- `dock::calls::ask` meets its contract: what the flow hands out is counted; the frames of an accepted call stay below the bound.
 -- Assumes nothing.
-use mathlib.Core.Path.{_∙_, sym}
+use mathlib.Core.Path.{_∙_, ap, sym}
 use native.Mathlib.Omega.{arith}
 use lib.ListN.{length}
-use borrow.Author.Needs.{needs}
-use Rattle.dock.specs.Calls.{askOf, asked}
-use Rattle.dock_job.proofs.Laws.{Accepts, Asked, accepts, asked-is, bound-few}
+use Rattle.dock_flow.proofs.LawsFrames.{sent-accepted}
+use Rattle.dock_flow.specs.Frames.{handing}
+use Rattle.dock_flow.specs.declared.frames.Handed.{Handed}
+use Rattle.dock_job.proofs.Laws.{accepts, asked-is, bound-few}
 use Rattle.dock_job.specs.declared.refusals.Call.the-variants.{Asks}
+use Rattle.dock.specs.Calls.{askOf, asked}
+use borrow.Author.Needs.{needs}
 use Rattle.dock.proofs.calls.ask.Statement.{statement}
 use Rattle.dock.proofs.calls.ask.Tie as tie
 
--- What the verdict says of job, state and room.
-fine : (c : tie.After-enum-told) → Accepts (c .before .before .before .before .before .args .job) (length (c .before .before .before .before .before .args .image .now)) (Asks (c .before .before .before .before .before .args .dock) (length (c .before .before .before .before .before .args .room .now)))
-fine c = accepts _ _ _ (sym (c .before .before .verdict .ensures) ∙ c .enum-told .given .1)
-
-due : (c : tie.After-enum-told) → Asked (c .before .before .before .before .before .args .job) (c .before .before .before .before .before .args .dock) (length (c .before .before .before .before .before .args .room .now))
-due c = asked-is _ _ _ _ (fine c)
-
-send-requires : tie.Need-send-requires
-send-requires c κs = (fine (c .before) .accepted-rate, due (c .before) .good .at-stage, fine (c .before) .image-length, due (c .before) .roomy)
-
-add-t17 : tie.Need-add-t17
-add-t17 c = omega (arith, due (c .before .before .before .before .before), bound-few (c .before .before .before .before .before .before .before .before .before .before .args .job) (fine (c .before .before .before .before .before) .described-part) (fine (c .before .before .before .before .before) .few-retries))
+add-t14 : tie.Need-add-t14
+add-t14 c =
+    let o = c .before .before .before .before .before .before .before .before .before .before .args in
+    let s = c .before .before .before .before .before .before .send in
+    let e = ap (λ (h : Handed). handing h (s .last .1 .1 .1 .0)) (sym (c .before .before .handed2 .given .1)) ∙ s .ensures in
+    let a = accepts (o .job) (length (o .image .now)) (Asks (o .dock) (length (o .room .now))) (sent-accepted (o .job) (o .image .now) (o .dock) (o .room .now) _ _ e) in
+    omega (arith, asked-is _ _ _ _ a .below, bound-few (o .job) (a .described-part) (a .few-retries))
 
 returns : tie.Need-returns
 unfolding askOf asked
-returns c = simp (← c .before .before .before .verdict .ensures, c .before .v .given .1)
+returns c = simp (← c .before .before .before .before .before .send .ensures, c .before .handed .given .1)
 
 returns-2 : tie.Need-returns-2
 unfolding askOf asked
-returns-2 c = simp (← c .before .before .before .before .before .before .before .verdict .ensures, c .before .before .before .before .before .enum-told .given .1, ← c .before .before .before .send .ensures)
+returns-2 c = simp (← c .before .before .before .before .before .before .send .ensures, c .before .before .handed2 .given .1)
 
 pub ask-spec : {M : Type 1} → statement M
 ask-spec =
@@ -38,8 +36,8 @@ ask-spec =
     (λ c κs. search needs)
     (λ c. search needs)
     (λ c. search needs)
-    send-requires
-    add-t17
+    add-t14
+    (λ c. search needs)
     returns
     (λ c. search needs)
     returns-2)

@@ -5,7 +5,7 @@ use Prim.Native.Nat.{_<_, _^_}
 use native.Mathlib.Omega.{arith}
 use borrow.Author.Needs.{needs}
 use Rattle.dock.specs.Calls.{hearOf, turning}
-use Rattle.dock_flow.specs.Flow.{afterHeard}
+use Rattle.dock_flow.proofs.Laws.{heard-silence}
 use Rattle.dock_flow.specs.declared.Turned.{Turned}
 use Rattle.dock.proofs.calls.timeout.Statement.{statement}
 use Rattle.dock.proofs.calls.timeout.Tie as tie
@@ -17,12 +17,13 @@ moved-requires c κs =
     omega arith
 
 returns : tie.Need-returns
-unfolding hearOf turning afterHeard
+unfolding hearOf turning
 returns c = simp (← c .before .before .before .verdict .ensures, c .before .v .given .1)
 
 returns-2 : tie.Need-returns-2
-unfolding hearOf turning afterHeard
-returns-2 c = simp (← c .before .before .before .before .verdict .ensures, c .before .before .enum-told .given .1, ← c .before .after-timeout .ensures, ← c .moved .ensures)
+unfolding hearOf turning
+returns-2 c =
+    simp (← c .before .before .before .before .verdict .ensures, c .before .before .enum-told .given .1, heard-silence, ← c .before .after-timeout .ensures, ← c .moved .ensures)
 
 pub timeout-spec : {M : Type 1} → statement M
 timeout-spec =
