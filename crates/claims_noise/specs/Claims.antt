@@ -48,8 +48,8 @@ pub record AsIf (M : Machine) (p : Part) (o u : Outcome) : Type 0 where
   pub answers : (vs : List Event) → AllProper vs → saysBy M p vs o ≡ saysBy M p vs u
   pub later : (vs : List Event) → AllProper vs → Alike (runBy M p vs o) (runBy M p vs u)
 
--- "Take a chip that awaits a command (`AwaitsCommand`), with nothing collected. Let it hear any bytes and gaps in which the framing rule of demand 2 completes no good frame": g is the one good frame
--- allowed, or none.
+-- "Take a chip that awaits a command (`AwaitsCommand`), with nothing collected. Let it hear any bytes and gaps in which the framing rule of demand 2 completes
+-- no good frame": g is the one good frame allowed, or none.
 pub record Noise (g : Allowed) (p : Part) (o : Outcome) (vs : List Sound) : Type 0 where
   pub stands : Stands p o
   pub nothing : o .chip .collector .len ≡ 0
