@@ -13,6 +13,9 @@ use Rattle.dock_flow.proofs.after_answer.Kinds as after-answer-kinds
 use Rattle.dock_flow.proofs.after_timeout.Reads as after-timeout
 use Rattle.dock_flow.proofs.after_timeout.Kinds as after-timeout-kinds
 
+pub frames-send-once : Once frames-send-kinds.ps frames-send-kinds.r frames-send.Post (λ κs r x. handing r (now (x .1 .1 .1 .0)))
+frames-send-once κs a r s x y p q = p ∙ sym q
+
 pub first-stage-once : Once first-stage-kinds.ps first-stage-kinds.r first-stage.Post (λ κs r x. r)
 first-stage-once κs a r s x y p q = p ∙ sym q
 
@@ -21,6 +24,3 @@ after-answer-once κs a r s x y p q = p ∙ sym q
 
 pub after-timeout-once : Once after-timeout-kinds.ps after-timeout-kinds.r after-timeout.Post (λ κs r x. r)
 after-timeout-once κs a r s x y p q = p ∙ sym q
-
-pub frames-send-once : Once frames-send-kinds.ps frames-send-kinds.r frames-send.Post (λ κs r x. handing r (now (x .1 .1 .1 .0)))
-frames-send-once κs a r s x y p q = p ∙ sym q

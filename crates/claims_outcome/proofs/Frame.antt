@@ -7,10 +7,10 @@ use Rattle.frame.specs.Wire.{wrote}
 use Rattle.claims_outcome.proofs.Outcome.{Once}
 use Rattle.frame.proofs.collector.Collector.new.Reads as collector-Collector-new
 use Rattle.frame.proofs.collector.Collector.new.Kinds as collector-Collector-new-kinds
-use Rattle.frame.proofs.collector.Collector.byte.Reads as collector-Collector-byte
-use Rattle.frame.proofs.collector.Collector.byte.Kinds as collector-Collector-byte-kinds
 use Rattle.frame.proofs.collector.Collector.restored.Reads as collector-Collector-restored
 use Rattle.frame.proofs.collector.Collector.restored.Kinds as collector-Collector-restored-kinds
+use Rattle.frame.proofs.collector.Collector.byte.Reads as collector-Collector-byte
+use Rattle.frame.proofs.collector.Collector.byte.Kinds as collector-Collector-byte-kinds
 use Rattle.frame.proofs.collector.Collector.add.Reads as collector-Collector-add
 use Rattle.frame.proofs.collector.Collector.add.Kinds as collector-Collector-add-kinds
 use Rattle.frame.proofs.collector.Collector.add_all.Reads as collector-Collector-add-all
@@ -59,11 +59,11 @@ use Rattle.frame.proofs.payload.Kinds as payload-kinds
 pub collector-Collector-new-once : Once collector-Collector-new-kinds.ps collector-Collector-new-kinds.r collector-Collector-new.Post (λ κs r x. r)
 collector-Collector-new-once κs a r s x y p q = p ∙ sym q
 
-pub collector-Collector-byte-once : Once collector-Collector-byte-kinds.ps collector-Collector-byte-kinds.r collector-Collector-byte.Post (λ κs r x. r)
-collector-Collector-byte-once κs a r s x y p q = p ∙ sym q
-
 pub collector-Collector-restored-once : Once collector-Collector-restored-kinds.ps collector-Collector-restored-kinds.r collector-Collector-restored.Post (λ κs r x. r)
 collector-Collector-restored-once κs a r s x y p q = p ∙ sym q
+
+pub collector-Collector-byte-once : Once collector-Collector-byte-kinds.ps collector-Collector-byte-kinds.r collector-Collector-byte.Post (λ κs r x. r)
+collector-Collector-byte-once κs a r s x y p q = p ∙ sym q
 
 pub collector-Collector-add-once : Once collector-Collector-add-kinds.ps collector-Collector-add-kinds.r collector-Collector-add.Post (λ κs r x. adding r (now (x .1 .1 .0)))
 collector-Collector-add-once κs a r s x y p q = p ∙ sym q

@@ -2,9 +2,9 @@ pub mod Outcome
 pub mod Chip
 pub mod ChipCommands
 pub mod ChipCore
-pub mod ChipLayout
 pub mod ChipDoor
 pub mod ChipFlash
+pub mod ChipLayout
 pub mod ChipOptions
 pub mod ChipPace
 pub mod ChipPages
@@ -21,6 +21,6 @@ pub mod Lent
 pub mod Numbers
 pub mod Part
 pub mod ReplayCapture
+pub mod ReplayDoor
 pub mod ReplayHex
 pub mod ReplayRecords
-pub mod ReplayDoor

@@ -1,10 +1,10 @@
--- No second outcome for the callable function of `replay_door`, over the contract that its own `ensures` generates.
+-- No second outcome for the callable functions of `replay_door`, each over the contract that its own `ensures` generates.
 -- Assumes nothing.
 use mathlib.Core.Path.{_∙_, sym}
 use denote.Ref.{now}
 use Rattle.chip_core.specs.Effect.{flash}
-use Rattle.claims_outcome.proofs.Outcome.{Once}
 use Rattle.replay_door.specs.Calls.{replayTold}
+use Rattle.claims_outcome.proofs.Outcome.{Once}
 use Rattle.replay_door.proofs.zc_replay.Reads as zc-replay
 use Rattle.replay_door.proofs.zc_replay.Kinds as zc-replay-kinds
 
