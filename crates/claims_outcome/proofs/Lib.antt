@@ -19,6 +19,7 @@ pub mod DockJob
 pub mod Frame
 pub mod Lent
 pub mod Numbers
+pub mod Commands
 pub mod Part
 pub mod ReplayCapture
 pub mod ReplayDoor
