@@ -3,24 +3,25 @@
 use mathlib.Core.Bool.{false, true}
 use mathlib.Core.Path.{_∙_, _≡_, sym}
 use Prim.Native.Nat.{_+_, _-_, _<_, _≤_, ℕ}
-use native.Mathlib.Decide.{decLe}
+use native.Mathlib.Decide.{decLt}
 use native.Mathlib.Omega.{arith}
-use lib.Dec.{leb}
-use borrow.Author.Tests.{le-leb, leb-false, lt-leb}
+use lib.Dec.{ltb}
+use borrow.Author.Tests.{le-ltb, lt-ltb, ltb-false}
 use Rattle.chip_pages.specs.Pages.{isLastPage}
 use Rattle.chip_core.specs.declared.Awaited.{Awaited}
+use Rattle.part.specs.Part.{pageSize}
 
 -- The last page's test, without a sum that could wrap.
-pub reached : (next last : ℕ) → last ≤ next → true ≡ leb last (next + 255)
-reached next last h = sym (le-leb last (next + 255) (omega arith))
+pub reached : (next last size : ℕ) → last ≤ next → 0 < size → true ≡ ltb last (next + size)
+reached next last size h k = sym (lt-ltb last (next + size) (omega arith))
 
-pub reaches : (next last : ℕ) → next < last → leb (last - next) 255 ≡ leb last (next + 255)
-reaches next last h = go (decLe (last - next) 255)
+pub reaches : (next last s size : ℕ) → next < last → s ≡ size → ltb (last - next) s ≡ ltb last (next + size)
+reaches next last s size h e = rw e (go (decLt (last - next) size))
   where
-    go : Dec (last - next ≤ 255) → leb (last - next) 255 ≡ leb last (next + 255)
-    go (yes k) = le-leb (last - next) 255 k ∙ sym (le-leb last (next + 255) (omega arith))
-    go (no k) = lt-leb (last - next) 255 (omega arith) ∙ sym (lt-leb last (next + 255) (omega arith))
+    go : Dec (last - next < size) → ltb (last - next) size ≡ ltb last (next + size)
+    go (yes k) = lt-ltb (last - next) size k ∙ sym (lt-ltb last (next + size) (omega arith))
+    go (no k) = le-ltb (last - next) size (omega arith) ∙ sym (le-ltb last (next + size) (omega arith))
 
-pub not-last : (w : Awaited) → isLastPage w ≡ false → w .next + 255 < w .last
+pub not-last : (w : Awaited) → isLastPage w ≡ false → w .next + pageSize ≤ w .last
 unfolding isLastPage
-not-last w e = leb-false _ _ e
+not-last w e = ltb-false _ _ e

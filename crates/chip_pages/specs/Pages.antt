@@ -2,21 +2,21 @@
 use mathlib.Core.Bool.{Bool, not}
 use mathlib.Core.List.{List, []}
 use Prim.Native.Nat.{_+_, ℕ}
-use lib.Dec.{eqb, leb}
+use lib.Dec.{eqb, ltb}
 use lib.ListN.{drop, getD, take}
-use Rattle.chip_core.specs.Effect.{Effect, Flash, acknowledge, awaiting, bytesIn, effect, entered, number2, parameterError, protectError, says, told, verifyError, withBytes, writeError}
+use Rattle.chip_core.specs.Effect.{Effect, Flash, acknowledge, awaiting, bytesIn, effect, entered, parameterError, protectError, says, told, verifyError, withBytes, writeError}
 use Rattle.chip_core.specs.declared.Awaited.{Awaited}
 use Rattle.chip_core.specs.declared.Core.{Core}
 use Rattle.chip_core.specs.declared.Done.{Done}
 use Rattle.chip_core.specs.declared.Phase.the-variants.{Ready}
 use Rattle.chip_flash.specs.Flash.{blank}
+use Rattle.frame.specs.Frame.{payload}
 use Rattle.frame.specs.Judgement.{fitting, isGood, judgeOf, statusOf}
 use Rattle.frame.specs.declared.Footer.{Footer}
 use Rattle.frame.specs.declared.Footer.the-variants.{Last, More}
 use Rattle.lent.specs.Lent.{putOf, same}
-use Rattle.chip_options.specs.Options.{goodOptions, raises}
-use Rattle.chip_options.specs.declared.Options.{Options}
-use Rattle.part.specs.Part.{placeOf}
+use Rattle.chip_options.specs.Options.{goodOptions, optionsIn, raises}
+use Rattle.part.specs.Part.{pageSize, placeOf}
 use Rattle.part.specs.declared.Part.{Part}
 use Rattle.part.specs.declared.Place.{Place}
 use Rattle.part.specs.declared.Place.the-variants.{In, Outside}
@@ -33,7 +33,7 @@ pair s t k = told (Pair s t) k
 
 -- The page awaited is the last one: it reaches the last address of the range.
 unfoldable pub isLastPage : Awaited → Bool
-isLastPage w = leb (w .last) (w .next + 255)
+isLastPage w = ltb (w .last) (w .next + pageSize)
 
 -- "then 03h on the last frame, else 17h"; A0h's "frame is a last frame (03h)"
 unfoldable pub footerOf : Awaited → Footer
@@ -41,12 +41,12 @@ footerOf w = if eqb (w .command) 0xA0 or isLastPage w then Last else More
 
 -- "Pages for 40h and 13h carry 256 bytes"; A0h's data frame has 8.
 unfoldable pub lengthOf : Awaited → ℕ
-lengthOf w = if eqb (w .command) 0xA0 then 8 else 256
+lengthOf w = if eqb (w .command) 0xA0 then 8 else pageSize
 
 -- The page at a place of flash, and flash with these bytes stored there.
 unfoldable pub pageIn : Place → Flash → List ℕ
 pageIn Outside m = []
-pageIn (In a offset block page) m = take 256 (drop offset (bytesIn a m))
+pageIn (In a offset block page) m = take pageSize (drop offset (bytesIn a m))
 
 unfoldable pub pageStored : Place → List ℕ → Flash → Flash
 pageStored Outside ds m = m
@@ -54,7 +54,7 @@ pageStored (In a offset block page) ds m = withBytes a m (putOf (bytesIn a m) of
 
 -- After a page that went well the next one is awaited; "After the last page the chip is ready."
 unfoldable pub nextPage : Awaited → Core → Core
-nextPage w k = if isLastPage w then ready k else awaiting (w .command) (w .next + 256) (w .last) k
+nextPage w k = if isLastPage w then ready k else awaiting (w .command) (w .next + pageSize) (w .last) k
 
 -- 40h: "the second is 06h and the page is stored if flash there was all FFh; else 1Ch, nothing stored, command over.
 -- After the last stored page a further status reply 06h follows."
@@ -72,33 +72,27 @@ verifyPage k w at ds m =
     if not (same (pageIn at m) ds) then pair acknowledge verifyError (ready k)
     else pair acknowledge acknowledge (nextPage w k)
 
--- A0h's data: flags, last boot block, window start and end, two reserved bytes.
-unfoldable pub optionsIn : List ℕ → Options
-optionsIn f = record { flags = getD f 2 0; boot = getD f 3 0; start = number2 4 f; end = number2 6 f }
-
+-- A0h's data, "those 8 bytes": the options and two reserved bytes.
 -- "05h if .. the reserved bytes are not FFh ..; then 10h if a 0 flag would become 1; else stored, 06h."
 unfoldable pub securityData : Part → Core → List ℕ → Done
-securityData p k f =
-    if not (goodOptions p (optionsIn f) and eqb (getD f 8 0) 0xFF and eqb (getD f 9 0) 0xFF) then says parameterError (ready k)
-    else if raises p (k .options .flags) (getD f 2 0) then says protectError (ready k)
-    else says acknowledge (record { options = optionsIn f; rate = k .rate; phase = Ready })
+securityData p k ds =
+    if not (goodOptions p (optionsIn ds) and eqb (getD ds 6 0) 0xFF and eqb (getD ds 7 0) 0xFF) then says parameterError (ready k)
+    else if raises p (k .options .flags) (optionsIn ds .flags) then says protectError (ready k)
+    else says acknowledge (record { options = optionsIn ds; rate = k .rate; phase = Ready })
 
 -- "A bad page puts its status in both and ends the command." Of A0h: "Whatever its one-byte answer, a bad frame's included, the command is over."
 unfoldable pub badData : Awaited → ℕ → Core → Done
 badData w s k = if eqb (w .command) 0xA0 then says s (ready k) else pair s s (ready k)
 
--- The page's bytes in its frame.
-abbrev pub payloadOf : List ℕ → List ℕ
-payloadOf f = take 256 (drop 2 f)
-
 unfoldable pub goodData : Part → Core → Awaited → List ℕ → Flash → Effect
-goodData p k w f m =
-    if eqb (w .command) 0xA0 then effect (securityData p k f) m
-    else if eqb (w .command) 0x40 then programPage k w (placeOf p (w .next)) (payloadOf f) m
-    else effect (verifyPage k w (placeOf p (w .next)) (payloadOf f) m) m
+goodData p k w ds m =
+    if eqb (w .command) 0xA0 then effect (securityData p k ds) m
+    else if eqb (w .command) 0x40 then programPage k w (placeOf p (w .next)) ds m
+    else effect (verifyPage k w (placeOf p (w .next)) ds m) m
 
 -- A complete data frame: footer, SUM, LEN; then the work.
 unfoldable pub dataDoes : Part → Core → Awaited → List ℕ → Flash → Effect
 dataDoes p k w f m =
-    if not (isGood (fitting (lengthOf w) f (judgeOf (footerOf w) f))) then effect (badData w (statusOf (fitting (lengthOf w) f (judgeOf (footerOf w) f))) k) m
-    else goodData p k w f m
+    let judgement = fitting (lengthOf w) f (judgeOf (footerOf w) f) in
+    if not (isGood judgement) then effect (badData w (statusOf judgement) k) m
+    else goodData p k w (payload f) m

@@ -1,6 +1,5 @@
 // The data frames of phase 4: pages of 40h and 13h, and the data of A0h. Document 01, "Commands".
 ghost use mathlib.Core.Path.{_≡_};
-ghost use Prim.Native.Nat.{_<_, _+_, _*_};
 ghost use lib.ListN.{getD};
 ghost use lib.Dec.{eqb};
 ghost use Rattle.words.specs.Words.{_and_};
@@ -8,7 +7,7 @@ ghost use Rattle.chip_flash.specs.Flash.{blank};
 ghost use Rattle.chip_options.specs.Options.{goodOptions};
 ghost use Rattle.part.specs.Part.{placeOf};
 ghost use Rattle.chip_core.specs.Effect.{flash, effect};
-ghost use Rattle.chip_pages.specs.Pages.{isLastPage, footerOf, lengthOf, pageIn, pageStored, nextPage, programPage, verifyPage, optionsIn, securityData, badData, goodData, dataDoes};
+ghost use Rattle.chip_pages.specs.Pages.{isLastPage, footerOf, lengthOf, pageIn, pageStored, nextPage, programPage, verifyPage, securityData, badData, goodData, dataDoes};
 use chip_core::Awaited;
 use chip_core::Core;
 use chip_core::Done;
@@ -27,7 +26,7 @@ fn is_last_page(w: Awaited) -> bool
     if w.last <= w.next {
         return true;
     }
-    w.last - w.next <= 255
+    w.last - w.next < part::page_size()
 }
 
 fn footer_of(w: Awaited) -> Footer
@@ -48,7 +47,7 @@ fn length_of(w: Awaited) -> usize
     if w.command == 0xA0 {
         return 8;
     }
-    256
+    part::page_size()
 }
 
 fn next_page(w: Awaited, core: Core) -> Core
@@ -59,7 +58,7 @@ fn next_page(w: Awaited, core: Core) -> Core
     }
     core.entered(Phase::Awaiting(Awaited {
         command: w.command,
-        next: w.next + 256,
+        next: w.next + part::page_size(),
         last: w.last,
     }))
 }
@@ -74,8 +73,8 @@ fn page_bytes<'a>(place: Place, code: &'a [u8], data: &'a [u8]) -> &'a [u8]
             block,
             page,
         } => match area {
-            Area::CodeFlash => lent::span(code, offset, 256),
-            Area::DataFlash => lent::span(data, offset, 256),
+            Area::CodeFlash => lent::span(code, offset, part::page_size()),
+            Area::DataFlash => lent::span(data, offset, part::page_size()),
         },
         Place::Outside => &code[0..0],
     }
@@ -165,39 +164,13 @@ fn verify_page<'a>(
     }
 }
 
-fn wide(b: u8) -> u32
-    ensures { λ r. ⌜ (r ≡ b) × (r < 256) ⌝ }
-{
-    b as u32
-}
-
-// A number of two bytes, low byte first.
-fn number_of(low: u8, high: u8) -> u32
-    ensures { λ r. ⌜ r ≡ low + 256 * high ⌝ }
-{
-    wide(low) + 256 * wide(high)
-}
-
-fn options_in(bytes: &[u8]) -> Options
-    ensures { λ r. ⌜ r ≡ optionsIn (now (bytes .entry)) ⌝ }
-{
-    let start = number_of(lent::byte_at(bytes, 4), lent::byte_at(bytes, 5));
-    let end = number_of(lent::byte_at(bytes, 6), lent::byte_at(bytes, 7));
-    Options {
-        flags: lent::byte_at(bytes, 2),
-        boot: lent::byte_at(bytes, 3),
-        start,
-        end,
-    }
-}
-
 // Whether A0h's data passes its 05h rule.
 fn is_good_data(part: Part, options: Options, bytes: &[u8]) -> bool
-    ensures { λ r. ⌜ r ≡ (goodOptions part options and eqb (getD (now (bytes .entry)) 8 0) 0xFF and eqb (getD (now (bytes .entry)) 9 0) 0xFF) ⌝ }
+    ensures { λ r. ⌜ r ≡ (goodOptions part options and eqb (getD (now (bytes .entry)) 6 0) 0xFF and eqb (getD (now (bytes .entry)) 7 0) 0xFF) ⌝ }
 {
     if options.is_good(part) {
-        if lent::byte_at(bytes, 8) == 0xFF {
-            return lent::byte_at(bytes, 9) == 0xFF;
+        if lent::byte_at(bytes, 6) == 0xFF {
+            return lent::byte_at(bytes, 7) == 0xFF;
         }
     }
     false
@@ -206,10 +179,10 @@ fn is_good_data(part: Part, options: Options, bytes: &[u8]) -> bool
 fn security_data(part: Part, core: Core, bytes: &[u8]) -> Done
     ensures { λ r. ⌜ r ≡ securityData part core (now (bytes .entry)) ⌝ }
 {
-    let asked = options_in(bytes);
+    let asked = Options::read(bytes);
     if is_good_data(part, asked, bytes) {
         let options = core.options;
-        if chip_options::raises(part, options.flags, lent::byte_at(bytes, 2)) {
+        if chip_options::raises(part, options.flags, asked.flags) {
             let after = core.entered(Phase::Ready);
             return Done {
                 reply: Reply::Status(0x10),
@@ -261,11 +234,10 @@ fn good_data(
     if w.command == 0xA0 {
         return security_data(part, core, bytes);
     }
-    let page = lent::span(bytes, 2, 256);
     if w.command == 0x40 {
-        return program_page(part, core, w, page, code, data);
+        return program_page(part, core, w, bytes, code, data);
     }
-    verify_page(part, core, w, page, code, data)
+    verify_page(part, core, w, bytes, code, data)
 }
 
 // What a complete data frame does.
@@ -282,7 +254,7 @@ pub fn page(
     let footer = footer_of(w);
     let j = judgement::judge_fit(footer, length_of(w), bytes);
     if j.is_good() {
-        return good_data(part, core, w, bytes, code, data);
+        return good_data(part, core, w, frame::payload(bytes), code, data);
     }
     bad_data(core, w, j.status())
 }

@@ -8,8 +8,7 @@ use native.Mathlib.Nat.{mul-le-mul-right, suc-mul}
 use native.Mathlib.Numerals.{add-one}
 use native.Mathlib.Omega.{arith}
 use lib.Dec.{eqb}
-use lib.ListN.{drop, length, length-drop, length-replicate, replicate}
-use lib.Seq.{length-take-le}
+use lib.ListN.{length, length-replicate, replicate}
 use borrow.Author.Tests.{eqb-true, not-false}
 use Rattle.chip.specs.Step.{Reaction, byteIn, frameDoes, heardByte, reactTo}
 use Rattle.chip_state.specs.Refusals.{goodAwaited, goodPhase, goodState, handedWith}
@@ -24,10 +23,12 @@ use Rattle.chip_state.proofs.Laws.{Accepts, accepts}
 use Rattle.chip_work.specs.Work.{blockErase, erasedIn}
 use Rattle.chip_commands.specs.Commands.{commandDoes, work}
 use Rattle.chip_core.specs.Effect.{Effect, Flash, bytesIn, effect}
-use Rattle.chip_pages.specs.Pages.{dataDoes, footerOf, goodData, lengthOf, pageIn, pageStored, payloadOf, programPage}
+use Rattle.chip_pages.specs.Pages.{dataDoes, footerOf, goodData, lengthOf, pageIn, pageStored, programPage}
 use Rattle.chip_commands.specs.declared.Asked.{Asked}
 use Rattle.chip_commands.specs.declared.Asked.the-variants.{BlankCheck, BlockErase, Checksum, Programming, RateSet, Reset, SecurityGet, SecurityRelease, SecuritySet, SignatureGet, Unfit, Unknown, Verify}
 use Rattle.chip_core.specs.declared.Awaited.{Awaited}
+use Rattle.frame.proofs.Laws.Frame.{payload-long}
+use Rattle.frame.specs.Frame.{payload}
 use Rattle.chip_core.specs.declared.Core.{Core}
 use Rattle.chip_core.specs.declared.Done.{Done}
 use Rattle.chip_core.specs.declared.Phase.{Phase}
@@ -75,13 +76,13 @@ fitting-long n bs WrongFooter e = absurd (false≢true e)
 fitting-long n bs WrongSum e = absurd (false≢true e)
 fitting-long n bs UnfitLength e = absurd (false≢true e)
 
-payload-long : (w : Awaited) (f : List ℕ) → eqb (w .command) 0xA0 ≡ false → isGood (fitting (lengthOf w) f (judgeOf (footerOf w) f)) ≡ true
-    → length (payloadOf f) ≡ 256
+page-long : (w : Awaited) (f : List ℕ) → eqb (w .command) 0xA0 ≡ false → isGood (fitting (lengthOf w) f (judgeOf (footerOf w) f)) ≡ true
+    → length (payload f) ≡ 256
 unfolding lengthOf if_then_else_
-payload-long w f n g =
+page-long w f n g =
     let l : lengthOf w ≡ 256 = ap (λ (t : Bool). if t then 8 else 256) n in
     let e : length f ≡ lengthOf w + 4 = fitting-long (lengthOf w) f (judgeOf (footerOf w) f) g in
-    length-take-le 256 (drop 2 f) (rw length-drop (omega arith))
+    omega (arith, payload-long f)
 
 module _ (p : Part) (k : Core) (m : Flash) (long : (a : Area) → length (bytesIn a m) ≡ size p a) where
   erases : (at : ℕ) (x : Place) → placeOf p at ≡ x → Does p m (blockErase p k x m)
@@ -145,7 +146,7 @@ module _ (p : Part) (k : Core) (m : Flash) (long : (a : Area) → length (bytesI
     data-does f =
         if-all (Does p m) _ (λ t. stays-so m _)
         (λ t. if-all (Does p m) _ (λ u. stays-so m _)
-        (λ u. if-all (Does p m) _ (λ v. page-does u (payloadOf f) (payload-long w f u (not-false _ t))) (λ v. stays-so m _)))
+        (λ u. if-all (Does p m) _ (λ v. page-does u (payload f) (page-long w f u (not-false _ t))) (λ v. stays-so m _)))
 
   frame-does : (f : Phase) → described p ≡ true → goodPhase p f ≡ true → (g : List ℕ) → Does p m (frameDoes f p k g m)
   unfolding frameDoes goodPhase

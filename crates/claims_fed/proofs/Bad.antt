@@ -17,6 +17,7 @@ use Rattle.chip_core.specs.declared.Awaited.{Awaited}
 use Rattle.chip_core.specs.declared.Core.{Core}
 use Rattle.chip_core.specs.declared.Phase.{Phase}
 use Rattle.chip_core.specs.declared.Phase.the-variants.{Awaiting, Ready, Setup}
+use Rattle.frame.specs.Frame.{payload}
 use Rattle.frame.specs.Judgement.{fitting, isGood, judgeOf, statusOf}
 use Rattle.frame.specs.declared.Footer.the-variants.{Last}
 use Rattle.frame.specs.declared.judgement.Judgement.{Judgement}
@@ -50,7 +51,7 @@ unfolding dataDoes goodFor if_then_else_
 bad-data p k w m g e =
     let j = fitting (lengthOf w) g (judgeOf (footerOf w) g) in
     let b : isGood j ≡ false = e in
-    ap (λ (t : Bool). if not t then effect (badData w (statusOf j) k) m else goodData p k w g m) b
+    ap (λ (t : Bool). if not t then effect (badData w (statusOf j) k) m else goodData p k w (payload g) m) b
 
 data-blamed : (p : Part) (k : Core) (w : Awaited) (m : Flash) (s : ℕ) → Blame s → BadDoes (Awaiting w) p k m (effect (badData w s k) m)
 unfolding badData badCore if_then_else_

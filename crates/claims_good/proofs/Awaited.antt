@@ -120,7 +120,7 @@ pub next-awaited : (p : Part) (w : Awaited) → described p ≡ true → goodAwa
 next-awaited p w d g n l =
     let s = good-walk p w g n in
     let k = s .walk in
-    let m : w .next + 255 < w .last = not-last w l in
+    let m : w .next + 256 ≤ w .last = not-last w l in
     walk-good p (pagesOf (w .command) (w .next + 256) (w .last)) (s .area) d (s .command)
     (record {
       here = record { low = omega (arith, k .here .low); high = omega (arith, k .there .high) };

@@ -33,7 +33,7 @@ use Rattle.chip_core.specs.declared.Core.{Core}
 use Rattle.chip_core.specs.declared.Phase.the-variants.{Awaiting, Ready}
 use Rattle.chip_flash.specs.Flash.{blank}
 use Rattle.frame.specs.Collector.{fresh, hear, heard, holding}
-use Rattle.frame.specs.Frame.{complete, counted, framed, full, isFrame}
+use Rattle.frame.specs.Frame.{complete, counted, framed, full, isFrame, payload}
 use Rattle.frame.specs.Judgement.{fitting, judgeOf, summed}
 use Rattle.frame.specs.Sum.{less, lessAll, sumOf}
 use Rattle.lent.specs.Lent.{allAre, putAt, putOf}
@@ -109,11 +109,11 @@ unfolding saysAlways saying stepOf settled verdictOf firstOf described _from_to_
 always-acknowledges-differs = record { chip = eraseChip; event = Byte 0x03; apart = λ e. let z : _≡_ {A = ℕ} 0x06 0x05 = ap (λ (o : Outcome). getD (o .room) 2 0) e in omega arith }
 
 pub stores-nothing-differs : Differs storesNothing
-unfolding storesOnly kept stepOf settled verdictOf firstOf described _from_to_ _and_ _or_ if_then_else_ goodState goodCollected goodBegun goodCore goodOptions fixedBits goodPhase lastBlock freshOptions fresh heard holding hear complete full counted isFrame reactTo byteIn heardByte frameDoes commandDoes judgeOf summed sumOf lessAll less placeOf liesIn placeIn blockOf pageOf blockSize saidOf framesOf framed payloads dataDoes goodData programPage pageIn pageStored blank allAre putOf putAt nextPage storedReply fitting footerOf lengthOf isLastPage goodAwaited goodPlaces
+unfolding storesOnly kept stepOf settled verdictOf firstOf described _from_to_ _and_ _or_ if_then_else_ goodState goodCollected goodBegun goodCore goodOptions fixedBits goodPhase lastBlock freshOptions fresh heard holding hear complete full counted isFrame reactTo byteIn heardByte frameDoes commandDoes judgeOf summed sumOf lessAll less placeOf liesIn placeIn blockOf pageOf blockSize saidOf framesOf framed payloads dataDoes goodData payload programPage pageIn pageStored blank allAre putOf putAt nextPage storedReply fitting footerOf lengthOf isLastPage goodAwaited goodPlaces
 stores-nothing-differs = record { chip = pageChip 0x0400; event = Byte 0x17; apart = λ e. let z : _≡_ {A = ℕ} 0xFF 0xAA = ap (λ (o : Outcome). getD (o .memory .codeFlash) 0x0400 0) e in omega arith }
 
 pub stores-the-first-page-differs : Differs storesTheFirstPage
-unfolding storesOnly kept stepOf settled verdictOf firstOf described _from_to_ _and_ _or_ if_then_else_ goodState goodCollected goodBegun goodCore goodOptions fixedBits goodPhase lastBlock freshOptions fresh heard holding hear complete full counted isFrame reactTo byteIn heardByte frameDoes commandDoes judgeOf summed sumOf lessAll less placeOf liesIn placeIn blockOf pageOf blockSize saidOf framesOf framed payloads dataDoes goodData programPage pageIn pageStored blank allAre putOf putAt nextPage storedReply fitting footerOf lengthOf isLastPage goodAwaited goodPlaces
+unfolding storesOnly kept stepOf settled verdictOf firstOf described _from_to_ _and_ _or_ if_then_else_ goodState goodCollected goodBegun goodCore goodOptions fixedBits goodPhase lastBlock freshOptions fresh heard holding hear complete full counted isFrame reactTo byteIn heardByte frameDoes commandDoes judgeOf summed sumOf lessAll less placeOf liesIn placeIn blockOf pageOf blockSize saidOf framesOf framed payloads dataDoes goodData payload programPage pageIn pageStored blank allAre putOf putAt nextPage storedReply fitting footerOf lengthOf isLastPage goodAwaited goodPlaces
 stores-the-first-page-differs = record { chip = pageChip 0x0500; event = Byte 0x17; apart = λ e. let z : _≡_ {A = ℕ} 0xFF 0xAA = ap (λ (o : Outcome). getD (o .memory .codeFlash) 0x0500 0) e in omega arith }
 
 -- A chip that differs on an input does not meet demand 2.

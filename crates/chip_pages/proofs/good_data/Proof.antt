@@ -13,11 +13,11 @@ returns c = simp (eq-eqb _ _ (c .before .if1 .taken), ← c .security-data .ensu
 
 returns-2 : tie.Need-returns-2
 unfolding goodData if_then_else_
-returns-2 c = simp (ne-eqb _ _ (c .before .before .before .before .before .before .before .before .before .before .if1 .left), ← c .before .before .before .before .before .before .before .before .before .span .ensures, eq-eqb _ _ (c .before .before .before .before .before .before .before .if2 .taken), ← c .before .before .before .before .program-page .ensures)
+returns-2 c = simp (ne-eqb _ _ (c .before .before .before .before .before .before .before .before .before .if1 .left), eq-eqb _ _ (c .before .before .before .before .before .before .before .if2 .taken), ← c .before .before .before .before .program-page .ensures)
 
 returns-3 : tie.Need-returns-3
 unfolding goodData if_then_else_
-returns-3 c = simp (ne-eqb _ _ (c .before .before .before .before .before .before .if1 .left), ← c .before .before .before .before .before .span .ensures, ne-eqb _ _ (c .before .before .before .if2 .left), ← c .verify-page .ensures)
+returns-3 c = simp (ne-eqb _ _ (c .before .before .before .before .before .if1 .left), ne-eqb _ _ (c .before .before .before .if2 .left), ← c .verify-page .ensures)
 
 pub good-data-spec : {M : Type 1} → statement M
 good-data-spec =
@@ -25,7 +25,6 @@ good-data-spec =
     (tie.spec
     (λ c κs. search needs)
     returns
-    (λ c κs. search needs)
     (λ c κs. search needs)
     (λ c. search needs)
     (λ c. search needs)

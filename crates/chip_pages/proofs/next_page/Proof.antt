@@ -13,14 +13,21 @@ returns : tie.Need-returns
 unfolding nextPage if_then_else_
 returns c = simp (← c .before .before .is-last-page .ensures, c .before .if1 .taken, c .entered .ensures)
 
-add-t5 : tie.Need-add-t5
-add-t5 c = omega (arith, not-last (c .before .before .before .args .w) (sym (c .before .before .is-last-page .ensures) ∙ c .before .if1 .left))
+add-t6 : tie.Need-add-t6
+add-t6 c = omega (arith, c .before .page-size .ensures, not-last (c .before .before .before .before .args .w) (sym (c .before .before .before .is-last-page .ensures) ∙ c .before .before .if1 .left))
 
 returns-2 : tie.Need-returns-2
 unfolding nextPage if_then_else_
-returns-2 c = simp (← c .before .before .before .is-last-page .ensures, c .before .before .if1 .left, c .entered2 .ensures)
+returns-2 c = simp (← c .before .before .before .before .is-last-page .ensures, c .before .before .before .if1 .left, ← c .before .before .page-size .ensures, c .entered2 .ensures)
 
 pub next-page-spec : {M : Type 1} → statement M
 next-page-spec =
     tie.close
-    (tie.spec (λ c κs. search needs) (λ c κs. search needs) returns add-t5 (λ c κs. search needs) returns-2)
+    (tie.spec
+    (λ c κs. search needs)
+    (λ c κs. search needs)
+    returns
+    (λ c κs. search needs)
+    add-t6
+    (λ c κs. search needs)
+    returns-2)

@@ -8,7 +8,7 @@ use Rattle.chip_pages.proofs.page.Tie as tie
 
 returns : tie.Need-returns
 unfolding dataDoes if_then_else_
-returns c = simp (← c .before .before .before .before .before .before .before .before .before .before .before .footer-of .ensures, ← c .before .before .before .before .before .before .before .before .before .before .length-of .ensures, ← c .before .before .before .before .before .before .before .before .before .judge-fit .ensures, ← c .before .before .before .before .before .before .before .before .is-good .ensures, c .before .before .before .before .before .before .before .if1 .taken, ← c .before .before .before .before .good-data .ensures)
+returns c = simp (← c .before .before .before .before .before .before .before .before .before .before .before .before .footer-of .ensures, ← c .before .before .before .before .before .before .before .before .before .before .before .length-of .ensures, ← c .before .before .before .before .before .before .before .before .before .before .judge-fit .ensures, ← c .before .before .before .before .before .before .before .before .before .is-good .ensures, c .before .before .before .before .before .before .before .before .if1 .taken, ← c .before .before .before .before .before .before .before .payload .ensures, ← c .before .before .before .before .good-data .ensures)
 
 returns-2 : tie.Need-returns-2
 unfolding dataDoes if_then_else_
@@ -18,6 +18,7 @@ pub page-spec : {M : Type 1} → statement M
 page-spec =
     tie.close
     (tie.spec
+    (λ c κs. search needs)
     (λ c κs. search needs)
     (λ c κs. search needs)
     (λ c κs. search needs)

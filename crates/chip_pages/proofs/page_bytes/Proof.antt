@@ -7,11 +7,11 @@ use Rattle.chip_pages.proofs.page_bytes.Tie as tie
 
 returns : tie.Need-returns
 unfolding pageIn
-returns c = simp (c .before .before .before .before .place .given .1, c .before .enum-told .given .1, ← c .span .ensures)
+returns c = simp (c .before .before .before .before .before .place .given .1, c .before .before .enum-told .given .1, ← c .before .page-size .ensures, ← c .span .ensures)
 
 returns-2 : tie.Need-returns-2
 unfolding pageIn
-returns-2 c = simp (c .before .before .before .before .place .given .1, c .before .enum-told2 .given .1, ← c .span2 .ensures)
+returns-2 c = simp (c .before .before .before .before .before .place .given .1, c .before .before .enum-told2 .given .1, ← c .before .page-size2 .ensures, ← c .span2 .ensures)
 
 returns-3 : tie.Need-returns-3
 unfolding pageIn
@@ -24,7 +24,9 @@ page-bytes-spec =
     (λ c. search needs)
     (λ c. search needs)
     (λ c κs. search needs)
+    (λ c κs. search needs)
     (λ c. search needs)
+    (λ c κs. search needs)
     (λ c κs. search needs)
     (λ c. search needs)
     (λ c. search needs)
