@@ -6,12 +6,12 @@ use mathlib.Core.Path.{_∙_, _≡_, ap, refl, sym}
 use Prim.Native.Nat.{_+_, _-_, _<_, _≤_, ℕ}
 use native.Mathlib.Decide.{decLe}
 use native.Mathlib.Omega.{arith}
-use lib.Dec.{eqb, leb, ltb}
+use lib.Dec.{leb}
 use lib.ListN.{List·getD-append, getD, length, length-append, take}
-use borrow.Author.Tests.{eqb-true, le-leb, lt-leb, ltb-true, not-true}
+use borrow.Author.Tests.{le-leb, lt-leb}
 use Rattle.chip.specs.Step.{Outcome, Reaction, byteIn, frameDoes, heardByte, modeByte, outcome, poweredOn, reactTo, reaction, replied, settled, silent, stepOf}
-use Rattle.chip_state.proofs.Laws.{Accepts}
-use Rattle.chip_state.specs.Refusals.{goodBegun, goodCollected, goodState, handedWith, verdictOn}
+use Rattle.chip_state.proofs.Laws.{Accepts, Begun, begun, command-collected, data-collected, none-begun, state-collected}
+use Rattle.chip_state.specs.Refusals.{goodBegun, goodCollected, handedWith, verdictOn}
 use Rattle.chip.specs.declared.Answer.the-variants.{Replied}
 use Rattle.chip.specs.declared.Answer.the-variants as Answer
 use Rattle.chip_state.specs.declared.Chip.{Chip}
@@ -22,12 +22,13 @@ use Rattle.chip.specs.inner.Ways.{completesAt, wayOf, wayOn}
 use Rattle.chip_core.specs.Effect.{Effect, Flash, effect}
 use Rattle.chip_core.specs.declared.Core.{Core}
 use Rattle.chip_core.specs.declared.Done.{Done}
-use Rattle.chip_core.specs.declared.Phase.{Phase}
-use Rattle.chip_core.specs.declared.Phase.the-variants.{Awaiting, ModeByte, Ready, Setup}
-use Rattle.frame.proofs.Laws.Collector.{byte-hears, complete-is, complete-within, dropped-is, hear-long, hear-more, heard-at, heard-byte, heard-is, holding-count, holding-heard, length-heard}
+use Rattle.chip_core.specs.Hearing.{hearing}
+use Rattle.chip_core.specs.declared.Hearing.{Hearing}
+use Rattle.chip_core.specs.declared.Hearing.the-variants.{HearsCommands, HearsData, HearsNothing}
+use Rattle.frame.proofs.Laws.Collector.{byte-hears, complete-is, dropped-is, hear-long, hear-more, heard-at, heard-byte, heard-is, holding-count, holding-heard, length-heard}
 use Rattle.frame.proofs.Laws.Frame.{full-not, full-short, full-yes}
 use Rattle.frame.specs.Collector.{byteOf, dropped, hear, heard, holding}
-use Rattle.frame.specs.Frame.{complete, counted, full, headerByte}
+use Rattle.frame.specs.Frame.{complete, counted, full}
 use Rattle.frame.specs.declared.Header.{Header}
 use Rattle.frame.specs.declared.Header.the-variants.{Command, Data}
 use Rattle.frame.specs.declared.collector.Collector.{Collector}
@@ -39,28 +40,8 @@ use Rattle.part.specs.declared.refusal.Verdict.the-variants as Verdict
 use Rattle.chip_reply.proofs.Laws.{said-silence, send-said}
 use Rattle.chip_reply.specs.Reply.{Said, payloads, said, saidOf, sendOf}
 use Rattle.chip_reply.specs.declared.Sent.{Sent}
-use Rattle.words.proofs.Laws.{and-both, and-left, and-right}
-use Rattle.words.specs.Words.{_and_, _or_, if_then_else_}
-
--- What is collected in a good state: fewer bytes than the frame begun needs.
-pub record Begun (c : Collector) : Type 0 where
-  pub within : c .len < 260
-  pub lacks : complete (heard c) ≡ false
-
-pub begun : (h : Header) (c : Collector) → length (c .bytes) ≡ 260 → goodBegun h (c .len) (getD (c .bytes) 0 0) (getD (c .bytes) 1 0) ≡ true → Begun c
-unfolding goodBegun _or_
-begun h c l t = go (eqb (c .len) 0) refl t
-  where
-    full? : Bool
-    full? = full (c .len) (getD (c .bytes) 1 0)
-
-    go : (z : Bool) → eqb (c .len) 0 ≡ z → z or ltb (c .len) 260 and eqb (getD (c .bytes) 0 0) (headerByte h) and not full? ≡ true → Begun c
-    go true z e =
-        let n : c .len ≡ 0 = eqb-true _ _ z in
-        record { within = omega arith; lacks = complete-within c l (omega arith) ∙ full-short _ _ (omega arith) }
-    go false z e =
-        let w : c .len < 260 = ltb-true _ _ (and-left _ _ e) in
-        record { within = w; lacks = complete-within c l (omega arith) ∙ not-true _ (and-right _ _ (and-right _ _ e)) }
+use Rattle.words.proofs.Laws.{and-both}
+use Rattle.words.specs.Words.{_and_, if_then_else_}
 
 -- When a byte completes a frame, by count and LEN byte.
 completes-early : (n x : ℕ) → n < 2 → completesAt n x ≡ false
@@ -127,11 +108,6 @@ frame-settles p d c e k s x m n room r f q g =
     ∙ ap (λ (z : Collector). record { answer = replied (saidOf (payloads p (d .core .options) (d .reply)) room .sent); chip = record { core = d .core; collector = z }; memory = n; room = saidOf (payloads p (d .core .options) (d .reply)) room .room }) (g ∙ dropped-is c)
     ∙ ap (λ (y : Effect). settled Accepted p (reaction [] y) (record { core = k; collector = c }) m room) f
 
--- What a good state gives of the phase it is in.
-pub state-collected : (p : Part) (k : Core) (count head len : ℕ) (f : Phase) → goodState p k count head len ≡ true → k .phase ≡ f → goodCollected f count head len ≡ true
-unfolding goodState
-state-collected p k count head len f t e = ap (λ (g : Phase). goodCollected g count head len) (sym e) ∙ and-left _ _ t
-
 pub next-within : (c d : Collector) (h : Header) (b : ℕ) → length (c .bytes) ≡ 260 → Begun c → d ≡ byteOf c h b → d .len ≤ 260
 next-within c d h b l g e =
     let n : d .len ≡ length (hear h (heard c) b) = ap (λ (x : Collector). x .len) (byte-holds c d h b g e) ∙ holding-count c (hear h (heard c) b) in
@@ -165,8 +141,8 @@ byte-on p c next k h b x m room l g e t q =
     ∙ ap (λ (y : Reaction). settled Accepted p y (record { core = k; collector = c }) m room) (heard-on (hear h (heard c) b) x k m (completes-is c h b l g ∙ t))
 
 -- What is begun in a phase in which frames with the header h are awaited.
-begun-in : (p : Part) (c : Collector) (k : Core) (f : Phase) (h : Header) (code flash room : ℕ) → length (c .bytes) ≡ 260
-    → Accepts p k (handedWith c code flash room) → k .phase ≡ f
+begun-in : (p : Part) (c : Collector) (k : Core) (f : Hearing) (h : Header) (code flash room : ℕ) → length (c .bytes) ≡ 260
+    → Accepts p k (handedWith c code flash room) → hearing (k .phase) ≡ f
     → goodCollected f (c .len) (getD (c .bytes) 0 0) (getD (c .bytes) 1 0) ≡ goodBegun h (c .len) (getD (c .bytes) 0 0) (getD (c .bytes) 1 0) → Begun c
 begun-in p c k f h code flash room l a e g =
     begun h c l (sym g ∙ state-collected p k (c .len) (getD (c .bytes) 0 0) (getD (c .bytes) 1 0) f (a .state) e)
@@ -196,87 +172,79 @@ no-mode h n x e = go (completesAt n x) e
     go true e = let z : _≡_ {A = ℕ} 0 1 = cc in omega arith
     go false e = let z : _≡_ {A = ℕ} 0 1 = cc in omega arith
 
-mode-way : (f : Phase) (n x : ℕ) → wayOf f n x ≡ Mode → f ≡ ModeByte
+mode-way : (f : Hearing) (n x : ℕ) → wayOf f n x ≡ Mode → f ≡ HearsNothing
 unfolding wayOf
-mode-way ModeByte n x e = refl
-mode-way Setup n x e = absurd (no-mode Command n x e)
-mode-way Ready n x e = absurd (no-mode Command n x e)
-mode-way (Awaiting w) n x e = absurd (no-mode Data n x e)
-
-none-begun : (p : Part) (k : Core) (count head len : ℕ) → goodState p k count head len ≡ true → k .phase ≡ ModeByte → count ≡ 0
-unfolding goodCollected
-none-begun p k count head len t e = eqb-true count 0 (state-collected p k count head len ModeByte t e)
+mode-way HearsNothing n x e = refl
+mode-way HearsCommands n x e = absurd (no-mode Command n x e)
+mode-way (HearsData w) n x e = absurd (no-mode Data n x e)
 
 -- The three ways of a byte, each settled as the phase says.
 pub mode-settles : (p : Part) (c : Collector) (k new : Core) (b : ℕ) (m : Flash) (room : List ℕ)
-    → Accepts p k (handedWith c (length (m .codeFlash)) (length (m .dataFlash)) (length room)) → wayOf (k .phase) (c .len) (getD (c .bytes) 1 0) ≡ Mode → new ≡ modeByte k b
+    → Accepts p k (handedWith c (length (m .codeFlash)) (length (m .dataFlash)) (length room)) → wayOf (hearing (k .phase)) (c .len) (getD (c .bytes) 1 0) ≡ Mode → new ≡ modeByte k b
     → record { answer = Replied 0 0; chip = record { core = new; collector = c }; memory = m; room = room }
-    ≡ settled Accepted p (byteIn (k .phase) p k (heard c) b m) (record { core = k; collector = c }) m room
+    ≡ settled Accepted p (byteIn (hearing (k .phase)) p k (heard c) b m) (record { core = k; collector = c }) m room
 unfolding byteIn
 mode-settles p c k new b m room a w n =
-    let e : k .phase ≡ ModeByte = mode-way (k .phase) (c .len) (getD (c .bytes) 1 0) w in
+    let e : hearing (k .phase) ≡ HearsNothing = mode-way (hearing (k .phase)) (c .len) (getD (c .bytes) 1 0) w in
     let z : c .len ≡ 0 = none-begun p k (c .len) (getD (c .bytes) 0 0) (getD (c .bytes) 1 0) (a .state) e in
     ap (λ (q : Core). record { answer = Replied 0 0; chip = record { core = q; collector = c }; memory = m; room = room }) n
     ∙ quiet-settles p c c k (modeByte k b) (heard c) m room (sym (holding-heard c (omega arith))) (a .roomy)
-    ∙ ap (λ (f : Phase). settled Accepted p (byteIn f p k (heard c) b m) (record { core = k; collector = c }) m room) (sym e)
+    ∙ ap (λ (f : Hearing). settled Accepted p (byteIn f p k (heard c) b m) (record { core = k; collector = c }) m room) (sym e)
 
 pub hears-settles : (p : Part) (c next : Collector) (k : Core) (g : Header) (b : ℕ) (m : Flash) (room : List ℕ) → length (c .bytes) ≡ 260
-    → Accepts p k (handedWith c (length (m .codeFlash)) (length (m .dataFlash)) (length room)) → wayOf (k .phase) (c .len) (getD (c .bytes) 1 0) ≡ Hears g → next ≡ byteOf c g b
+    → Accepts p k (handedWith c (length (m .codeFlash)) (length (m .dataFlash)) (length room)) → wayOf (hearing (k .phase)) (c .len) (getD (c .bytes) 1 0) ≡ Hears g → next ≡ byteOf c g b
     → record { answer = Replied 0 0; chip = record { core = k; collector = next }; memory = m; room = room }
-    ≡ settled Accepted p (byteIn (k .phase) p k (heard c) b m) (record { core = k; collector = c }) m room
-unfolding wayOf byteIn goodCollected
-hears-settles p c next k g b m room l a w nx = go (k .phase) refl w
+    ≡ settled Accepted p (byteIn (hearing (k .phase)) p k (heard c) b m) (record { core = k; collector = c }) m room
+unfolding wayOf byteIn
+hears-settles p c next k g b m room l a w nx = go (hearing (k .phase)) refl w
   where
-    on : (f : Phase) (h : Header) (x : Effect) → Begun c → wayOn h (c .len) (getD (c .bytes) 1 0) ≡ Hears g
+    on : (f : Hearing) (h : Header) (x : Effect) → Begun c → wayOn h (c .len) (getD (c .bytes) 1 0) ≡ Hears g
         → record { answer = Replied 0 0; chip = record { core = k; collector = next }; memory = m; room = room }
         ≡ settled Accepted p (heardByte (hear h (heard c) b) x k m) (record { core = k; collector = c }) m room
     on f h x u v =
         let q = hears-is h g (c .len) (getD (c .bytes) 1 0) v in
         byte-on p c next k h b x m room l u (nx ∙ ap (λ (i : Header). byteOf c i b) (sym (q .1))) (q .0) (a .roomy)
 
-    go : (f : Phase) → k .phase ≡ f → wayOf f (c .len) (getD (c .bytes) 1 0) ≡ Hears g
+    go : (f : Hearing) → hearing (k .phase) ≡ f → wayOf f (c .len) (getD (c .bytes) 1 0) ≡ Hears g
         → record { answer = Replied 0 0; chip = record { core = k; collector = next }; memory = m; room = room }
         ≡ settled Accepted p (byteIn f p k (heard c) b m) (record { core = k; collector = c }) m room
-    go ModeByte e v = absurd (let z : _≡_ {A = ℕ} 0 1 = cc in omega arith)
-    go Setup e v = on Setup Command (frameDoes Setup p k (hear Command (heard c) b) m) (begun-in p c k Setup Command _ _ _ l a e refl) v
-    go Ready e v = on Ready Command (frameDoes Ready p k (hear Command (heard c) b) m) (begun-in p c k Ready Command _ _ _ l a e refl) v
-    go (Awaiting w) e v = on (Awaiting w) Data (frameDoes (Awaiting w) p k (hear Data (heard c) b) m) (begun-in p c k (Awaiting w) Data _ _ _ l a e refl) v
+    go HearsNothing e v = absurd (let z : _≡_ {A = ℕ} 0 1 = cc in omega arith)
+    go HearsCommands e v = on HearsCommands Command (frameDoes HearsCommands p k (hear Command (heard c) b) m) (begun-in p c k HearsCommands Command _ _ _ l a e (command-collected _ _ _)) v
+    go (HearsData w) e v = on (HearsData w) Data (frameDoes (HearsData w) p k (hear Data (heard c) b) m) (begun-in p c k (HearsData w) Data _ _ _ l a e (data-collected w _ _ _)) v
 
 pub completes-settles : (p : Part) (d : Done) (c next e : Collector) (k : Core) (g : Header) (b : ℕ) (s : Sent) (m n : Flash) (room r : List ℕ) → length (c .bytes) ≡ 260
-    → Accepts p k (handedWith c (length (m .codeFlash)) (length (m .dataFlash)) (length room)) → wayOf (k .phase) (c .len) (getD (c .bytes) 1 0) ≡ Completes g → next ≡ byteOf c g b
-    → effect d n ≡ frameDoes (k .phase) p k (take (next .len - 0) (next .bytes)) m → said s r ≡ sendOf p (d .core .options) (d .reply) room → e ≡ dropped c
+    → Accepts p k (handedWith c (length (m .codeFlash)) (length (m .dataFlash)) (length room)) → wayOf (hearing (k .phase)) (c .len) (getD (c .bytes) 1 0) ≡ Completes g → next ≡ byteOf c g b
+    → effect d n ≡ frameDoes (hearing (k .phase)) p k (take (next .len - 0) (next .bytes)) m → said s r ≡ sendOf p (d .core .options) (d .reply) room → e ≡ dropped c
     → record { answer = replied s; chip = record { core = d .core; collector = e }; memory = n; room = r }
-    ≡ settled Accepted p (byteIn (k .phase) p k (heard c) b m) (record { core = k; collector = c }) m room
-unfolding wayOf byteIn goodCollected
-completes-settles p d c next e k g b s m n room r l a w nx x u v = go (k .phase) refl w x
+    ≡ settled Accepted p (byteIn (hearing (k .phase)) p k (heard c) b m) (record { core = k; collector = c }) m room
+unfolding wayOf byteIn
+completes-settles p d c next e k g b s m n room r l a w nx x u v = go (hearing (k .phase)) refl w x
   where
-    done : (f : Phase) (h : Header) → Begun c → wayOn h (c .len) (getD (c .bytes) 1 0) ≡ Completes g → effect d n ≡ frameDoes f p k (take (next .len - 0) (next .bytes)) m
+    done : (f : Hearing) (h : Header) → Begun c → wayOn h (c .len) (getD (c .bytes) 1 0) ≡ Completes g → effect d n ≡ frameDoes f p k (take (next .len - 0) (next .bytes)) m
         → record { answer = replied s; chip = record { core = d .core; collector = e }; memory = n; room = r }
         ≡ settled Accepted p (heardByte (hear h (heard c) b) (frameDoes f p k (hear h (heard c) b) m) k m) (record { core = k; collector = c }) m room
     done f h i j o =
         let q = completes-way h g (c .len) (getD (c .bytes) 1 0) j in
         byte-done p d c next e k h b s (λ (y : List ℕ). frameDoes f p k y m) m n room r l i (nx ∙ ap (λ (z : Header). byteOf c z b) (sym (q .1))) (q .0) o (u ∙ sym (send-said p (d .core .options) (d .reply) room (a .roomy) (a .part))) v
 
-    go : (f : Phase) → k .phase ≡ f → wayOf f (c .len) (getD (c .bytes) 1 0) ≡ Completes g → effect d n ≡ frameDoes f p k (take (next .len - 0) (next .bytes)) m
+    go : (f : Hearing) → hearing (k .phase) ≡ f → wayOf f (c .len) (getD (c .bytes) 1 0) ≡ Completes g → effect d n ≡ frameDoes f p k (take (next .len - 0) (next .bytes)) m
         → record { answer = replied s; chip = record { core = d .core; collector = e }; memory = n; room = r }
         ≡ settled Accepted p (byteIn f p k (heard c) b m) (record { core = k; collector = c }) m room
-    go ModeByte e j o = absurd (let z : _≡_ {A = ℕ} 0 1 = cc in omega arith)
-    go Setup e j o = done Setup Command (begun-in p c k Setup Command _ _ _ l a e refl) j o
-    go Ready e j o = done Ready Command (begun-in p c k Ready Command _ _ _ l a e refl) j o
-    go (Awaiting w) e j o = done (Awaiting w) Data (begun-in p c k (Awaiting w) Data _ _ _ l a e refl) j o
+    go HearsNothing e j o = absurd (let z : _≡_ {A = ℕ} 0 1 = cc in omega arith)
+    go HearsCommands e j o = done HearsCommands Command (begun-in p c k HearsCommands Command _ _ _ l a e (command-collected _ _ _)) j o
+    go (HearsData w) e j o = done (HearsData w) Data (begun-in p c k (HearsData w) Data _ _ _ l a e (data-collected w _ _ _)) j o
 
 -- One byte more is collected than before, at most.
 pub next-in-array : (p : Part) (c next : Collector) (k : Core) (g : Header) (b code flash room : ℕ) → length (c .bytes) ≡ 260
-    → Accepts p k (handedWith c code flash room) → wayOf (k .phase) (c .len) (getD (c .bytes) 1 0) ≡ Completes g → next ≡ byteOf c g b
+    → Accepts p k (handedWith c code flash room) → wayOf (hearing (k .phase)) (c .len) (getD (c .bytes) 1 0) ≡ Completes g → next ≡ byteOf c g b
     → next .len ≤ 260
-unfolding wayOf goodCollected
-next-in-array p c next k g b code flash room l a w nx = go (k .phase) refl w
+unfolding wayOf
+next-in-array p c next k g b code flash room l a w nx = go (hearing (k .phase)) refl w
   where
-    go : (f : Phase) → k .phase ≡ f → wayOf f (c .len) (getD (c .bytes) 1 0) ≡ Completes g → next .len ≤ 260
-    go ModeByte e j = absurd (let z : _≡_ {A = ℕ} 0 1 = cc in omega arith)
-    go Setup e j = next-within c next g b l (begun-in p c k Setup Command _ _ _ l a e refl) nx
-    go Ready e j = next-within c next g b l (begun-in p c k Ready Command _ _ _ l a e refl) nx
-    go (Awaiting w) e j = next-within c next g b l (begun-in p c k (Awaiting w) Data _ _ _ l a e refl) nx
+    go : (f : Hearing) → hearing (k .phase) ≡ f → wayOf f (c .len) (getD (c .bytes) 1 0) ≡ Completes g → next .len ≤ 260
+    go HearsNothing e j = absurd (let z : _≡_ {A = ℕ} 0 1 = cc in omega arith)
+    go HearsCommands e j = next-within c next g b l (begun-in p c k HearsCommands Command _ _ _ l a e (command-collected _ _ _)) nx
+    go (HearsData w) e j = next-within c next g b l (begun-in p c k (HearsData w) Data _ _ _ l a e (data-collected w _ _ _)) nx
 
 -- A gap or power-on: nothing is heard any more, and nothing is said.
 pub emptied : (p : Part) (c e : Collector) (k new : Core) (m : Flash) (room : List ℕ) → e ≡ dropped c → 32 ≤ length room
@@ -301,7 +269,7 @@ step-barred p c v m room r a = rw a
 pub same-event : (o : Outcome) (p : Part) (c : Chip) (v w : Event) (m : Flash) (room : List ℕ) → o ≡ stepOf p c w m room → v ≡ w → o ≡ stepOf p c v m room
 same-event o p c v w m room e f = e ∙ ap (λ (q : Event). stepOf p c q m room) (sym f)
 
-pub at-byte : (p : Part) (k : Core) (hs : List ℕ) (b : ℕ) (m : Flash) → byteIn (k .phase) p k hs b m ≡ reactTo (Byte b) p k hs m
+pub at-byte : (p : Part) (k : Core) (hs : List ℕ) (b : ℕ) (m : Flash) → byteIn (hearing (k .phase)) p k hs b m ≡ reactTo (Byte b) p k hs m
 unfolding reactTo
 at-byte p k hs b m = refl
 

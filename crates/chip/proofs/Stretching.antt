@@ -9,10 +9,10 @@ use native.Mathlib.Omega.{arith}
 use lib.Dec.{eqb, leb, ltb}
 use lib.ListN.{drop, getD, length, take}
 use lib.Seq.{drop-cons}
-use borrow.Author.Tests.{eqb-true, le-leb, le-ltb, leb-true, lt-leb, lt-ltb, ltb-false, ltb-true}
+use borrow.Author.Tests.{le-leb, le-ltb, leb-true, lt-leb, lt-ltb, ltb-false, ltb-true}
 use Rattle.chip.proofs.Feeding.{FedFrom, fed-turn}
-use Rattle.chip_state.proofs.Laws.{accepts, one-more-accepted}
-use Rattle.chip.proofs.Settling.{at-byte, hears-settles, same-event, state-collected, step-accepted}
+use Rattle.chip_state.proofs.Laws.{accepts, none-collected, one-more-accepted, state-collected}
+use Rattle.chip.proofs.Settling.{at-byte, hears-settles, same-event, step-accepted}
 use Rattle.chip.specs.Run.{Feeding, before, feedFrom}
 use Rattle.chip.specs.Step.{Outcome, byteIn, stepOf}
 use Rattle.chip_state.specs.Refusals.{goodCollected, goodState, verdictOn}
@@ -22,8 +22,9 @@ use Rattle.chip.specs.declared.Event.the-variants.{Byte}
 use Rattle.chip.specs.declared.events.Way.the-variants.{Hears}
 use Rattle.chip.specs.inner.Ways.{completesAt, lackingOf, plainOf, stretchOf, wayOf, wayOn}
 use Rattle.chip_core.specs.Effect.{Flash}
-use Rattle.chip_core.specs.declared.Phase.{Phase}
-use Rattle.chip_core.specs.declared.Phase.the-variants.{Awaiting, ModeByte, Ready, Setup}
+use Rattle.chip_core.specs.Hearing.{hearing}
+use Rattle.chip_core.specs.declared.Hearing.{Hearing}
+use Rattle.chip_core.specs.declared.Hearing.the-variants.{HearsCommands, HearsData, HearsNothing}
 use Rattle.frame.proofs.Laws.Collector.{added-before, added-byte, added-count, added-more, added-none, added-places, complete-within}
 use Rattle.frame.proofs.Laws.Frame.{full-not}
 use Rattle.frame.specs.Collector.{added, byteOf, heard}
@@ -84,16 +85,15 @@ verdictAt p c m room =
     verdictOn p c (length (m .codeFlash)) (length (m .dataFlash)) (length room)
 
 -- A byte that is only added: the way of such a byte, in the phase that a good state is in.
-record HeardAs (f : Phase) (n len : ℕ) : Type 0 where
+record HeardAs (f : Hearing) (n len : ℕ) : Type 0 where
   header : Header
   way : wayOf f n len ≡ Hears header
 
-heard-as : (f : Phase) (n head len : ℕ) → 2 ≤ n → n < counted len + 3 → goodCollected f n head len ≡ true → HeardAs f n len
-unfolding wayOf wayOn completesAt goodCollected if_then_else_ _and_
-heard-as ModeByte n head len h s e = absurd (let z : n ≡ 0 = eqb-true n 0 e in omega arith)
-heard-as Setup n head len h s e = record { header = Command; way = simp (le-leb 2 n h, lt-leb (counted len + 3) n s) }
-heard-as Ready n head len h s e = record { header = Command; way = simp (le-leb 2 n h, lt-leb (counted len + 3) n s) }
-heard-as (Awaiting w) n head len h s e = record { header = Data; way = simp (le-leb 2 n h, lt-leb (counted len + 3) n s) }
+heard-as : (f : Hearing) (n head len : ℕ) → 2 ≤ n → n < counted len + 3 → goodCollected f n head len ≡ true → HeardAs f n len
+unfolding wayOf wayOn completesAt if_then_else_ _and_
+heard-as HearsNothing n head len h s e = absurd (let z : n ≡ 0 = none-collected n head len e in omega arith)
+heard-as HearsCommands n head len h s e = record { header = Command; way = simp (le-leb 2 n h, lt-leb (counted len + 3) n s) }
+heard-as (HearsData w) n head len h s e = record { header = Data; way = simp (le-leb 2 n h, lt-leb (counted len + 3) n s) }
 
 abbrev after : Chip → ℕ → Chip
 after c b = record { core = c .core; collector = added (c .collector) (b ∷ []) }
@@ -106,10 +106,10 @@ module _ (p : Part) (c : Chip) (m : Flash) (room : List ℕ) (places : length (c
   pub byte-heard : (b : ℕ) → before (after c b) m room ≡ stepOf p c (Byte b) m room
   byte-heard b =
       let a = accepts accepted in
-      let w = heard-as (c .core .phase) (c .collector .len) (getD (c .collector .bytes) 0 0) (getD (c .collector .bytes) 1 0) begun short (state-collected p (c .core) (c .collector .len) (getD (c .collector .bytes) 0 0) (getD (c .collector .bytes) 1 0) (c .core .phase) good refl) in
+      let w = heard-as (hearing (c .core .phase)) (c .collector .len) (getD (c .collector .bytes) 0 0) (getD (c .collector .bytes) 1 0) begun short (state-collected p (c .core) (c .collector .len) (getD (c .collector .bytes) 0 0) (getD (c .collector .bytes) 1 0) (hearing (c .core .phase)) good refl) in
       let lacking : complete (heard (c .collector)) ≡ false = complete-within (c .collector) places (omega arith) ∙ full-not _ _ (omega arith) in
       let adds : added (c .collector) (b ∷ []) ≡ byteOf (c .collector) (w .header) b = added-byte (c .collector) (w .header) b (λ z. omega arith) places (omega arith) lacking in
-      step-accepted (before (after c b) m room) (byteIn (c .core .phase) p (c .core) (heard (c .collector)) b m) p c (Byte b) (Byte b) m room accepted refl (at-byte p (c .core) (heard (c .collector)) b m)
+      step-accepted (before (after c b) m room) (byteIn (hearing (c .core .phase)) p (c .core) (heard (c .collector)) b m) p c (Byte b) (Byte b) m room accepted refl (at-byte p (c .core) (heard (c .collector)) b m)
       (hears-settles p (c .collector) (added (c .collector) (b ∷ [])) (c .core) (w .header) b m room places a (w .way) adds)
 
   added-at : (i b : ℕ) → i < 2 → getD (added (c .collector) (b ∷ []) .bytes) i 0 ≡ getD (c .collector .bytes) i 0

@@ -16,8 +16,10 @@ use Rattle.chip_state.specs.Refusals.{verdictOn}
 use Rattle.chip_core.specs.Effect.{Effect, Flash, effect, entered, told}
 use Rattle.chip_pages.specs.Pages.{dataDoes}
 use Rattle.chip_core.specs.declared.Core.{Core}
-use Rattle.chip_core.specs.declared.Phase.{Phase}
-use Rattle.chip_core.specs.declared.Phase.the-variants.{Awaiting, ModeByte, Ready, Setup}
+use Rattle.chip_core.specs.Hearing.{hearing}
+use Rattle.chip_core.specs.declared.Hearing.{Hearing}
+use Rattle.chip_core.specs.declared.Hearing.the-variants.{HearsCommands, HearsData, HearsNothing}
+use Rattle.chip_core.specs.declared.Phase.the-variants.{ModeByte, Setup}
 use Rattle.frame.specs.Collector.{fresh, hear, heard, holding}
 use Rattle.frame.specs.Frame.{complete}
 use Rattle.frame.specs.declared.Header.the-variants.{Command, Data}
@@ -52,18 +54,17 @@ modeByte k b = if eqb b 0x3A or eqb b 0x00 then entered k Setup else k
 unfoldable pub heardByte : List ℕ → Effect → Core → Flash → Reaction
 heardByte hs x k m = if complete hs then reaction [] x else reaction hs (silent k m)
 
--- A complete frame does its work in the phase that it came in. (In phase 1 none comes.)
-unfoldable pub frameDoes : Phase → Part → Core → List ℕ → Flash → Effect
-frameDoes ModeByte p k f m = commandDoes p k f m
-frameDoes Setup p k f m = commandDoes p k f m
-frameDoes Ready p k f m = commandDoes p k f m
-frameDoes (Awaiting w) p k f m = dataDoes p k w f m
+-- A complete frame does its work by what was awaited. (Where no frame is awaited, none comes.)
+unfoldable pub frameDoes : Hearing → Part → Core → List ℕ → Flash → Effect
+frameDoes HearsNothing p k f m = silent k m
+frameDoes HearsCommands p k f m = commandDoes p k f m
+frameDoes (HearsData w) p k f m = dataDoes p k w f m
 
-unfoldable pub byteIn : Phase → Part → Core → List ℕ → ℕ → Flash → Reaction
-byteIn ModeByte p k hs b m = reaction hs (silent (modeByte k b) m)
-byteIn Setup p k hs b m = heardByte (hear Command hs b) (frameDoes Setup p k (hear Command hs b) m) k m
-byteIn Ready p k hs b m = heardByte (hear Command hs b) (frameDoes Ready p k (hear Command hs b) m) k m
-byteIn (Awaiting w) p k hs b m = heardByte (hear Data hs b) (frameDoes (Awaiting w) p k (hear Data hs b) m) k m
+-- A byte: the mode byte where no frame is awaited, else one more byte of a frame.
+unfoldable pub byteIn : Hearing → Part → Core → List ℕ → ℕ → Flash → Reaction
+byteIn HearsNothing p k hs b m = reaction hs (silent (modeByte k b) m)
+byteIn HearsCommands p k hs b m = heardByte (hear Command hs b) (frameDoes HearsCommands p k (hear Command hs b) m) k m
+byteIn (HearsData w) p k hs b m = heardByte (hear Data hs b) (frameDoes (HearsData w) p k (hear Data hs b) m) k m
 
 -- "A gap drops what is collected and changes nothing else. Power-on drops it too, keeps flash and options, and returns to the first phase."
 -- The rate code is 00h from power-on.
@@ -71,7 +72,7 @@ abbrev pub poweredOn : Core → Core
 poweredOn k = record { options = k .options; rate = 0x00; phase = ModeByte }
 
 unfoldable pub reactTo : Event → Part → Core → List ℕ → Flash → Reaction
-reactTo (Byte b) p k hs m = byteIn (k .phase) p k hs b m
+reactTo (Byte b) p k hs m = byteIn (hearing (k .phase)) p k hs b m
 reactTo Gap p k hs m = reaction [] (silent k m)
 reactTo PowerOn p k hs m = reaction [] (silent (poweredOn k) m)
 
@@ -101,7 +102,10 @@ settled Accepted p x c m room =
     }
 
 unfoldable pub stepOf : Part → Chip → Event → Flash → List ℕ → Outcome
-stepOf p c v m room = settled (verdictOn p c (length (m .codeFlash)) (length (m .dataFlash)) (length room)) p (reactTo v p (c .core) (heard (c .collector)) m) c m room
+stepOf p c v m room =
+    let verdict = verdictOn p c (length (m .codeFlash)) (length (m .dataFlash)) (length room) in
+    let reaction = reactTo v p (c .core) (heard (c .collector)) m in
+    settled verdict p reaction c m room
 
 -- A fresh chip of a part: phase 1, rate 00h, fresh options, nothing collected.
 unfoldable pub freshChip : Part → Chip

@@ -4,6 +4,7 @@ ghost use mathlib.Core.Path.{_≡_};
 ghost use Prim.Native.Nat.{_≤_, _<_, _+_};
 ghost use lib.ListN.{getD, length};
 ghost use Rattle.chip_core.specs.Effect.{flash, effect};
+ghost use Rattle.chip_core.specs.Hearing.{hearing};
 ghost use Rattle.frame.specs.Frame.{counted};
 ghost use Rattle.chip.specs.Run.{before, fed, feedOf};
 ghost use Rattle.chip.specs.inner.Ways.{completesAt, lackingOf, plainOf, wayOn, wayOf};
@@ -14,8 +15,10 @@ use super::Fed;
 use super::Step;
 use chip_core::Core;
 use chip_core::Done;
+use chip_core::Hearing;
 use chip_core::Phase;
 use chip_options::Options;
+use chip_reply::Reply;
 use chip_state::Chip;
 use chip_state::Handed;
 use frame::Header;
@@ -63,26 +66,29 @@ fn way_on(header: Header, count: usize, len: u8) -> Way
 }
 
 fn way_in(phase: Phase, count: usize, len: u8) -> Way
-    ensures { λ r. ⌜ r ≡ wayOf phase count len ⌝ }
+    ensures { λ r. ⌜ r ≡ wayOf (hearing phase) count len ⌝ }
 {
-    match phase {
-        Phase::ModeByte => Way::Mode,
-        Phase::Setup => way_on(Header::Command, count, len),
-        Phase::Ready => way_on(Header::Command, count, len),
-        Phase::Awaiting(w) => way_on(Header::Data, count, len),
+    let hears = phase.hearing();
+    match hears {
+        Hearing::HearsNothing => Way::Mode,
+        Hearing::HearsCommands => way_on(Header::Command, count, len),
+        Hearing::HearsData(w) => way_on(Header::Data, count, len),
     }
 }
 
-// A complete frame, in the phase that it came in.
+// A complete frame, by what the phase hears.
 fn frame_does(part: Part, core: Core, bytes: &[u8], code: &mut [u8], data: &mut [u8]) -> Done
-    ensures { λ r. ⌜ effect r (flash (now (code .exit)) (now («data» .exit))) ≡ frameDoes (core .phase) part core (now (bytes .entry)) (flash (now (code .entry)) (now («data» .entry))) ⌝ }
+    ensures { λ r. ⌜ effect r (flash (now (code .exit)) (now («data» .exit))) ≡ frameDoes (hearing (core .phase)) part core (now (bytes .entry)) (flash (now (code .entry)) (now («data» .entry))) ⌝ }
 {
     let phase = core.phase;
-    match phase {
-        Phase::ModeByte => chip_commands::command(part, core, bytes, code, data),
-        Phase::Setup => chip_commands::command(part, core, bytes, code, data),
-        Phase::Ready => chip_commands::command(part, core, bytes, code, data),
-        Phase::Awaiting(w) => chip_pages::page(part, core, w, bytes, code, data),
+    let hears = phase.hearing();
+    match hears {
+        Hearing::HearsNothing => Done {
+            reply: Reply::Silence,
+            core,
+        },
+        Hearing::HearsCommands => chip_commands::command(part, core, bytes, code, data),
+        Hearing::HearsData(w) => chip_pages::page(part, core, w, bytes, code, data),
     }
 }
 

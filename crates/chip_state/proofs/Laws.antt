@@ -1,23 +1,29 @@
 -- Laws of the chip's refusals, over plain variables: what an accepted call gives, and that one byte more, where the frame begun still lacks some, is accepted too.
 -- Assumes nothing.
 use mathlib.Core.Bool.{Bool, false, not, true}
-use mathlib.Core.Path.{_∙_, _≡_, ap, sym}
+use mathlib.Core.Path.{_∙_, _≡_, ap, refl, sym}
 use Prim.Native.Nat.{_%_, _+_, _-_, _<_, _≤_, suc, ℕ}
 use native.Mathlib.Decide.{decLt}
 use native.Mathlib.Nat.{mod-eq-of-lt, mod-lt, mod-self, suc-mod}
 use native.Mathlib.Numerals.{add-one}
 use native.Mathlib.Omega.{arith}
 use lib.Dec.{eqb, ltb}
-use borrow.Author.Tests.{eq-eqb, eqb-true, le-ltb, lt-ltb, ltb-false, ne-eqb, not-false}
+use lib.ListN.{getD, length}
+use borrow.Author.Tests.{eq-eqb, eqb-true, le-ltb, lt-ltb, ltb-false, ltb-true, ne-eqb, not-false, not-true}
 use Rattle.chip_core.specs.declared.Core.{Core}
-use Rattle.chip_core.specs.declared.Phase.{Phase}
-use Rattle.chip_core.specs.declared.Phase.the-variants.{Awaiting, ModeByte, Ready, Setup}
 use Rattle.chip_state.specs.Refusals.{goodBegun, goodCollected, goodState, verdictOf}
 use Rattle.chip_state.specs.declared.Handed.{Handed}
-use Rattle.frame.proofs.Laws.Frame.{full-not}
-use Rattle.frame.specs.Frame.{counted, full, headerByte}
+use Rattle.frame.proofs.Laws.Frame.{full-not, full-short}
+use Rattle.frame.specs.Frame.{complete, counted, full, headerByte}
 use Rattle.frame.specs.declared.Header.{Header}
 use Rattle.frame.specs.declared.Header.the-variants.{Command, Data}
+use Rattle.chip_core.specs.Hearing.{hearing}
+use Rattle.chip_core.specs.declared.Hearing.{Hearing}
+use Rattle.chip_core.specs.declared.Hearing.the-variants.{HearsCommands, HearsData, HearsNothing}
+use Rattle.chip_core.specs.declared.Awaited.{Awaited}
+use Rattle.frame.proofs.Laws.Collector.{complete-within}
+use Rattle.frame.specs.Collector.{heard}
+use Rattle.frame.specs.declared.collector.Collector.{Collector}
 use Rattle.part.proofs.Laws.{none-held, passed, passes}
 use Rattle.part.specs.Part.{described, size}
 use Rattle.part.specs.declared.Area.the-variants.{CodeFlash, DataFlash}
@@ -74,6 +80,48 @@ accepted {p} {k} {h} a =
     (passes _ _ (ap not (eq-eqb _ _ (a .codeLong)))
     (passes _ _ (ap not (eq-eqb _ _ (a .dataLong))) (passes _ _ (ap not (a .state)) (passes _ _ (le-ltb (h .room) 32 (a .roomy)) none-held))))
 
+-- What is collected in a good state: fewer bytes than the frame begun needs.
+pub record Begun (c : Collector) : Type 0 where
+  pub within : c .len < 260
+  pub lacks : complete (heard c) ≡ false
+
+pub begun : (h : Header) (c : Collector) → length (c .bytes) ≡ 260 → goodBegun h (c .len) (getD (c .bytes) 0 0) (getD (c .bytes) 1 0) ≡ true → Begun c
+unfolding goodBegun _or_
+begun h c l t = go (eqb (c .len) 0) refl t
+  where
+    full? : Bool
+    full? = full (c .len) (getD (c .bytes) 1 0)
+
+    go : (z : Bool) → eqb (c .len) 0 ≡ z → z or ltb (c .len) 260 and eqb (getD (c .bytes) 0 0) (headerByte h) and not full? ≡ true → Begun c
+    go true z e =
+        let n : c .len ≡ 0 = eqb-true _ _ z in
+        record { within = omega arith; lacks = complete-within c l (omega arith) ∙ full-short _ _ (omega arith) }
+    go false z e =
+        let w : c .len < 260 = ltb-true _ _ (and-left _ _ e) in
+        record { within = w; lacks = complete-within c l (omega arith) ∙ not-true _ (and-right _ _ (and-right _ _ e)) }
+
+-- What a good state gives of what is collected, by what the phase hears.
+pub state-collected : (p : Part) (k : Core) (count head len : ℕ) (e : Hearing) → goodState p k count head len ≡ true → hearing (k .phase) ≡ e
+    → goodCollected e count head len ≡ true
+unfolding goodState
+state-collected p k count head len e t f = ap (λ (g : Hearing). goodCollected g count head len) (sym f) ∙ and-left _ _ t
+
+pub none-begun : (p : Part) (k : Core) (count head len : ℕ) → goodState p k count head len ≡ true → hearing (k .phase) ≡ HearsNothing → count ≡ 0
+unfolding goodCollected
+none-begun p k count head len t e = eqb-true count 0 (state-collected p k count head len HearsNothing t e)
+
+pub none-collected : (count head len : ℕ) → goodCollected HearsNothing count head len ≡ true → count ≡ 0
+unfolding goodCollected
+none-collected count head len e = eqb-true count 0 e
+
+pub command-collected : (count head len : ℕ) → goodCollected HearsCommands count head len ≡ goodBegun Command count head len
+unfolding goodCollected
+command-collected count head len = refl
+
+pub data-collected : (w : Awaited) (count head len : ℕ) → goodCollected (HearsData w) count head len ≡ goodBegun Data count head len
+unfolding goodCollected
+data-collected w count head len = refl
+
 -- One byte more than header and LEN, the frame not complete yet.
 more-begun : (h : Header) (n head len : ℕ) → 2 ≤ n → n + 1 < counted len + 4 → counted len ≤ 256 → goodBegun h n head len ≡ true → goodBegun h (n + 1) head len ≡ true
 unfolding goodBegun _or_
@@ -86,18 +134,17 @@ more-begun h n head len k s c e =
     drop-or : {t u : Bool} → t ≡ false → t or u ≡ true → u ≡ true
     drop-or {t} {u} f e = sym (ap (λ (x : Bool). x or u) f) ∙ e
 
-more-collected : (f : Phase) (n head len : ℕ) → 2 ≤ n → n + 1 < counted len + 4 → counted len ≤ 256 → goodCollected f n head len ≡ true
+more-collected : (f : Hearing) (n head len : ℕ) → 2 ≤ n → n + 1 < counted len + 4 → counted len ≤ 256 → goodCollected f n head len ≡ true
     → goodCollected f (n + 1) head len ≡ true
 unfolding goodCollected
-more-collected ModeByte n head len k s c e = absurd (let z : n ≡ 0 = eqb-true n 0 e in omega arith)
-more-collected Setup n head len k s c e = more-begun Command n head len k s c e
-more-collected Ready n head len k s c e = more-begun Command n head len k s c e
-more-collected (Awaiting w) n head len k s c e = more-begun Data n head len k s c e
+more-collected HearsNothing n head len k s c e = absurd (let z : n ≡ 0 = eqb-true n 0 e in omega arith)
+more-collected HearsCommands n head len k s c e = more-begun Command n head len k s c e
+more-collected (HearsData w) n head len k s c e = more-begun Data n head len k s c e
 
 more-good : (p : Part) (k : Core) (n head len : ℕ) → 2 ≤ n → n + 1 < counted len + 4 → counted len ≤ 256 → goodState p k n head len ≡ true
     → goodState p k (n + 1) head len ≡ true
 unfolding goodState
-more-good p k n head len h s c e = and-both (more-collected (k .phase) n head len h s c (and-left _ _ e)) (and-right (goodCollected (k .phase) n head len) _ e)
+more-good p k n head len h s c e = and-both (more-collected (hearing (k .phase)) n head len h s c (and-left _ _ e)) (and-right (goodCollected (hearing (k .phase)) n head len) _ e)
 
 pub one-more-accepted : (p : Part) (k : Core) (h : Handed) → verdictOf p k h ≡ Accepted → 2 ≤ h .count → h .count + 1 < counted (h .len) + 4 → counted (h .len) ≤ 256
     → verdictOf p k (record { count = h .count + 1; head = h .head; len = h .len; code = h .code; «data» = h .«data»; room = h .room }) ≡ Accepted

@@ -8,6 +8,9 @@ use Rattle.chip_state.specs.declared.Chip.{Chip}
 use Rattle.chip_state.specs.declared.Handed.{Handed}
 use Rattle.chip_core.specs.declared.Awaited.{Awaited}
 use Rattle.chip_core.specs.declared.Core.{Core}
+use Rattle.chip_core.specs.Hearing.{hearing}
+use Rattle.chip_core.specs.declared.Hearing.{Hearing}
+use Rattle.chip_core.specs.declared.Hearing.the-variants.{HearsCommands, HearsData, HearsNothing}
 use Rattle.chip_core.specs.declared.Phase.{Phase}
 use Rattle.chip_core.specs.declared.Phase.the-variants.{Awaiting, ModeByte, Ready, Setup}
 use Rattle.frame.specs.Frame.{full, headerByte}
@@ -56,17 +59,16 @@ unfoldable pub goodBegun : Header → ℕ → ℕ → ℕ → Bool
 goodBegun h count head len = eqb count 0 or ltb count 260 and eqb head (headerByte h) and not (full count len)
 
 -- "anything collected in phase 1"
-unfoldable pub goodCollected : Phase → ℕ → ℕ → ℕ → Bool
-goodCollected ModeByte count head len = eqb count 0
-goodCollected Setup count head len = goodBegun Command count head len
-goodCollected Ready count head len = goodBegun Command count head len
-goodCollected (Awaiting w) count head len = goodBegun Data count head len
+unfoldable pub goodCollected : Hearing → ℕ → ℕ → ℕ → Bool
+goodCollected HearsNothing count head len = eqb count 0
+goodCollected HearsCommands count head len = goodBegun Command count head len
+goodCollected (HearsData w) count head len = goodBegun Data count head len
 
 unfoldable pub goodCore : Part → Core → Bool
 goodCore p k = leb (k .rate) 0x03 and goodOptions p (k .options) and goodPhase p (k .phase)
 
 unfoldable pub goodState : Part → Core → ℕ → ℕ → ℕ → Bool
-goodState p k count head len = goodCollected (k .phase) count head len and goodCore p k
+goodState p k count head len = goodCollected (hearing (k .phase)) count head len and goodCore p k
 
 -- "Order for the chip: 1, 2, 3, 9, 4".
 unfoldable pub verdictOf : Part → Core → Handed → Verdict

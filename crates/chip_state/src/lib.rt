@@ -6,6 +6,7 @@ ghost use Rattle.words.specs.Words.{_or_};
 ghost use Rattle.chip_state.specs.Refusals.{sameArea, goodPlaces, goodAwaited, goodPhase, goodBegun, goodCollected, goodCore, goodState, verdictOf};
 use chip_core::Awaited;
 use chip_core::Core;
+use chip_core::Hearing;
 use chip_core::Phase;
 use frame::Header;
 use frame::collector::Collector;
@@ -146,14 +147,13 @@ fn is_good_begun(header: Header, count: usize, head: u8, len: u8) -> bool
     false
 }
 
-fn is_good_collected(phase: Phase, count: usize, head: u8, len: u8) -> bool
-    ensures { λ r. ⌜ r ≡ goodCollected phase count head len ⌝ }
+fn is_good_collected(hears: Hearing, count: usize, head: u8, len: u8) -> bool
+    ensures { λ r. ⌜ r ≡ goodCollected hears count head len ⌝ }
 {
-    match phase {
-        Phase::ModeByte => count == 0,
-        Phase::Setup => is_good_begun(Header::Command, count, head, len),
-        Phase::Ready => is_good_begun(Header::Command, count, head, len),
-        Phase::Awaiting(w) => is_good_begun(Header::Data, count, head, len),
+    match hears {
+        Hearing::HearsNothing => count == 0,
+        Hearing::HearsCommands => is_good_begun(Header::Command, count, head, len),
+        Hearing::HearsData(w) => is_good_begun(Header::Data, count, head, len),
     }
 }
 
@@ -175,7 +175,7 @@ fn is_good_state(part: Part, core: Core, count: usize, head: u8, len: u8) -> boo
     ensures { λ r. ⌜ r ≡ goodState part core count head len ⌝ }
 {
     let phase = core.phase;
-    if is_good_collected(phase, count, head, len) {
+    if is_good_collected(phase.hearing(), count, head, len) {
         return is_good_core(part, core);
     }
     false

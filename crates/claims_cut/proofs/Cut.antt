@@ -22,6 +22,7 @@ use Rattle.claims_good.proofs.Rooms.{leaves, reactionOf}
 use Rattle.chip_state.proofs.Laws.{Accepts, accepts}
 use Rattle.chip_work.specs.Work.{blockErase, erasedIn}
 use Rattle.chip_commands.specs.Commands.{commandDoes, work}
+use Rattle.chip_core.specs.Hearing.{hearing}
 use Rattle.chip_core.specs.Effect.{Effect, Flash, bytesIn, effect}
 use Rattle.chip_pages.specs.Pages.{dataDoes, footerOf, goodData, lengthOf, pageIn, pageStored, programPage}
 use Rattle.chip_commands.specs.declared.Asked.{Asked}
@@ -148,9 +149,9 @@ module _ (p : Part) (k : Core) (m : Flash) (long : (a : Area) → length (bytesI
         (λ t. if-all (Does p m) _ (λ u. stays-so m _)
         (λ u. if-all (Does p m) _ (λ v. page-does u (payload f) (page-long w f u (not-false _ t))) (λ v. stays-so m _)))
 
-  frame-does : (f : Phase) → described p ≡ true → goodPhase p f ≡ true → (g : List ℕ) → Does p m (frameDoes f p k g m)
-  unfolding frameDoes goodPhase
-  frame-does ModeByte d e g = command-does g
+  frame-does : (f : Phase) → described p ≡ true → goodPhase p f ≡ true → (g : List ℕ) → Does p m (frameDoes (hearing f) p k g m)
+  unfolding frameDoes hearing goodPhase
+  frame-does ModeByte d e g = stays-so m _
   frame-does Setup d e g = command-does g
   frame-does Ready d e g = command-does g
   frame-does (Awaiting w) d e g = data-does d w e g
@@ -164,8 +165,8 @@ unfolding heardByte
 heard-does p k m hs x d = if-all (DoesSo p m) _ (λ t. record { change = d .change }) (λ t. record { change = nothing refl })
 
 byte-does : (p : Part) (k : Core) (m : Flash) (f : Phase) (hs : List ℕ) (b : ℕ) → ((a : Area) → length (bytesIn a m) ≡ size p a) → described p ≡ true
-    → goodPhase p f ≡ true → DoesSo p m (byteIn f p k hs b m)
-unfolding byteIn
+    → goodPhase p f ≡ true → DoesSo p m (byteIn (hearing f) p k hs b m)
+unfolding byteIn hearing
 byte-does p k m ModeByte hs b l d g = record { change = nothing refl }
 byte-does p k m Setup hs b l d g = heard-does p k m _ _ (frame-does p k m l Setup d g _)
 byte-does p k m Ready hs b l d g = heard-does p k m _ _ (frame-does p k m l Ready d g _)

@@ -11,6 +11,7 @@ use Rattle.claims_good.proofs.Rooms.{utteranceOf}
 use Rattle.claims_fed.specs.Fed.{BadDoes, Blame, badCore, does, is07h, is15h, saysFrame}
 use Rattle.claims_fed.specs.Awaits.{AwaitsFrame, aCommand, aPage, awaitsIn, command, goodFor, inReady, inSetup, page}
 use Rattle.chip_commands.specs.Commands.{askedIn, commandDoes, commandsIn, work}
+use Rattle.chip_core.specs.Hearing.{hearing}
 use Rattle.chip_core.specs.Effect.{Flash, effect, says}
 use Rattle.chip_pages.specs.Pages.{badData, dataDoes, footerOf, goodData, lengthOf, pair, ready}
 use Rattle.chip_core.specs.declared.Awaited.{Awaited}
@@ -76,7 +77,7 @@ data-blamed p k w m s b = go (eqb (w .command) 0xA0)
         }
 
 pub bad-frame-does : (f : Phase) (p : Part) (k : Core) (m : Flash) (g : List ℕ) → AwaitsFrame f → goodFor (awaitsIn f) g ≡ false → BadDoes f p k m (does f p k m g)
-unfolding does frameDoes badCore goodFor
+unfolding does frameDoes hearing badCore goodFor
 bad-frame-does f p k m g (command inSetup) e =
     rw (bad-command Setup p k m g e)
     (record { core = refl; memory = refl; status = statusOf (judgeOf Last g); blame = blamed (judgeOf Last g) e; utters = says-one p k m (statusOf (judgeOf Last g)) })

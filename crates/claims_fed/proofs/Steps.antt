@@ -14,6 +14,7 @@ use Rattle.claims_good.proofs.Collected.{holds}
 use Rattle.claims_good.proofs.Rooms.{leaves, reactionOf, says-reaction, utteranceOf}
 use Rattle.claims_good.specs.Good.{Stands, uttered}
 use Rattle.claims_fed.specs.Awaits.{AwaitsFrame, command, eventOf, headerIn, inReady, inSetup, page}
+use Rattle.chip_core.specs.Hearing.{hearing}
 use Rattle.chip_core.specs.Effect.{Effect, Flash}
 use Rattle.chip_core.specs.declared.Core.{Core}
 use Rattle.chip_core.specs.declared.Phase.{Phase}
@@ -43,8 +44,8 @@ heard-collects hs x k m = go (complete hs)
     go false = refl
 
 byte-collects : (f : Phase) (p : Part) (k : Core) (hs : List ℕ) (m : Flash) (b : ℕ) → AwaitsFrame f
-    → byteIn f p k hs b m ≡ collectedBy (does f p k m) k m (collecting (headerIn f) hs (byte b))
-unfolding byteIn collecting does
+    → byteIn (hearing f) p k hs b m ≡ collectedBy (does f p k m) k m (collecting (headerIn f) hs (byte b))
+unfolding byteIn hearing collecting does
 byte-collects f p k hs m b (command inSetup) = heard-collects (hear Command hs b) (does Setup p k m) k m
 byte-collects f p k hs m b (command inReady) = heard-collects (hear Command hs b) (does Ready p k m) k m
 byte-collects f p k hs m b (page w) = heard-collects (hear Data hs b) (does (Awaiting w) p k m) k m

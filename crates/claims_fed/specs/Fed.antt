@@ -8,6 +8,7 @@ use Rattle.chip.specs.Run.{run, spokenIn}
 use Rattle.chip.specs.Step.{Outcome, frameDoes, reaction}
 use Rattle.chip.specs.declared.Answer.the-variants.{Replied}
 use Rattle.chip.specs.declared.Event.the-variants.{Byte}
+use Rattle.chip_core.specs.Hearing.{hearing}
 use Rattle.chip_core.specs.Effect.{Effect, Flash}
 use Rattle.chip_core.specs.declared.Core.{Core}
 use Rattle.chip_core.specs.declared.Phase.{Phase}
@@ -22,7 +23,7 @@ use Rattle.words.specs.Words.{if_then_else_}
 
 -- A frame does its work in its phase.
 unfoldable pub does : Phase → Part → Core → Flash → List ℕ → Effect
-does f p k m g = frameDoes f p k g m
+does f p k m g = frameDoes (hearing f) p k g m
 
 -- What a frame does in a state.
 unfoldable pub doesIn : Part → List ℕ → Core → Flash → Effect

@@ -7,7 +7,7 @@ use Prim.Native.Nat.{_<_, _≤_, ℕ}
 use native.Mathlib.Omega.{arith}
 use lib.ListN.{getD, length}
 use borrow.Author.Tests.{eqb-true}
-use Rattle.chip.proofs.Settling.{begun}
+
 use Rattle.chip.specs.Run.{onward, run}
 use Rattle.chip.specs.Step.{Outcome, Reaction, byteIn, frameDoes, heardByte, modeByte, reactTo, reaction, settled, silent, stepOf}
 use Rattle.chip_state.specs.Refusals.{goodBegun, goodCollected, goodCore, goodPhase, goodState}
@@ -16,8 +16,9 @@ use Rattle.chip.specs.declared.Event.the-variants.{Byte, Gap, PowerOn}
 use Rattle.claims_good.proofs.Collected.{Holds, begins-good, below-hear, below-heard, good-begins, hear-begins, holds, none-good}
 use Rattle.claims_good.proofs.Core.{GoodCore, core-is, enters, is-core}
 use Rattle.claims_good.proofs.Effects.{Keeps, command-keeps, data-keeps, stays-so}
-use Rattle.chip_state.proofs.Laws.{accepted, accepts}
+use Rattle.chip_state.proofs.Laws.{accepted, accepts, begun}
 use Rattle.claims_good.specs.Good.{AllProper, Proper, Stands, aByte, aGap, aPowerOn, andEvent, verdictIn}
+use Rattle.chip_core.specs.Hearing.{hearing}
 use Rattle.chip_core.specs.Effect.{Effect, Flash}
 use Rattle.chip_core.specs.declared.Core.{Core}
 use Rattle.chip_core.specs.declared.Phase.{Phase}
@@ -42,18 +43,18 @@ record Reacts (p : Part) (c : Collector) (m : Flash) (x : Reaction) : Type 0 whe
   keeps : Keeps p m (x .does)
   holds : Holds c (x .hears)
   collected :
-      goodCollected (x .does .core .phase) (holding c (x .hears) .len) (getD (holding c (x .hears) .bytes) 0 0) (getD (holding c (x .hears) .bytes) 1 0) ≡ true
+      goodCollected (hearing (x .does .core .phase)) (holding c (x .hears) .len) (getD (holding c (x .hears) .bytes) 0 0) (getD (holding c (x .hears) .bytes) 1 0) ≡ true
 
 module _ (p : Part) (c : Collector) (m : Flash) (k : Core) (places : length (c .bytes) ≡ 260) (bytes : Below 256 (c .bytes)) (part : described p ≡ true)
     (good : GoodCore p k)
-    (now : goodCollected (k .phase) (c .len) (getD (c .bytes) 0 0) (getD (c .bytes) 1 0) ≡ true) where
+    (now : goodCollected (hearing (k .phase)) (c .len) (getD (c .bytes) 0 0) (getD (c .bytes) 1 0) ≡ true) where
   -- Nothing is collected.
   forgets : (x : Effect) → Keeps p m x → Reacts p c m (reaction [] x)
   unfolding holding
   forgets x g = record { keeps = g; holds = holds c [] places bytes none (omega arith); collected = none-good _ _ _ }
 
   -- A byte while a frame with the header h is awaited.
-  listens : (h : Header) (b : ℕ) (x : Effect) → b < 256 → ((n i l : ℕ) → goodCollected (k .phase) n i l ≡ goodBegun h n i l) → Keeps p m x
+  listens : (h : Header) (b : ℕ) (x : Effect) → b < 256 → ((n i l : ℕ) → goodCollected (hearing (k .phase)) n i l ≡ goodBegun h n i l) → Keeps p m x
       → Reacts p c m (heardByte (hear h (heard c) b) x k m)
   unfolding heardByte
   listens h b x small e g = if-all (Reacts p c m) _ (λ t. forgets x g) (λ t. goes-on t)
@@ -81,15 +82,15 @@ module _ (p : Part) (c : Collector) (m : Flash) (k : Core) (places : length (c .
                 ∙ begins-good h d (held .places) (held .within) (held .bytes) (rw q (hear-begins h (heard c) b (good-begins h c places was))) (rw q t);
           }
 
-  byte-reacts : (f : Phase) (b : ℕ) → b < 256 → k .phase ≡ f → Reacts p c m (byteIn f p k (heard c) b m)
-  unfolding byteIn frameDoes goodCollected goodPhase modeByte
+  byte-reacts : (f : Phase) (b : ℕ) → b < 256 → k .phase ≡ f → Reacts p c m (byteIn (hearing f) p k (heard c) b m)
+  unfolding byteIn frameDoes hearing goodCollected goodPhase modeByte
   byte-reacts ModeByte b h e =
-      let z : c .len ≡ 0 = eqb-true _ _ (ap (λ (g : Phase). goodCollected g (c .len) (getD (c .bytes) 0 0) (getD (c .bytes) 1 0)) (sym e) ∙ now) in
+      let z : c .len ≡ 0 = eqb-true _ _ (ap (λ (g : Phase). goodCollected (hearing g) (c .len) (getD (c .bytes) 0 0) (getD (c .bytes) 1 0)) (sym e) ∙ now) in
       rw (heard-none c z) (forgets _ (stays-so m (if-all (GoodCore p) _ (λ t. enters Setup good refl) (λ t. good))))
-  byte-reacts Setup b h e = listens Command b _ h (λ n i l. ap (λ (g : Phase). goodCollected g n i l) e) (command-keeps p k part good _ m)
-  byte-reacts Ready b h e = listens Command b _ h (λ n i l. ap (λ (g : Phase). goodCollected g n i l) e) (command-keeps p k part good _ m)
+  byte-reacts Setup b h e = listens Command b _ h (λ n i l. ap (λ (g : Phase). goodCollected (hearing g) n i l) e) (command-keeps p k part good _ m)
+  byte-reacts Ready b h e = listens Command b _ h (λ n i l. ap (λ (g : Phase). goodCollected (hearing g) n i l) e) (command-keeps p k part good _ m)
   byte-reacts (Awaiting w) b h e =
-      listens Data b _ h (λ n i l. ap (λ (g : Phase). goodCollected g n i l) e)
+      listens Data b _ h (λ n i l. ap (λ (g : Phase). goodCollected (hearing g) n i l) e)
       (data-keeps p k part good w (ap (λ (g : Phase). goodPhase p g) (sym e) ∙ good .phase) _ m)
 
   reacts : (v : Event) → Proper v → Reacts p c m (reactTo v p k (heard c) m)

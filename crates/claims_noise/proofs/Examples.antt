@@ -23,6 +23,7 @@ use Rattle.claims_noise.specs.Examples.{allSaid, cutPage, eraseFrame, in
 use Rattle.claims_noise.specs.Noise.{allows, completesOnly, dataCompleted, empty, noFrame, only, permitted, thenAwaits, thenGap}
 use Rattle.claims_stars.specs.Table.{readyChip, thePart}
 use Rattle.chip_commands.specs.Commands.{commandDoes}
+use Rattle.chip_core.specs.Hearing.{hearing}
 use Rattle.chip_core.specs.Effect.{Flash}
 use Rattle.chip_pages.specs.Pages.{badData, dataDoes, footerOf, goodData, isLastPage, lengthOf, nextPage, pageIn, pageStored, programPage, storedReply}
 use Rattle.chip_flash.specs.Flash.{blank}
@@ -86,7 +87,7 @@ long-noise = record { stands = ready-stands; nothing = refl; bytes = proper-by l
 -- In it the chip does answer: 07h, then 15h.
 pub long-noise-said : allSaid (saysBy stepOf thePart (thenGap longNoise) readyChip) ≡ 0x02 ∷ 0x01 ∷ 0x07 ∷ 0xF8 ∷ 0x03 ∷ 0x02 ∷ 0x01 ∷ 0x15 ∷ 0xEA ∷ 0x03 ∷ []
 unfolding allSaid saysBy thenGap longNoise stepOf settled verdictOf firstOf described _from_to_ _and_ _or_ if_then_else_ goodState goodCollected goodBegun goodCore
-    goodOptions fixedBits goodPhase lastBlock freshOptions fresh heard holding hear complete full counted isFrame reactTo byteIn heardByte frameDoes commandDoes
+    goodOptions fixedBits goodPhase lastBlock freshOptions fresh heard holding hear complete full counted isFrame reactTo byteIn hearing heardByte frameDoes commandDoes
     judgeOf summed sumOf lessAll less placeOf liesIn placeIn blockOf pageOf blockSize saidOf framesOf framed payloads
 long-noise-said = refl
 
@@ -116,7 +117,7 @@ wrong-page-completes-one = refl
 pub wrong-page-said : allSaid (saysBy stepOf thePart (thenGap wrongPage) writingChip) ≡ 0x02 ∷ 0x02 ∷ 0x15 ∷ 0x15 ∷ 0xD4 ∷ 0x03 ∷ 0x02 ∷ 0x01 ∷ 0x15 ∷ 0xEA ∷ 0x03 ∷ []
 unfolding allSaid saysBy thenGap wrongPage dataDoes badData fitting footerOf lengthOf isLastPage goodAwaited goodPlaces stepOf settled verdictOf firstOf described
     _from_to_ _and_ _or_ if_then_else_ goodState goodCollected goodBegun goodCore goodOptions fixedBits goodPhase lastBlock freshOptions fresh heard holding hear
-    complete full counted isFrame reactTo byteIn heardByte frameDoes commandDoes judgeOf summed sumOf lessAll less placeOf liesIn placeIn blockOf pageOf blockSize
+    complete full counted isFrame reactTo byteIn hearing heardByte frameDoes commandDoes judgeOf summed sumOf lessAll less placeOf liesIn placeIn blockOf pageOf blockSize
     saidOf framesOf framed payloads
 wrong-page-said = refl
 
@@ -176,7 +177,7 @@ page-changed =
 pub page-stored : getD (runBy stepOf thePart (map Byte pageFrame) writingChip .memory .codeFlash) 0x0500 0 ≡ 0xAA
 unfolding runBy pageFrame dataDoes goodData payload programPage pageIn pageStored blank allAre putOf putAt nextPage storedReply badData fitting footerOf lengthOf isLastPage
     goodAwaited goodPlaces stepOf settled verdictOf firstOf described _from_to_ _and_ _or_ if_then_else_ goodState goodCollected goodBegun goodCore goodOptions
-    fixedBits goodPhase lastBlock freshOptions fresh heard holding hear complete full counted isFrame reactTo byteIn heardByte frameDoes commandDoes judgeOf summed
+    fixedBits goodPhase lastBlock freshOptions fresh heard holding hear complete full counted isFrame reactTo byteIn hearing heardByte frameDoes commandDoes judgeOf summed
     sumOf lessAll less placeOf liesIn placeIn blockOf pageOf blockSize saidOf framesOf framed payloads
 page-stored = refl
 

@@ -11,7 +11,6 @@ use Rattle.dock.specs.Calls.{askOf, hearOf}
 use Rattle.dock.specs.declared.Report.{Report}
 use Rattle.dock.specs.declared.Report.the-variants.{Due, Ended, Put, Refused}
 use Rattle.dock_flow.specs.Flow.{answered}
-use Rattle.dock_flow.specs.Frames.{handed}
 use Rattle.dock_job.specs.Job.{isOver}
 use Rattle.dock_job.specs.declared.Dock.{Dock}
 use Rattle.dock_job.specs.declared.Job.{Job}

@@ -7,8 +7,8 @@ use Rattle.chip_state.specs.Refusals.{verdictOn}
 use Rattle.chip_state.specs.declared.Chip.{Chip}
 use Rattle.chip.specs.declared.events.Way.{Way}
 use Rattle.chip.specs.declared.events.Way.the-variants.{Completes, Hears, Mode}
-use Rattle.chip_core.specs.declared.Phase.{Phase}
-use Rattle.chip_core.specs.declared.Phase.the-variants.{Awaiting, ModeByte, Ready, Setup}
+use Rattle.chip_core.specs.declared.Hearing.{Hearing}
+use Rattle.chip_core.specs.declared.Hearing.the-variants.{HearsCommands, HearsData, HearsNothing}
 use Rattle.frame.specs.Frame.{counted}
 use Rattle.frame.specs.declared.Header.{Header}
 use Rattle.frame.specs.declared.Header.the-variants.{Command, Data}
@@ -24,11 +24,10 @@ completesAt count len = leb 2 count and leb (counted len + 3) count
 unfoldable pub wayOn : Header → ℕ → ℕ → Way
 wayOn h count len = if completesAt count len then Completes h else Hears h
 
-unfoldable pub wayOf : Phase → ℕ → ℕ → Way
-wayOf ModeByte count len = Mode
-wayOf Setup count len = wayOn Command count len
-wayOf Ready count len = wayOn Command count len
-wayOf (Awaiting w) count len = wayOn Data count len
+unfoldable pub wayOf : Hearing → ℕ → ℕ → Way
+wayOf HearsNothing count len = Mode
+wayOf HearsCommands count len = wayOn Command count len
+wayOf (HearsData w) count len = wayOn Data count len
 
 -- Past header and LEN, so many of the bytes still to come are added without completing the frame.
 unfoldable pub lackingOf : ℕ → ℕ → ℕ → ℕ

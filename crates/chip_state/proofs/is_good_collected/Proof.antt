@@ -1,4 +1,4 @@
--- `chip_state::is_good_collected` meets its contract: the phase decides which header is awaited.
+-- `chip_state::is_good_collected` meets its contract: what the phase hears decides which header is awaited.
 -- Assumes nothing.
 use borrow.Author.Needs.{needs}
 use Rattle.chip_state.specs.Refusals.{goodCollected}
@@ -15,11 +15,7 @@ returns-2 c = simp (c .before .enum-told2 .given .1, ← c .is-good-begun .ensur
 
 returns-3 : tie.Need-returns-3
 unfolding goodCollected
-returns-3 c = simp (c .before .enum-told3 .given .1, ← c .is-good-begun2 .ensures)
-
-returns-4 : tie.Need-returns-4
-unfolding goodCollected
-returns-4 c = simp (c .before .before .phase .given .1, ← c .is-good-begun3 .ensures)
+returns-3 c = simp (c .before .before .hears .given .1, ← c .is-good-begun2 .ensures)
 
 pub is-good-collected-spec : {M : Type 1} → statement M
 is-good-collected-spec =
@@ -30,9 +26,6 @@ is-good-collected-spec =
     (λ c κs. search needs)
     (λ c. search needs)
     (λ c κs. search needs)
-    (λ c. search needs)
-    (λ c κs. search needs)
     returns
     returns-2
-    returns-3
-    returns-4)
+    returns-3)
