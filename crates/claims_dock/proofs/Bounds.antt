@@ -9,6 +9,7 @@ use native.Mathlib.Omega.{arith}
 use lib.ListN.{length}
 use Rattle.claims_dock.proofs.Budget.{Kept, heard-kept, needs, start-good, start-needs}
 use Rattle.claims_dock.specs.Examples.{at}
+use Rattle.claims_dock.specs.Stepping.{mostFrames}
 use Rattle.dock.specs.Calls.{askOf, asked, asking, freshDock, hearOf, moved, sending, standing, startOf, starting, stepped, turning}
 use Rattle.dock.specs.declared.Report.the-variants as Report
 use Rattle.dock_flow.proofs.Laws.{heard-within}
@@ -30,7 +31,7 @@ use Rattle.part.specs.declared.refusal.Verdict.the-variants as Verdict
 use Rattle.words.specs.Words.{if_then_else_}
 
 -- "at most 3 + 12(B + R) frames": the bound, with the setup's three commands and four pages to a block.
-pub bound-12 : (j : Job) → bound j ≡ 3 + 12 * (blocksOf j + j .retries)
+pub bound-12 : (j : Job) → bound j ≡ mostFrames j
 unfolding bound setup blockSize
 bound-12 j = refl
 
@@ -52,7 +53,7 @@ frames-paid j image used st (h ∷ hs) u g =
     go true e rest = omega arith
     go false e rest = let k = heard-kept j used st h u g e in omega (arith, k .paid, rest k)
 
-pub frames-within : (j : Job) (image : List ℕ) (hs : List Heard) → length (flow j image hs .sent) ≤ 3 + 12 * (blocksOf j + j .retries)
+pub frames-within : (j : Job) (image : List ℕ) (hs : List Heard) → length (flow j image hs .sent) ≤ mostFrames j
 unfolding flow
 frames-within j image hs =
     let p = frames-paid j image 0 (firstStage j) hs (omega arith) (start-good j) in

@@ -1,7 +1,7 @@
 -- The dock stepped over a history: for each answer or timeout a frame is asked for and then what was heard is told, over the definitions of the calls.
 use mathlib.Core.Bool.{false}
 use mathlib.Core.List.{List, [], _++_, _∷_}
-use Prim.Native.Nat.{ℕ}
+use Prim.Native.Nat.{_*_, _+_, ℕ}
 use lib.ListN.{length, take}
 use Rattle.claims_dock.specs.Examples.{frames}
 use Rattle.dock.specs.Calls.{askOf, hearOf}
@@ -9,6 +9,7 @@ use Rattle.dock.specs.declared.Report.{Report}
 use Rattle.dock.specs.declared.Report.the-variants.{Due, Ended, Put, Refused}
 use Rattle.dock_flow.specs.Flow.{Flow, Heard}
 use Rattle.dock_flow.specs.Frames.{handed}
+use Rattle.dock_job.specs.Job.{blocksOf}
 use Rattle.dock_job.specs.declared.Dock.{Dock}
 use Rattle.dock_job.specs.declared.Job.{Job}
 
@@ -35,3 +36,7 @@ stepping j image room d (h ∷ hs) =
 -- The dock as the flow has it: at its place, with as many retries used as it spent and as many frames as it sent.
 abbrev pub asFlow : Flow → Dock
 asFlow f = record { stage = f .place; awaited = false; retries = f .spent; frames = length (f .sent) }
+
+-- "for B blocks and R retries allowed, at most 3 + 12(B + R) frames"
+abbrev pub mostFrames : Job → ℕ
+mostFrames j = 3 + 12 * (blocksOf j + j .retries)

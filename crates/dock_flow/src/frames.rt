@@ -8,7 +8,8 @@ ghost use Rattle.frame.specs.Frame.{commandFrame, dataFrame};
 ghost use Rattle.dock_job.specs.Job.{lengthOf, sizeOf};
 ghost use Rattle.part.specs.Part.{addressBytes, pageSize};
 ghost use Rattle.dock_job.specs.Refusals.{goodBlock, goodPage, goodWork, goodStage};
-ghost use Rattle.dock_flow.specs.Frames.{lastPage, storedForm, queryOf, queryAt, firstOfBlock, blockRange, pageBytes, pageFooter, setupFrame, workFrame, frameAt, placed, placing, handing, sendOf};
+ghost use Rattle.dock_flow.specs.Frames.{lastPage, storedForm, queryOf, queryAt, firstOfBlock, blockRange, pageBytes, pageFooter, setupFrame, workFrame};
+ghost use Rattle.dock_flow.specs.Frames.{frameAt, placed, placing, handing, sendOf};
 use dock_answer::Form;
 use dock_job::Dock;
 use dock_job::Job;
@@ -202,7 +203,8 @@ fn send_work(job: Job, image: &[u8], block: u32, work: Work, room: &mut [u8]) ->
 }
 
 fn put(job: Job, image: &[u8], stage: Stage, room: &mut [u8]) -> usize
-    requires { ⌜ (acceptsRate (job .part) (job .rate) (job .supply) ≡ true) × (goodStage job stage ≡ true) × (length (now image) ≡ lengthOf job) × (260 ≤ length (now room)) ⌝ }
+    requires { ⌜ (acceptsRate (job .part) (job .rate) (job .supply) ≡ true) × (goodStage job stage ≡ true)
+        × (length (now image) ≡ lengthOf job) × (260 ≤ length (now room)) ⌝ }
     ensures { λ r. ⌜ placed r (now (room .exit)) ≡ placing (frameAt job (now (image .entry)) stage) (now (room .entry)) ⌝ }
 {
     match stage {

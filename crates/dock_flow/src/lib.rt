@@ -1,7 +1,8 @@
 // The dock's flow, document 01: what follows the answer to the frame of a stage. The frames themselves stand in `frames`.
 ghost use mathlib.Core.Path.{_≡_};
 ghost use Rattle.dock_job.specs.Job.{setup};
-ghost use Rattle.dock_flow.specs.Flow.{blockFrom, firstStage, afterSetup, afterWork, next, saysNotBlank, inBlock, fails, retried, afterStatus, afterAnswer, answered, afterHeard, afterTimeout};
+ghost use Rattle.dock_flow.specs.Flow.{blockFrom, firstStage, afterSetup, afterWork, next, saysNotBlank, inBlock, fails, retried, afterStatus, afterAnswer};
+ghost use Rattle.dock_flow.specs.Flow.{answered, afterHeard, afterTimeout};
 use dock_answer::Decoded;
 use dock_job::Cause;
 use dock_job::Ending;

@@ -1,6 +1,7 @@
 // Which calls are refused, and with which number: document 01, "Refusal numbers", for the dock.
 ghost use mathlib.Core.Path.{_≡_};
-ghost use Rattle.dock_job.specs.Refusals.{badJob, badRange, goodBlock, goodPage, goodNamedBlock, goodNamedPage, goodFailure, goodEnding, goodWork, goodStage, goodDock, due, spent, badState, shortRoom, outOfTurn, callVerdict};
+ghost use Rattle.dock_job.specs.Refusals.{badJob, badRange, goodBlock, goodPage, goodNamedBlock, goodNamedPage, goodFailure, goodEnding, goodWork, goodStage};
+ghost use Rattle.dock_job.specs.Refusals.{goodDock, due, spent, badState, shortRoom, outOfTurn, callVerdict};
 use super::Dock;
 use super::Ending;
 use super::Failure;

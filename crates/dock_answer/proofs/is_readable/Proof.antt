@@ -17,11 +17,19 @@ returns-2 c = simp (c .before .before .before .enum-told3 .given .1, ← c .befo
 
 returns-3 : tie.Need-returns-3
 unfolding readable shape if_then_else_ _and_
-returns-3 c = simp (c .before .before .before .before .before .enum-told5 .given .1, ← c .before .before .before .before .byte-at3 .ensures, eq-eqb _ _ (c .before .before .before .if3 .taken), ← c .before .before .byte-at4 .ensures, eq-eqb _ _ (c .before .if4 .taken), ← c .is-two2 .ensures)
+returns-3 c =
+    let enum-told5 = c .before .before .before .before .before .enum-told5 in
+    let byte-at3 = c .before .before .before .before .byte-at3 in
+    let if3 = c .before .before .before .if3 in
+    simp (enum-told5 .given .1, ← byte-at3 .ensures, eq-eqb _ _ (if3 .taken), ← c .before .before .byte-at4 .ensures, eq-eqb _ _ (c .before .if4 .taken), ← c .is-two2 .ensures)
 
 returns-4 : tie.Need-returns-4
 unfolding readable shape if_then_else_ _and_
-returns-4 c = simp (c .before .before .before .before .before .enum-told5 .given .1, ← c .before .before .before .before .byte-at3 .ensures, eq-eqb _ _ (c .before .before .before .if3 .taken), ← c .before .before .byte-at4 .ensures, ne-eqb _ _ (c .before .if4 .left), ← c .is-one6 .ensures)
+returns-4 c =
+    let enum-told5 = c .before .before .before .before .before .enum-told5 in
+    let byte-at3 = c .before .before .before .before .byte-at3 in
+    let if3 = c .before .before .before .if3 in
+    simp (enum-told5 .given .1, ← byte-at3 .ensures, eq-eqb _ _ (if3 .taken), ← c .before .before .byte-at4 .ensures, ne-eqb _ _ (c .before .if4 .left), ← c .is-one6 .ensures)
 
 returns-5 : tie.Need-returns-5
 unfolding readable shape if_then_else_ _and_

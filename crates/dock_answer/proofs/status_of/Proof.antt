@@ -21,7 +21,10 @@ returns-3 c = simp (← c .before .before .before .byte-at .ensures, ← c .befo
 
 returns-4 : tie.Need-returns-4
 unfolding statuses
-returns-4 c = simp (← c .before .before .before .before .byte-at .ensures, ← c .before .before .before .byte-at2 .ensures, c .before .enum-told4 .given .1) (c .first-other .ensures ∙ deciding-two (c .before .before .before .before .byte-at .result) (c .before .before .before .byte-at2 .result))
+returns-4 c =
+    let byte-at = c .before .before .before .before .byte-at in
+    let byte-at2 = c .before .before .before .byte-at2 in
+    simp (← byte-at .ensures, ← byte-at2 .ensures, c .before .enum-told4 .given .1) (c .first-other .ensures ∙ deciding-two (byte-at .result) (byte-at2 .result))
 
 returns-5 : tie.Need-returns-5
 unfolding statuses

@@ -25,11 +25,19 @@ returns-4 c = simp (ne-eqb _ _ (c .before .before .before .before .if1 .left), �
 
 returns-5 : tie.Need-returns-5
 unfolding afterStatus if_then_else_ _or_
-returns-5 c = simp (ne-eqb _ _ (c .before .before .before .before .before .if1 .left), ← c .before .before .before .before .says-not-blank .ensures, c .before .before .before .if3 .left, ne-eqb _ _ (c .before .before .if4 .left), eq-eqb _ _ (c .before .if5 .taken), ← c .retried2 .ensures)
+returns-5 c =
+    let if1 = c .before .before .before .before .before .if1 in
+    let says-not-blank = c .before .before .before .before .says-not-blank in
+    let if3 = c .before .before .before .if3 in
+    simp (ne-eqb _ _ (if1 .left), ← says-not-blank .ensures, if3 .left, ne-eqb _ _ (c .before .before .if4 .left), eq-eqb _ _ (c .before .if5 .taken), ← c .retried2 .ensures)
 
 returns-6 : tie.Need-returns-6
 unfolding afterStatus if_then_else_ _or_
-returns-6 c = simp (ne-eqb _ _ (c .before .before .before .before .before .if1 .left), ← c .before .before .before .before .says-not-blank .ensures, c .before .before .before .if3 .left, ne-eqb _ _ (c .before .before .if4 .left), ne-eqb _ _ (c .before .if5 .left), ← c .fails2 .ensures)
+returns-6 c =
+    let if1 = c .before .before .before .before .before .if1 in
+    let says-not-blank = c .before .before .before .before .says-not-blank in
+    let if3 = c .before .before .before .if3 in
+    simp (ne-eqb _ _ (if1 .left), ← says-not-blank .ensures, if3 .left, ne-eqb _ _ (c .before .before .if4 .left), ne-eqb _ _ (c .before .if5 .left), ← c .fails2 .ensures)
 
 pub after-status-spec : {M : Type 1} → statement M
 after-status-spec =

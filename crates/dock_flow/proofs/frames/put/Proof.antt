@@ -9,7 +9,10 @@ use Rattle.dock_flow.proofs.frames.put.Statement.{statement}
 use Rattle.dock_flow.proofs.frames.put.Tie as tie
 
 placed-well : (c : tie.After-send-work-arg) → GoodPlace (c .before .before .before .before .before .before .args .job) (c .before .before .stage2 .given .0 .0) (c .before .before .stage2 .given .0 .1 .0)
-placed-well c = place-is (c .before .before .before .before .before .before .args .job) (c .before .before .stage2 .given .0 .0) (c .before .before .stage2 .given .0 .1 .0) (ap (goodStage (c .before .before .before .before .before .before .args .job)) (sym (c .before .before .stage2 .given .1)) ∙ c .before .before .before .before .before .before .pre .1)
+placed-well c =
+    let args = c .before .before .before .before .before .before .args in
+    let pre = c .before .before .before .before .before .before .pre in
+    place-is (args .job) (c .before .before .stage2 .given .0 .0) (c .before .before .stage2 .given .0 .1 .0) (ap (goodStage (args .job)) (sym (c .before .before .stage2 .given .1)) ∙ pre .1)
 
 send-work-requires : tie.Need-send-work-requires
 send-work-requires c κs = (placed-well c .in-job, placed-well c .in-block, search needs, search needs)

@@ -10,7 +10,9 @@ use Rattle.dock_flow.proofs.frames.send_command.Statement.{statement}
 use Rattle.dock_flow.proofs.frames.send_command.Tie as tie
 
 returns : tie.Need-returns
-returns c = places _ Command (c .before .before .before .before .before .before .args .command ∷ c .before .before .before .before .before .before .args .information .now) Last _ _ _ (c .before .before .write-command .ensures) (omega arith) (omega arith) (omega arith) (omega arith)
+returns c =
+    let args = c .before .before .before .before .before .before .args in
+    places _ Command (args .command ∷ args .information .now) Last _ _ _ (c .before .before .write-command .ensures) (omega arith) (omega arith) (omega arith) (omega arith)
 
 pub send-command-spec : {M : Type 1} → statement M
 send-command-spec = tie.close (tie.spec (λ c κs. search needs) (λ c. search needs) (λ c. search needs) returns)

@@ -7,7 +7,12 @@ use Rattle.dock_flow.proofs.frames.send_page.Tie as tie
 
 returns : tie.Need-returns
 returns c =
-    page-placed (c .before .before .before .before .before .before .before .before .before .before .args .job) (c .before .before .before .before .before .before .before .before .before .before .args .image .now) _ _ (c .before .before .before .before .before .before .before .before .before .before .args .block) (c .before .before .before .before .before .before .before .before .before .before .args .page) _ _ _ _ (c .before .before .before .before .before .before .before .page-start .ensures .0) (c .before .before .before .before .before .before .page-size .ensures) (c .before .before .before .before .before .page-footer .ensures) (c .before .before .before .before .before .before .before .page-start .ensures .1) (c .before .before .before .before .before .before .before .before .before .before .pre .2) (c .before .before .before .before .before .before .before .before .before .before .pre .3) (c .before .before .write-data .ensures)
+    let args = c .before .before .before .before .before .before .before .before .before .before .args in
+    let pre = c .before .before .before .before .before .before .before .before .before .before .pre in
+    let page-start = c .before .before .before .before .before .before .before .page-start in
+    let page-size = c .before .before .before .before .before .before .page-size in
+    let page-footer = c .before .before .before .before .before .page-footer in
+    page-placed (args .job) (args .image .now) _ _ (args .block) (args .page) _ _ _ _ (page-start .ensures .0) (page-size .ensures) (page-footer .ensures) (page-start .ensures .1) (pre .2) (pre .3) (c .before .before .write-data .ensures)
 
 pub send-page-spec : {M : Type 1} → statement M
 send-page-spec =
