@@ -12,7 +12,7 @@ use Rattle.chip_state.specs.Refusals.{goodPhase, goodState}
 use Rattle.claims_good.proofs.Collected.{none-good}
 use Rattle.claims_good.proofs.Core.{GoodCore, is-core}
 use Rattle.chip_state.proofs.Laws.{accepted}
-use Rattle.part.specs.Part.{Arrays}
+use Rattle.part.specs.Part.{Arrays, blockSize, described, size}
 use Rattle.claims_good.specs.Good.{Stands}
 use Rattle.claims_stars.specs.Table.{thePart}
 use Rattle.chip_core.specs.Effect.{Flash, flash}

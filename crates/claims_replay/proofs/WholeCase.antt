@@ -78,3 +78,11 @@ unfolding byteIn frameDoes freshChip heardByte modeByte reactTo settled stepOf a
     stretch wholeBlocks acceptsRate modeOf firstOf signature bytesRecord gapRecord recordOf recordsIn recordsOf unused digitOf lineOf separator answering
     endedBy eventsOf goesOn nextBy playBy playOf playWith played playedInto replayOf replayedFrom whileWhole _and_ _from_to_ _or_ if_then_else_
 short-case = refl
+
+-- "and stops there": the gap after a bad record is not played.
+pub stopped-case : printed
+    (0x02 ∷ 0x00 ∷ 0x00 ∷ 0x00 ∷ 0x00 ∷ 0x00 ∷ 0x00 ∷ 0x00
+    ∷ 0x00 ∷ 0x00 ∷ 0x00 ∷ 0x00 ∷ 0x00 ∷ 0x00 ∷ 0x00 ∷ 0x00 ∷ [])
+    ≡ 0x42 ∷ 0x41 ∷ 0x44 ∷ 0x20 ∷ 0x30 ∷ 0x0A ∷ []
+unfolding printed linesIn digitsIn lastLine replayOf replayedFrom recordsOf recordsIn nextBy whileWhole playOf playBy recordOf if_then_else_
+stopped-case = refl
