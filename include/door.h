@@ -1,8 +1,8 @@
 /* The proved chip and the proved dock for programs in C: document 01's software chip behind six calls, and its dock behind four.
  *
  * Every call is total: no argument makes it undefined, as long as each pointer points to as many bytes as the length after it says, nothing that is lent to
- * be changed overlaps anything else, and the pointers to numbers are not null. What a call does is proved equal to a definition (crates/door/specs and
- * crates/dock_door/specs); nothing checks this header against the source, so it is kept to numbers and bytes.
+ * be changed overlaps anything else, and the pointers to numbers are not null. What a call does is proved equal to a definition (crates/chip_door/specs,
+ * crates/replay_door/specs and crates/dock_door/specs); nothing checks this header against the source, so it is kept to numbers and bytes.
  *
  * A part is three numbers and 16 bytes of names: device code (3), name (10), firmware version (3).
  *
