@@ -17,7 +17,7 @@ use Rattle.dock_flow.specs.Flow.{Heard, afterHeard, exchanges, firstStage, flow
 use Rattle.dock_flow.specs.Frames.{handed, sendOf}
 use Rattle.dock_flow.specs.Frames.{frameAt, handed, sendOf}
 use Rattle.dock_job.proofs.Laws.{GoodDock, accepts, asked-is, dock-yes, told-is}
-use Rattle.dock_job.specs.Job.{blocksOf, bound, isOver, perBlock, setup}
+use Rattle.dock_job.specs.Job.{bound, isOver, perBlock, setup}
 use Rattle.dock_job.specs.Refusals.{callVerdict, goodDock, goodStage}
 use Rattle.dock_job.specs.declared.Dock.{Dock}
 use Rattle.dock_job.specs.declared.Job.{Job}

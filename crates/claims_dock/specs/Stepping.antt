@@ -8,7 +8,6 @@ use Rattle.dock.specs.Calls.{askOf, hearOf}
 use Rattle.dock.specs.declared.Report.{Report}
 use Rattle.dock.specs.declared.Report.the-variants.{Due, Ended, Put, Refused}
 use Rattle.dock_flow.specs.Flow.{Flow, Heard}
-use Rattle.dock_flow.specs.Frames.{handed}
 use Rattle.dock_job.specs.Job.{blocksOf}
 use Rattle.dock_job.specs.declared.Dock.{Dock}
 use Rattle.dock_job.specs.declared.Job.{Job}

@@ -81,14 +81,15 @@ writing-stands =
 
 -- Noise with two bad frames in it, while a command is awaited.
 pub long-noise : Noise noFrame thePart readyChip longNoise
-unfolding fresh longNoise bytesOnly completesOnly permitted thenAwaits framing goodFor allows empty counted judgeOf isFrame summed sumOf lessAll less _and_ _or_ if_then_else_
+unfolding fresh longNoise bytesOnly completesOnly permitted thenAwaits framing goodFor allows empty counted judgeOf isFrame summed sumOf lessAll less _and_
+    _or_ if_then_else_
 long-noise = record { stands = ready-stands; nothing = refl; bytes = proper-by longNoise refl; quiet = refl }
 
 -- In it the chip does answer: 07h, then 15h.
 pub long-noise-said : allSaid (saysBy stepOf thePart (thenGap longNoise) readyChip) ≡ 0x02 ∷ 0x01 ∷ 0x07 ∷ 0xF8 ∷ 0x03 ∷ 0x02 ∷ 0x01 ∷ 0x15 ∷ 0xEA ∷ 0x03 ∷ []
-unfolding allSaid saysBy thenGap longNoise stepOf settled verdictOf firstOf described _from_to_ _and_ _or_ if_then_else_ goodState goodCollected goodBegun goodCore
-    goodOptions fixedBits goodPhase lastBlock freshOptions fresh heard holding hear complete full counted isFrame reactTo byteIn hearing heardByte frameDoes commandDoes
-    judgeOf summed sumOf lessAll less placeOf liesIn placeIn blockOf pageOf blockSize saidOf framesOf framed payloads
+unfolding allSaid saysBy thenGap longNoise stepOf settled verdictOf firstOf described _from_to_ _and_ _or_ if_then_else_ goodState goodCollected goodBegun
+    goodCore goodOptions fixedBits goodPhase lastBlock freshOptions fresh heard holding hear complete full counted isFrame reactTo byteIn hearing heardByte
+    frameDoes commandDoes judgeOf summed sumOf lessAll less placeOf liesIn placeIn blockOf pageOf blockSize saidOf framesOf framed payloads
 long-noise-said = refl
 
 -- So the chip is as before it, though it has answered.
@@ -106,7 +107,8 @@ cut-page-completes-none = refl
 
 -- A page with the wrong footer ends the command, and what follows is framed as for a command.
 pub wrong-page : Noise noFrame thePart writingChip wrongPage
-unfolding fresh wrongPage bytesOnly completesOnly permitted thenAwaits framing goodFor allows empty counted footerOf lengthOf isLastPage fitting judgeOf isFrame summed sumOf lessAll less _and_ _or_ if_then_else_
+unfolding fresh wrongPage bytesOnly completesOnly permitted thenAwaits framing goodFor allows empty counted footerOf lengthOf isLastPage fitting judgeOf
+    isFrame summed sumOf lessAll less _and_ _or_ if_then_else_
 wrong-page = record { stands = writing-stands; nothing = refl; bytes = proper-by wrongPage refl; quiet = refl }
 
 pub wrong-page-completes-one : dataCompleted wrongPage ≡ true
@@ -115,15 +117,16 @@ wrong-page-completes-one = refl
 
 -- In it the page is blamed twice over, 15h 15h, and then the command with the wrong footer.
 pub wrong-page-said : allSaid (saysBy stepOf thePart (thenGap wrongPage) writingChip) ≡ 0x02 ∷ 0x02 ∷ 0x15 ∷ 0x15 ∷ 0xD4 ∷ 0x03 ∷ 0x02 ∷ 0x01 ∷ 0x15 ∷ 0xEA ∷ 0x03 ∷ []
-unfolding allSaid saysBy thenGap wrongPage dataDoes badData fitting footerOf lengthOf isLastPage goodAwaited goodPlaces stepOf settled verdictOf firstOf described
-    _from_to_ _and_ _or_ if_then_else_ goodState goodCollected goodBegun goodCore goodOptions fixedBits goodPhase lastBlock freshOptions fresh heard holding hear
-    complete full counted isFrame reactTo byteIn hearing heardByte frameDoes commandDoes judgeOf summed sumOf lessAll less placeOf liesIn placeIn blockOf pageOf blockSize
-    saidOf framesOf framed payloads
+unfolding allSaid saysBy thenGap wrongPage dataDoes badData fitting footerOf lengthOf isLastPage goodAwaited goodPlaces stepOf settled verdictOf firstOf
+    described _from_to_ _and_ _or_ if_then_else_ goodState goodCollected goodBegun goodCore goodOptions fixedBits goodPhase lastBlock freshOptions fresh heard
+    holding hear complete full counted isFrame reactTo byteIn hearing heardByte frameDoes commandDoes judgeOf summed sumOf lessAll less placeOf liesIn placeIn
+    blockOf pageOf blockSize saidOf framesOf framed payloads
 wrong-page-said = refl
 
 -- The inner Reset: the premise fails, because the rule completes a good frame. It is met with that frame allowed, where nothing follows it.
 pub inner-reset-is-no-noise : completesOnly noFrame aCommand idle innerReset ≡ false
-unfolding innerReset completesOnly permitted thenAwaits framing goodFor allows empty counted judgeOf isFrame summed sumOf lessAll less _and_ _or_ if_then_else_
+unfolding innerReset completesOnly permitted thenAwaits framing goodFor allows empty counted judgeOf isFrame summed sumOf lessAll less _and_ _or_
+    if_then_else_
 inner-reset-is-no-noise = refl
 
 pub inner-reset-completes : frames Command idle innerReset ≡ reset ∷ []
@@ -135,7 +138,8 @@ unfolding goodFor counted judgeOf isFrame summed sumOf lessAll less _and_ if_the
 inner-reset-is-good = refl
 
 pub inner-reset-allowed : completesOnly (only reset) aCommand idle (take 8 innerReset) ≡ true
-unfolding innerReset completesOnly permitted thenAwaits framing goodFor allows same empty counted judgeOf isFrame summed sumOf lessAll less _and_ _or_ if_then_else_
+unfolding innerReset completesOnly permitted thenAwaits framing goodFor allows same empty counted judgeOf isFrame summed sumOf lessAll less _and_ _or_
+    if_then_else_
 inner-reset-allowed = refl
 
 pub reset-carried : Noise (only reset) thePart readyChip (take 8 innerReset)
@@ -159,7 +163,8 @@ erase-changed =
     }
 
 pub page-changed : OneByte thePart writingChip pageFrame 259 0x03
-unfolding fresh pageFrame framed footerOf lengthOf isLastPage fitting allBelow goodFor counted judgeOf isFrame summed sumOf lessAll less _and_ _or_ if_then_else_
+unfolding fresh pageFrame framed footerOf lengthOf isLastPage fitting allBelow goodFor counted judgeOf isFrame summed sumOf lessAll less _and_ _or_
+    if_then_else_
 page-changed =
     record {
       stands = writing-stands;
@@ -175,10 +180,10 @@ page-changed =
 
 -- So the one changed byte keeps the page out: unchanged it is stored at 0500h, changed it is not, and it is blamed.
 pub page-stored : getD (runBy stepOf thePart (map Byte pageFrame) writingChip .memory .codeFlash) 0x0500 0 ≡ 0xAA
-unfolding runBy pageFrame dataDoes goodData payload programPage pageIn pageStored blank allAre putOf putAt nextPage storedReply badData fitting footerOf lengthOf isLastPage
-    goodAwaited goodPlaces stepOf settled verdictOf firstOf described _from_to_ _and_ _or_ if_then_else_ goodState goodCollected goodBegun goodCore goodOptions
-    fixedBits goodPhase lastBlock freshOptions fresh heard holding hear complete full counted isFrame reactTo byteIn hearing heardByte frameDoes commandDoes judgeOf summed
-    sumOf lessAll less placeOf liesIn placeIn blockOf pageOf blockSize saidOf framesOf framed payloads
+unfolding runBy pageFrame dataDoes goodData payload programPage pageIn pageStored blank allAre putOf putAt nextPage storedReply badData fitting footerOf
+    lengthOf isLastPage goodAwaited goodPlaces stepOf settled verdictOf firstOf described _from_to_ _and_ _or_ if_then_else_ goodState goodCollected goodBegun
+    goodCore goodOptions fixedBits goodPhase lastBlock freshOptions fresh heard holding hear complete full counted isFrame reactTo byteIn hearing heardByte
+    frameDoes commandDoes judgeOf summed sumOf lessAll less placeOf liesIn placeIn blockOf pageOf blockSize saidOf framesOf framed payloads
 page-stored = refl
 
 pub page-changed-is-bad : IsBad stepOf thePart writingChip (set pageFrame 259 0x03)

@@ -11,6 +11,7 @@ pub mod ChipPages
 pub mod ChipReply
 pub mod ChipState
 pub mod ChipWork
+pub mod Commands
 pub mod Dock
 pub mod DockAnswer
 pub mod DockDoor
@@ -19,7 +20,6 @@ pub mod DockJob
 pub mod Frame
 pub mod Lent
 pub mod Numbers
-pub mod Commands
 pub mod Part
 pub mod ReplayCapture
 pub mod ReplayDoor

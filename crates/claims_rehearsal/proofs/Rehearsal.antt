@@ -13,21 +13,21 @@ use Rattle.claims_rehearsal.specs.Rehearsal.{finishedAfter, holds, mixed
 use Rattle.dock.specs.Calls.{askOf, asked, freshDock, hearOf, standing, startOf, starting, turning}
 use Rattle.chip_commands.specs.Commands.{askedIn, commandDoes, commandsIn, fitted, readyCommands, setupCommands, work}
 use Rattle.chip_work.specs.Work.{blankCheck, blockErase, checksum, erasedIn, forbidden, programming, rangeBytes, rateSet, securityRelease, verify}
-use Rattle.chip_core.specs.Effect.{number2, number3}
-use Rattle.chip_pages.specs.Pages.{badData, dataDoes, footerOf, goodData, isLastPage, lengthOf, nextPage, optionsIn, pageIn, pageStored, programPage, securityData, storedReply, verifyPage}
+use Rattle.chip_core.specs.Effect.{number3}
+use Rattle.chip_pages.specs.Pages.{badData, dataDoes, footerOf, goodData, isLastPage, lengthOf, nextPage, pageIn, pageStored, programPage, securityData, storedReply, verifyPage}
 use Rattle.chip_flash.specs.Flash.{blank, eraseOf, sumOfBytes}
 use Rattle.dock_flow.specs.Flow.{afterAnswer, afterHeard, afterSetup, afterStatus, afterWork, blockFrom, inBlock, next, retried, saysNotBlank, setupFrom}
 use Rattle.dock_flow.specs.Frames.{frameAt, handed, lastPage, pageFooter, queryAt, sendOf, setupFrame, storedForm, workFrame}
 use Rattle.frame.specs.Collector.{fresh, hear, heard, holding}
-use Rattle.frame.specs.Frame.{complete, counted, framed, full, isFrame}
+use Rattle.frame.specs.Frame.{complete, counted, framed, full, isFrame, payload}
 use Rattle.frame.specs.Judgement.{fitting, judgeOf, summed}
 use Rattle.frame.specs.Sum.{less, lessAll, sumOf}
 use Rattle.frame.specs.Wire.{readOf}
 use Rattle.dock_job.specs.Job.{areaIn, blocksIn, bound, isOver, setup}
 use Rattle.dock_job.specs.Refusals.{badJob, badState, callVerdict, due, goodBlock, goodDock, goodEnding, goodFailure, goodNamedBlock, goodNamedPage, goodPage, goodStage, goodWork, isBad, outOfTurn, shortRoom, spent}
 use Rattle.lent.specs.Lent.{allAre, putAt, putOf, same}
-use Rattle.chip_options.specs.Options.{fixedBits, freshOptions, goodOptions, isFresh, lastBlock, optionBytes, raises, released, rises, security}
-use Rattle.numbers.specs.Numbers.{lowFirst}
+use Rattle.chip_options.specs.Options.{fixedBits, freshOptions, goodOptions, isFresh, lastBlock, optionBytes, optionsIn, raises, released, rises, security}
+use Rattle.numbers.specs.Numbers.{lowFirst, numberAt}
 use Rattle.part.specs.Part.{blockOf, blockSize, described, endsBlock, lastOf, liesIn, pageOf, placeIn, placeOf, rangeOf, startsBlock, stretch, wholeBlocks}
 use Rattle.part.specs.Rate.{acceptsRate, modeOf}
 use Rattle.part.specs.Refusal.{firstOf}
@@ -35,75 +35,76 @@ use Rattle.part.specs.Signature.{signature}
 use Rattle.chip_reply.specs.Reply.{framesOf, payloads, saidOf}
 use Rattle.words.specs.Words.{_and_, _from_to_, _or_, if_then_else_}
 use Rattle.frame.specs.Framing.{frames, framing}
+use Rattle.chip_core.specs.Hearing.{hearing}
 
 -- Two blocks that were not blank: 3 + 2 * 12 frames. The chip is ready at the job's rate, the image in place, and all other flash as it was.
 pub rehearsal-dock : rehearsed .dock ≡ finishedAfter 27
-unfolding byteIn frameDoes heardByte modeByte reactTo settled stepOf askedIn commandDoes commandsIn fitted readyCommands setupCommands work number2 number3
-    blank eraseOf sumOfBytes fixedBits freshOptions goodOptions isFresh lastBlock optionBytes raises released rises security badData dataDoes footerOf
-    goodData isLastPage lengthOf nextPage optionsIn pageIn pageStored programPage securityData storedReply verifyPage framesOf payloads saidOf goodAwaited
+unfolding byteIn frameDoes heardByte modeByte reactTo settled stepOf askedIn commandDoes commandsIn fitted readyCommands setupCommands work number3 hearing
+    blank eraseOf sumOfBytes fixedBits freshOptions goodOptions isFresh lastBlock optionBytes optionsIn raises released rises security badData dataDoes
+    footerOf goodData isLastPage lengthOf nextPage pageIn pageStored programPage securityData storedReply verifyPage framesOf payloads saidOf goodAwaited
     goodBegun goodCollected goodCore goodPhase goodPlaces goodState verdictOf blankCheck blockErase checksum erasedIn forbidden programming rangeBytes rateSet
     securityRelease verify cable exchange speaks mixed rehearsed theChip theImage askOf asked freshDock hearOf standing startOf starting turning carriedBy
     deciding exactly matching rateMatches readAnswer readable shape signatureMatches statuses afterAnswer afterHeard afterSetup afterStatus afterWork
     blockFrom inBlock next retried saysNotBlank setupFrom frameAt handed lastPage pageFooter queryAt sendOf setupFrame storedForm workFrame areaIn blocksIn
     bound isOver setup badJob badState callVerdict due goodBlock goodDock goodEnding goodFailure goodNamedBlock goodNamedPage goodPage goodStage goodWork
-    isBad outOfTurn shortRoom spent fresh hear heard holding complete counted framed full isFrame frames framing fitting judgeOf summed less lessAll sumOf
-    readOf allAre putAt putOf same lowFirst blockOf blockSize described endsBlock lastOf liesIn pageOf placeIn placeOf rangeOf startsBlock stretch wholeBlocks
-    acceptsRate modeOf firstOf signature _and_ _from_to_ _or_ if_then_else_
+    isBad outOfTurn shortRoom spent fresh hear heard holding complete counted framed full isFrame payload frames framing fitting judgeOf summed less lessAll
+    sumOf readOf allAre putAt putOf same lowFirst numberAt blockOf blockSize described endsBlock lastOf liesIn pageOf placeIn placeOf rangeOf startsBlock
+    stretch wholeBlocks acceptsRate modeOf firstOf signature _and_ _from_to_ _or_ if_then_else_
 rehearsal-dock = refl
 
 pub rehearsal-chip : rehearsed .chip .chip .core ≡ readyAt 0x03
-unfolding byteIn frameDoes heardByte modeByte reactTo settled stepOf askedIn commandDoes commandsIn fitted readyCommands setupCommands work number2 number3
-    blank eraseOf sumOfBytes fixedBits freshOptions goodOptions isFresh lastBlock optionBytes raises released rises security badData dataDoes footerOf
-    goodData isLastPage lengthOf nextPage optionsIn pageIn pageStored programPage securityData storedReply verifyPage framesOf payloads saidOf goodAwaited
+unfolding byteIn frameDoes heardByte modeByte reactTo settled stepOf askedIn commandDoes commandsIn fitted readyCommands setupCommands work number3 hearing
+    blank eraseOf sumOfBytes fixedBits freshOptions goodOptions isFresh lastBlock optionBytes optionsIn raises released rises security badData dataDoes
+    footerOf goodData isLastPage lengthOf nextPage pageIn pageStored programPage securityData storedReply verifyPage framesOf payloads saidOf goodAwaited
     goodBegun goodCollected goodCore goodPhase goodPlaces goodState verdictOf blankCheck blockErase checksum erasedIn forbidden programming rangeBytes rateSet
     securityRelease verify cable exchange speaks mixed rehearsed theChip theImage askOf asked freshDock hearOf standing startOf starting turning carriedBy
     deciding exactly matching rateMatches readAnswer readable shape signatureMatches statuses afterAnswer afterHeard afterSetup afterStatus afterWork
     blockFrom inBlock next retried saysNotBlank setupFrom frameAt handed lastPage pageFooter queryAt sendOf setupFrame storedForm workFrame areaIn blocksIn
     bound isOver setup badJob badState callVerdict due goodBlock goodDock goodEnding goodFailure goodNamedBlock goodNamedPage goodPage goodStage goodWork
-    isBad outOfTurn shortRoom spent fresh hear heard holding complete counted framed full isFrame frames framing fitting judgeOf summed less lessAll sumOf
-    readOf allAre putAt putOf same lowFirst blockOf blockSize described endsBlock lastOf liesIn pageOf placeIn placeOf rangeOf startsBlock stretch wholeBlocks
-    acceptsRate modeOf firstOf signature _and_ _from_to_ _or_ if_then_else_
+    isBad outOfTurn shortRoom spent fresh hear heard holding complete counted framed full isFrame payload frames framing fitting judgeOf summed less lessAll
+    sumOf readOf allAre putAt putOf same lowFirst numberAt blockOf blockSize described endsBlock lastOf liesIn pageOf placeIn placeOf rangeOf startsBlock
+    stretch wholeBlocks acceptsRate modeOf firstOf signature _and_ _from_to_ _or_ if_then_else_
 rehearsal-chip = refl
 
 pub rehearsal-flash : holds (rehearsed .chip .memory) (replicate 2048 0x42 ++ theImage ++ replicate 4096 0x42) oldData ≡ true
-unfolding byteIn frameDoes heardByte modeByte reactTo settled stepOf askedIn commandDoes commandsIn fitted readyCommands setupCommands work number2 number3
-    blank eraseOf sumOfBytes fixedBits freshOptions goodOptions isFresh lastBlock optionBytes raises released rises security badData dataDoes footerOf
-    goodData isLastPage lengthOf nextPage optionsIn pageIn pageStored programPage securityData storedReply verifyPage framesOf payloads saidOf goodAwaited
+unfolding byteIn frameDoes heardByte modeByte reactTo settled stepOf askedIn commandDoes commandsIn fitted readyCommands setupCommands work number3 hearing
+    blank eraseOf sumOfBytes fixedBits freshOptions goodOptions isFresh lastBlock optionBytes optionsIn raises released rises security badData dataDoes
+    footerOf goodData isLastPage lengthOf nextPage pageIn pageStored programPage securityData storedReply verifyPage framesOf payloads saidOf goodAwaited
     goodBegun goodCollected goodCore goodPhase goodPlaces goodState verdictOf blankCheck blockErase checksum erasedIn forbidden programming rangeBytes rateSet
     securityRelease verify cable exchange speaks holds mixed rehearsed theChip theImage askOf asked freshDock hearOf standing startOf starting turning
     carriedBy deciding exactly matching rateMatches readAnswer readable shape signatureMatches statuses afterAnswer afterHeard afterSetup afterStatus
     afterWork blockFrom inBlock next retried saysNotBlank setupFrom frameAt handed lastPage pageFooter queryAt sendOf setupFrame storedForm workFrame areaIn
     blocksIn bound isOver setup badJob badState callVerdict due goodBlock goodDock goodEnding goodFailure goodNamedBlock goodNamedPage goodPage goodStage
-    goodWork isBad outOfTurn shortRoom spent fresh hear heard holding complete counted framed full isFrame frames framing fitting judgeOf summed less lessAll
-    sumOf readOf allAre putAt putOf same lowFirst blockOf blockSize described endsBlock lastOf liesIn pageOf placeIn placeOf rangeOf startsBlock stretch
-    wholeBlocks acceptsRate modeOf firstOf signature _and_ _from_to_ _or_ if_then_else_
+    goodWork isBad outOfTurn shortRoom spent fresh hear heard holding complete counted framed full isFrame payload frames framing fitting judgeOf summed less
+    lessAll sumOf readOf allAre putAt putOf same lowFirst numberAt blockOf blockSize described endsBlock lastOf liesIn pageOf placeIn placeOf rangeOf
+    startsBlock stretch wholeBlocks acceptsRate modeOf firstOf signature _and_ _from_to_ _or_ if_then_else_
 rehearsal-flash = refl
 
 -- One block of data flash: 3 + 12 frames, and no byte of code flash changed.
 pub rehearsal-data : rehearsedData .dock ≡ finishedAfter 15
-unfolding byteIn frameDoes heardByte modeByte reactTo settled stepOf askedIn commandDoes commandsIn fitted readyCommands setupCommands work number2 number3
-    blank eraseOf sumOfBytes fixedBits freshOptions goodOptions isFresh lastBlock optionBytes raises released rises security badData dataDoes footerOf
-    goodData isLastPage lengthOf nextPage optionsIn pageIn pageStored programPage securityData storedReply verifyPage framesOf payloads saidOf goodAwaited
+unfolding byteIn frameDoes heardByte modeByte reactTo settled stepOf askedIn commandDoes commandsIn fitted readyCommands setupCommands work number3 hearing
+    blank eraseOf sumOfBytes fixedBits freshOptions goodOptions isFresh lastBlock optionBytes optionsIn raises released rises security badData dataDoes
+    footerOf goodData isLastPage lengthOf nextPage pageIn pageStored programPage securityData storedReply verifyPage framesOf payloads saidOf goodAwaited
     goodBegun goodCollected goodCore goodPhase goodPlaces goodState verdictOf blankCheck blockErase checksum erasedIn forbidden programming rangeBytes rateSet
     securityRelease verify cable exchange speaks mixed rehearsedData theChip theDataImage askOf asked freshDock hearOf standing startOf starting turning
     carriedBy deciding exactly matching rateMatches readAnswer readable shape signatureMatches statuses afterAnswer afterHeard afterSetup afterStatus
     afterWork blockFrom inBlock next retried saysNotBlank setupFrom frameAt handed lastPage pageFooter queryAt sendOf setupFrame storedForm workFrame areaIn
     blocksIn bound isOver setup badJob badState callVerdict due goodBlock goodDock goodEnding goodFailure goodNamedBlock goodNamedPage goodPage goodStage
-    goodWork isBad outOfTurn shortRoom spent fresh hear heard holding complete counted framed full isFrame frames framing fitting judgeOf summed less lessAll
-    sumOf readOf allAre putAt putOf same lowFirst blockOf blockSize described endsBlock lastOf liesIn pageOf placeIn placeOf rangeOf startsBlock stretch
-    wholeBlocks acceptsRate modeOf firstOf signature _and_ _from_to_ _or_ if_then_else_
+    goodWork isBad outOfTurn shortRoom spent fresh hear heard holding complete counted framed full isFrame payload frames framing fitting judgeOf summed less
+    lessAll sumOf readOf allAre putAt putOf same lowFirst numberAt blockOf blockSize described endsBlock lastOf liesIn pageOf placeIn placeOf rangeOf
+    startsBlock stretch wholeBlocks acceptsRate modeOf firstOf signature _and_ _from_to_ _or_ if_then_else_
 rehearsal-data = refl
 
 pub rehearsal-data-flash : holds (rehearsedData .chip .memory) oldCode theDataImage ≡ true
-unfolding byteIn frameDoes heardByte modeByte reactTo settled stepOf askedIn commandDoes commandsIn fitted readyCommands setupCommands work number2 number3
-    blank eraseOf sumOfBytes fixedBits freshOptions goodOptions isFresh lastBlock optionBytes raises released rises security badData dataDoes footerOf
-    goodData isLastPage lengthOf nextPage optionsIn pageIn pageStored programPage securityData storedReply verifyPage framesOf payloads saidOf goodAwaited
+unfolding byteIn frameDoes heardByte modeByte reactTo settled stepOf askedIn commandDoes commandsIn fitted readyCommands setupCommands work number3 hearing
+    blank eraseOf sumOfBytes fixedBits freshOptions goodOptions isFresh lastBlock optionBytes optionsIn raises released rises security badData dataDoes
+    footerOf goodData isLastPage lengthOf nextPage pageIn pageStored programPage securityData storedReply verifyPage framesOf payloads saidOf goodAwaited
     goodBegun goodCollected goodCore goodPhase goodPlaces goodState verdictOf blankCheck blockErase checksum erasedIn forbidden programming rangeBytes rateSet
     securityRelease verify cable exchange speaks holds mixed rehearsedData theChip theDataImage askOf asked freshDock hearOf standing startOf starting turning
     carriedBy deciding exactly matching rateMatches readAnswer readable shape signatureMatches statuses afterAnswer afterHeard afterSetup afterStatus
     afterWork blockFrom inBlock next retried saysNotBlank setupFrom frameAt handed lastPage pageFooter queryAt sendOf setupFrame storedForm workFrame areaIn
     blocksIn bound isOver setup badJob badState callVerdict due goodBlock goodDock goodEnding goodFailure goodNamedBlock goodNamedPage goodPage goodStage
-    goodWork isBad outOfTurn shortRoom spent fresh hear heard holding complete counted framed full isFrame frames framing fitting judgeOf summed less lessAll
-    sumOf readOf allAre putAt putOf same lowFirst blockOf blockSize described endsBlock lastOf liesIn pageOf placeIn placeOf rangeOf startsBlock stretch
-    wholeBlocks acceptsRate modeOf firstOf signature _and_ _from_to_ _or_ if_then_else_
+    goodWork isBad outOfTurn shortRoom spent fresh hear heard holding complete counted framed full isFrame payload frames framing fitting judgeOf summed less
+    lessAll sumOf readOf allAre putAt putOf same lowFirst numberAt blockOf blockSize described endsBlock lastOf liesIn pageOf placeIn placeOf rangeOf
+    startsBlock stretch wholeBlocks acceptsRate modeOf firstOf signature _and_ _from_to_ _or_ if_then_else_
 rehearsal-data-flash = refl

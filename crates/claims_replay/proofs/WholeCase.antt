@@ -9,15 +9,15 @@ use Rattle.chip_state.specs.Refusals.{goodAwaited, goodBegun, goodCollected, go
 use Rattle.claims_replay.specs.Printed.{digitsIn, lastLine, linesIn, printed}
 use Rattle.chip_commands.specs.Commands.{askedIn, commandDoes, commandsIn, fitted, readyCommands, setupCommands, work}
 use Rattle.chip_work.specs.Work.{blankCheck, blockErase, checksum, erasedIn, forbidden, programming, rangeBytes, rateSet, securityRelease, verify}
-use Rattle.chip_core.specs.Effect.{number2, number3}
+use Rattle.chip_core.specs.Effect.{number3}
 use Rattle.frame.specs.Collector.{fresh, hear, heard, holding}
-use Rattle.frame.specs.Frame.{complete, counted, framed, full, isFrame}
+use Rattle.frame.specs.Frame.{complete, counted, framed, full, isFrame, payload}
 use Rattle.frame.specs.Judgement.{fitting, judgeOf, summed}
 use Rattle.frame.specs.Sum.{less, lessAll, sumOf}
 use Rattle.replay_hex.specs.Hex.{digitOf, lineOf, separator}
 use Rattle.lent.specs.Lent.{allAre, putAt, putOf, same}
-use Rattle.numbers.specs.Numbers.{lowFirst}
-use Rattle.chip_options.specs.Options.{fixedBits, freshOptions, goodOptions, isFresh, lastBlock, optionBytes, raises, released, rises, security}
+use Rattle.numbers.specs.Numbers.{lowFirst, numberAt}
+use Rattle.chip_options.specs.Options.{fixedBits, freshOptions, goodOptions, isFresh, lastBlock, optionBytes, optionsIn, raises, released, rises, security}
 use Rattle.part.specs.Part.{blockOf, blockSize, described, endsBlock, lastOf, liesIn, pageOf, placeIn, placeOf, rangeOf, startsBlock, stretch, wholeBlocks}
 use Rattle.part.specs.Rate.{acceptsRate, modeOf}
 use Rattle.part.specs.Refusal.{firstOf}
@@ -25,9 +25,10 @@ use Rattle.replay_records.specs.Records.{answering, endedBy, eventsOf, goesOn, 
 use Rattle.chip_reply.specs.Reply.{framesOf, payloads, saidOf}
 use Rattle.words.specs.Words.{_and_, _from_to_, _or_, if_then_else_}
 use Rattle.chip_flash.specs.Flash.{blank, eraseOf, sumOfBytes}
-use Rattle.chip_pages.specs.Pages.{badData, dataDoes, footerOf, goodData, isLastPage, lengthOf, nextPage, optionsIn, pageIn, pageStored, programPage, securityData, storedReply, verifyPage}
+use Rattle.chip_pages.specs.Pages.{badData, dataDoes, footerOf, goodData, isLastPage, lengthOf, nextPage, pageIn, pageStored, programPage, securityData, storedReply, verifyPage}
 use Rattle.frame.specs.Framing.{frames, framing}
 use Rattle.part.specs.Signature.{signature}
+use Rattle.chip_core.specs.Hearing.{hearing}
 
 abbrev pub wholeCase : List ℕ
 wholeCase =
@@ -46,37 +47,40 @@ wholePrinted =
     ++ 0x45 ∷ 0x4E ∷ 0x44 ∷ 0x20 ∷ 0x33 ∷ 0x0A ∷ []
 
 pub whole-case : printed wholeCase ≡ wholePrinted
-unfolding byteIn frameDoes freshChip heardByte modeByte reactTo settled stepOf askedIn commandDoes commandsIn fitted readyCommands setupCommands work number2
-    number3 blank eraseOf sumOfBytes fixedBits freshOptions goodOptions isFresh lastBlock optionBytes raises released rises security badData dataDoes footerOf
-    goodData isLastPage lengthOf nextPage optionsIn pageIn pageStored programPage securityData storedReply verifyPage framesOf payloads saidOf goodAwaited
-    goodBegun goodCollected goodCore goodPhase goodPlaces goodState verdictOf blankCheck blockErase checksum erasedIn forbidden programming rangeBytes rateSet
-    securityRelease verify digitsIn lastLine linesIn printed fresh hear heard holding complete counted framed full isFrame frames framing fitting judgeOf
-    summed less lessAll sumOf allAre putAt putOf same lowFirst blockOf blockSize described endsBlock lastOf liesIn pageOf placeIn placeOf rangeOf startsBlock
-    stretch wholeBlocks acceptsRate modeOf firstOf signature bytesRecord gapRecord recordOf recordsIn recordsOf unused digitOf lineOf separator answering
-    endedBy eventsOf goesOn nextBy playBy playOf playWith played playedInto replayOf replayedFrom whileWhole _and_ _from_to_ _or_ if_then_else_
+unfolding byteIn frameDoes freshChip heardByte modeByte reactTo settled stepOf askedIn commandDoes commandsIn fitted readyCommands setupCommands work number3
+    hearing blank eraseOf sumOfBytes fixedBits freshOptions goodOptions isFresh lastBlock optionBytes optionsIn raises released rises security badData
+    dataDoes footerOf goodData isLastPage lengthOf nextPage pageIn pageStored programPage securityData storedReply verifyPage framesOf payloads saidOf
+    goodAwaited goodBegun goodCollected goodCore goodPhase goodPlaces goodState verdictOf blankCheck blockErase checksum erasedIn forbidden programming
+    rangeBytes rateSet securityRelease verify digitsIn lastLine linesIn printed fresh hear heard holding complete counted framed full isFrame payload frames
+    framing fitting judgeOf summed less lessAll sumOf allAre putAt putOf same lowFirst numberAt blockOf blockSize described endsBlock lastOf liesIn pageOf
+    placeIn placeOf rangeOf startsBlock stretch wholeBlocks acceptsRate modeOf firstOf signature bytesRecord gapRecord recordOf recordsIn recordsOf unused
+    digitOf lineOf separator answering endedBy eventsOf goesOn nextBy playBy playOf playWith played playedInto replayOf replayedFrom whileWhole _and_
+    _from_to_ _or_ if_then_else_
 whole-case = refl
 
 -- An empty capture prints "END 0", a short record "BAD" and its number.
 pub empty-case : printed [] ≡ 0x45 ∷ 0x4E ∷ 0x44 ∷ 0x20 ∷ 0x30 ∷ 0x0A ∷ []
-unfolding byteIn frameDoes freshChip heardByte modeByte reactTo settled stepOf askedIn commandDoes commandsIn fitted readyCommands setupCommands work number2
-    number3 blank eraseOf sumOfBytes fixedBits freshOptions goodOptions isFresh lastBlock optionBytes raises released rises security badData dataDoes footerOf
-    goodData isLastPage lengthOf nextPage optionsIn pageIn pageStored programPage securityData storedReply verifyPage framesOf payloads saidOf goodAwaited
-    goodBegun goodCollected goodCore goodPhase goodPlaces goodState verdictOf blankCheck blockErase checksum erasedIn forbidden programming rangeBytes rateSet
-    securityRelease verify digitsIn lastLine linesIn printed fresh hear heard holding complete counted framed full isFrame frames framing fitting judgeOf
-    summed less lessAll sumOf allAre putAt putOf same lowFirst blockOf blockSize described endsBlock lastOf liesIn pageOf placeIn placeOf rangeOf startsBlock
-    stretch wholeBlocks acceptsRate modeOf firstOf signature bytesRecord gapRecord recordOf recordsIn recordsOf unused digitOf lineOf separator answering
-    endedBy eventsOf goesOn nextBy playBy playOf playWith played playedInto replayOf replayedFrom whileWhole _and_ _from_to_ _or_ if_then_else_
+unfolding byteIn frameDoes freshChip heardByte modeByte reactTo settled stepOf askedIn commandDoes commandsIn fitted readyCommands setupCommands work number3
+    hearing blank eraseOf sumOfBytes fixedBits freshOptions goodOptions isFresh lastBlock optionBytes optionsIn raises released rises security badData
+    dataDoes footerOf goodData isLastPage lengthOf nextPage pageIn pageStored programPage securityData storedReply verifyPage framesOf payloads saidOf
+    goodAwaited goodBegun goodCollected goodCore goodPhase goodPlaces goodState verdictOf blankCheck blockErase checksum erasedIn forbidden programming
+    rangeBytes rateSet securityRelease verify digitsIn lastLine linesIn printed fresh hear heard holding complete counted framed full isFrame payload frames
+    framing fitting judgeOf summed less lessAll sumOf allAre putAt putOf same lowFirst numberAt blockOf blockSize described endsBlock lastOf liesIn pageOf
+    placeIn placeOf rangeOf startsBlock stretch wholeBlocks acceptsRate modeOf firstOf signature bytesRecord gapRecord recordOf recordsIn recordsOf unused
+    digitOf lineOf separator answering endedBy eventsOf goesOn nextBy playBy playOf playWith played playedInto replayOf replayedFrom whileWhole _and_
+    _from_to_ _or_ if_then_else_
 empty-case = refl
 
 pub short-case : printed (0x00 ∷ []) ≡ 0x42 ∷ 0x41 ∷ 0x44 ∷ 0x20 ∷ 0x30 ∷ 0x0A ∷ []
-unfolding byteIn frameDoes freshChip heardByte modeByte reactTo settled stepOf askedIn commandDoes commandsIn fitted readyCommands setupCommands work number2
-    number3 blank eraseOf sumOfBytes fixedBits freshOptions goodOptions isFresh lastBlock optionBytes raises released rises security badData dataDoes footerOf
-    goodData isLastPage lengthOf nextPage optionsIn pageIn pageStored programPage securityData storedReply verifyPage framesOf payloads saidOf goodAwaited
-    goodBegun goodCollected goodCore goodPhase goodPlaces goodState verdictOf blankCheck blockErase checksum erasedIn forbidden programming rangeBytes rateSet
-    securityRelease verify digitsIn lastLine linesIn printed fresh hear heard holding complete counted framed full isFrame frames framing fitting judgeOf
-    summed less lessAll sumOf allAre putAt putOf same lowFirst blockOf blockSize described endsBlock lastOf liesIn pageOf placeIn placeOf rangeOf startsBlock
-    stretch wholeBlocks acceptsRate modeOf firstOf signature bytesRecord gapRecord recordOf recordsIn recordsOf unused digitOf lineOf separator answering
-    endedBy eventsOf goesOn nextBy playBy playOf playWith played playedInto replayOf replayedFrom whileWhole _and_ _from_to_ _or_ if_then_else_
+unfolding byteIn frameDoes freshChip heardByte modeByte reactTo settled stepOf askedIn commandDoes commandsIn fitted readyCommands setupCommands work number3
+    hearing blank eraseOf sumOfBytes fixedBits freshOptions goodOptions isFresh lastBlock optionBytes optionsIn raises released rises security badData
+    dataDoes footerOf goodData isLastPage lengthOf nextPage pageIn pageStored programPage securityData storedReply verifyPage framesOf payloads saidOf
+    goodAwaited goodBegun goodCollected goodCore goodPhase goodPlaces goodState verdictOf blankCheck blockErase checksum erasedIn forbidden programming
+    rangeBytes rateSet securityRelease verify digitsIn lastLine linesIn printed fresh hear heard holding complete counted framed full isFrame payload frames
+    framing fitting judgeOf summed less lessAll sumOf allAre putAt putOf same lowFirst numberAt blockOf blockSize described endsBlock lastOf liesIn pageOf
+    placeIn placeOf rangeOf startsBlock stretch wholeBlocks acceptsRate modeOf firstOf signature bytesRecord gapRecord recordOf recordsIn recordsOf unused
+    digitOf lineOf separator answering endedBy eventsOf goesOn nextBy playBy playOf playWith played playedInto replayOf replayedFrom whileWhole _and_
+    _from_to_ _or_ if_then_else_
 short-case = refl
 
 -- "and stops there": the gap after a bad record is not played.
@@ -84,5 +88,13 @@ pub stopped-case : printed
     (0x02 ∷ 0x00 ∷ 0x00 ∷ 0x00 ∷ 0x00 ∷ 0x00 ∷ 0x00 ∷ 0x00
     ∷ 0x00 ∷ 0x00 ∷ 0x00 ∷ 0x00 ∷ 0x00 ∷ 0x00 ∷ 0x00 ∷ 0x00 ∷ [])
     ≡ 0x42 ∷ 0x41 ∷ 0x44 ∷ 0x20 ∷ 0x30 ∷ 0x0A ∷ []
-unfolding printed linesIn digitsIn lastLine replayOf replayedFrom recordsOf recordsIn nextBy whileWhole playOf playBy recordOf if_then_else_
+unfolding byteIn frameDoes freshChip heardByte modeByte reactTo settled stepOf askedIn commandDoes commandsIn fitted readyCommands setupCommands work number3
+    hearing blank eraseOf sumOfBytes fixedBits freshOptions goodOptions isFresh lastBlock optionBytes optionsIn raises released rises security badData
+    dataDoes footerOf goodData isLastPage lengthOf nextPage pageIn pageStored programPage securityData storedReply verifyPage framesOf payloads saidOf
+    goodAwaited goodBegun goodCollected goodCore goodPhase goodPlaces goodState verdictOf blankCheck blockErase checksum erasedIn forbidden programming
+    rangeBytes rateSet securityRelease verify digitsIn lastLine linesIn printed fresh hear heard holding complete counted framed full isFrame payload frames
+    framing fitting judgeOf summed less lessAll sumOf allAre putAt putOf same lowFirst numberAt blockOf blockSize described endsBlock lastOf liesIn pageOf
+    placeIn placeOf rangeOf startsBlock stretch wholeBlocks acceptsRate modeOf firstOf signature bytesRecord gapRecord recordOf recordsIn recordsOf unused
+    digitOf lineOf separator answering endedBy eventsOf goesOn nextBy playBy playOf playWith played playedInto replayOf replayedFrom whileWhole _and_
+    _from_to_ _or_ if_then_else_
 stopped-case = refl

@@ -8,40 +8,41 @@ use Rattle.chip_state.specs.Refusals.{goodAwaited, goodBegun, goodCollected, go
 use Rattle.claims_stars.specs.Table.{Example, order, replyBy, table}
 use Rattle.chip_commands.specs.Commands.{askedIn, commandDoes, commandsIn, fitted, readyCommands, setupCommands, work}
 use Rattle.chip_work.specs.Work.{blankCheck, blockErase, checksum, erasedIn, forbidden, programming, rangeBytes, rateSet, securityRelease, verify}
-use Rattle.chip_core.specs.Effect.{number2, number3}
+use Rattle.chip_core.specs.Effect.{number3}
 use Rattle.chip_flash.specs.Flash.{blank, eraseOf, sumOfBytes}
 use Rattle.frame.specs.Collector.{fresh, hear, heard, holding}
-use Rattle.frame.specs.Frame.{complete, counted, framed, full, isFrame}
+use Rattle.frame.specs.Frame.{complete, counted, framed, full, isFrame, payload}
 use Rattle.frame.specs.Judgement.{fitting, judgeOf, summed}
 use Rattle.frame.specs.Sum.{less, lessAll, sumOf}
 use Rattle.lent.specs.Lent.{allAre, putAt, putOf, same}
-use Rattle.numbers.specs.Numbers.{lowFirst}
-use Rattle.chip_options.specs.Options.{fixedBits, freshOptions, goodOptions, isFresh, lastBlock, optionBytes, raises, released, rises, security}
+use Rattle.numbers.specs.Numbers.{lowFirst, numberAt}
+use Rattle.chip_options.specs.Options.{fixedBits, freshOptions, goodOptions, isFresh, lastBlock, optionBytes, optionsIn, raises, released, rises, security}
 use Rattle.part.specs.Part.{blockOf, blockSize, described, endsBlock, lastOf, liesIn, pageOf, placeIn, placeOf, rangeOf, startsBlock, stretch, wholeBlocks}
 use Rattle.part.specs.Refusal.{firstOf}
 use Rattle.chip_reply.specs.Reply.{framesOf, payloads, saidOf}
 use Rattle.words.specs.Words.{_and_, _from_to_, _or_, if_then_else_}
-use Rattle.chip_pages.specs.Pages.{badData, dataDoes, footerOf, goodData, isLastPage, lengthOf, nextPage, optionsIn, pageIn, pageStored, programPage, securityData, storedReply, verifyPage}
+use Rattle.chip_pages.specs.Pages.{badData, dataDoes, footerOf, goodData, isLastPage, lengthOf, nextPage, pageIn, pageStored, programPage, securityData, storedReply, verifyPage}
 use Rattle.frame.specs.Framing.{frames, framing}
 use Rattle.part.specs.Rate.{acceptsRate, modeOf}
 use Rattle.part.specs.Signature.{signature}
+use Rattle.chip_core.specs.Hearing.{hearing}
 
 pub stars : map (λ (x : Example). x .gives) table ≡ map (λ (x : Example). x .printed) table
 unfolding answers heardBack byteIn frameDoes heardByte modeByte reactTo settled stepOf askedIn commandDoes commandsIn fitted readyCommands setupCommands work
-    number2 number3 blank eraseOf sumOfBytes fixedBits freshOptions goodOptions isFresh lastBlock optionBytes raises released rises security badData dataDoes
-    footerOf goodData isLastPage lengthOf nextPage optionsIn pageIn pageStored programPage securityData storedReply verifyPage framesOf payloads saidOf
+    number3 hearing blank eraseOf sumOfBytes fixedBits freshOptions goodOptions isFresh lastBlock optionBytes optionsIn raises released rises security badData
+    dataDoes footerOf goodData isLastPage lengthOf nextPage pageIn pageStored programPage securityData storedReply verifyPage framesOf payloads saidOf
     goodAwaited goodBegun goodCollected goodCore goodPhase goodPlaces goodState verdictOf blankCheck blockErase checksum erasedIn forbidden programming
-    rangeBytes rateSet securityRelease verify replyBy table fresh hear heard holding complete counted framed full isFrame frames framing fitting judgeOf
-    summed less lessAll sumOf allAre putAt putOf same lowFirst blockOf blockSize described endsBlock lastOf liesIn pageOf placeIn placeOf rangeOf startsBlock
-    stretch wholeBlocks acceptsRate modeOf firstOf signature _and_ _from_to_ _or_ if_then_else_
+    rangeBytes rateSet securityRelease verify replyBy table fresh hear heard holding complete counted framed full isFrame payload frames framing fitting
+    judgeOf summed less lessAll sumOf allAre putAt putOf same lowFirst numberAt blockOf blockSize described endsBlock lastOf liesIn pageOf placeIn placeOf
+    rangeOf startsBlock stretch wholeBlocks acceptsRate modeOf firstOf signature _and_ _from_to_ _or_ if_then_else_
 stars = refl
 
 pub in-order : map (λ (x : Example). x .gives) order ≡ map (λ (x : Example). x .printed) order
 unfolding answers heardBack byteIn frameDoes heardByte modeByte reactTo settled stepOf askedIn commandDoes commandsIn fitted readyCommands setupCommands work
-    number2 number3 blank eraseOf sumOfBytes fixedBits goodOptions isFresh lastBlock optionBytes raises released rises security badData dataDoes footerOf
-    goodData isLastPage lengthOf nextPage optionsIn pageIn pageStored programPage securityData storedReply verifyPage framesOf payloads saidOf goodAwaited
+    number3 hearing blank eraseOf sumOfBytes fixedBits goodOptions isFresh lastBlock optionBytes optionsIn raises released rises security badData dataDoes
+    footerOf goodData isLastPage lengthOf nextPage pageIn pageStored programPage securityData storedReply verifyPage framesOf payloads saidOf goodAwaited
     goodBegun goodCollected goodCore goodPhase goodPlaces goodState verdictOf blankCheck blockErase checksum erasedIn forbidden programming rangeBytes rateSet
-    securityRelease verify order replyBy fresh hear heard holding complete counted framed full isFrame frames framing fitting judgeOf summed less lessAll
-    sumOf allAre putAt putOf same lowFirst blockOf blockSize described endsBlock lastOf liesIn pageOf placeIn placeOf rangeOf startsBlock stretch wholeBlocks
-    acceptsRate modeOf firstOf signature _and_ _from_to_ _or_ if_then_else_
+    securityRelease verify order replyBy fresh hear heard holding complete counted framed full isFrame payload frames framing fitting judgeOf summed less
+    lessAll sumOf allAre putAt putOf same lowFirst numberAt blockOf blockSize described endsBlock lastOf liesIn pageOf placeIn placeOf rangeOf startsBlock
+    stretch wholeBlocks acceptsRate modeOf firstOf signature _and_ _from_to_ _or_ if_then_else_
 in-order = refl

@@ -97,24 +97,39 @@ spoken o = said (o .answer)
     said (Refused r) = 0
 
 pub deaf-differs : Differs deaf
-unfolding deaf spoken stepOf settled verdictOf firstOf described _from_to_ _and_ _or_ if_then_else_ goodState goodCollected goodBegun goodCore goodOptions fixedBits goodPhase lastBlock freshOptions fresh heard holding hear complete full counted isFrame reactTo byteIn hearing heardByte frameDoes commandDoes judgeOf summed sumOf lessAll less placeOf liesIn placeIn blockOf pageOf blockSize saidOf framesOf framed payloads askedIn commandsIn readyCommands fitted work
+unfolding deaf spoken stepOf settled verdictOf firstOf described _from_to_ _and_ _or_ if_then_else_ goodState goodCollected goodBegun goodCore goodOptions
+    fixedBits goodPhase lastBlock freshOptions fresh heard holding hear complete full counted isFrame reactTo byteIn hearing heardByte frameDoes commandDoes
+    judgeOf summed sumOf lessAll less placeOf liesIn placeIn blockOf pageOf blockSize saidOf framesOf framed payloads askedIn commandsIn readyCommands fitted
+    work
 deaf-differs = record { chip = resetChip; event = Byte 0x03; apart = λ e. let z : _≡_ {A = ℕ} 0 5 = ap spoken e in omega arith }
 
 -- The status byte of a reply.
 pub says-15h-differs : Differs says15hToAll
-unfolding saysAlways saying stepOf settled verdictOf firstOf described _from_to_ _and_ _or_ if_then_else_ goodState goodCollected goodBegun goodCore goodOptions fixedBits goodPhase lastBlock freshOptions fresh heard holding hear complete full counted isFrame reactTo byteIn hearing heardByte frameDoes commandDoes judgeOf summed sumOf lessAll less placeOf liesIn placeIn blockOf pageOf blockSize saidOf framesOf framed payloads askedIn commandsIn readyCommands fitted work
+unfolding saysAlways saying stepOf settled verdictOf firstOf described _from_to_ _and_ _or_ if_then_else_ goodState goodCollected goodBegun goodCore
+    goodOptions fixedBits goodPhase lastBlock freshOptions fresh heard holding hear complete full counted isFrame reactTo byteIn hearing heardByte frameDoes
+    commandDoes judgeOf summed sumOf lessAll less placeOf liesIn placeIn blockOf pageOf blockSize saidOf framesOf framed payloads askedIn commandsIn
+    readyCommands fitted work
 says-15h-differs = record { chip = resetChip; event = Byte 0x03; apart = λ e. let z : _≡_ {A = ℕ} 0x15 0x06 = ap (λ (o : Outcome). getD (o .room) 2 0) e in omega arith }
 
 pub always-acknowledges-differs : Differs alwaysAcknowledges
-unfolding saysAlways saying stepOf settled verdictOf firstOf described _from_to_ _and_ _or_ if_then_else_ goodState goodCollected goodBegun goodCore goodOptions fixedBits goodPhase lastBlock freshOptions fresh heard holding hear complete full counted isFrame reactTo byteIn hearing heardByte frameDoes commandDoes judgeOf summed sumOf lessAll less placeOf liesIn placeIn blockOf pageOf blockSize saidOf framesOf framed payloads askedIn commandsIn readyCommands fitted work blockErase number3
+unfolding saysAlways saying stepOf settled verdictOf firstOf described _from_to_ _and_ _or_ if_then_else_ goodState goodCollected goodBegun goodCore
+    goodOptions fixedBits goodPhase lastBlock freshOptions fresh heard holding hear complete full counted isFrame reactTo byteIn hearing heardByte frameDoes
+    commandDoes judgeOf summed sumOf lessAll less placeOf liesIn placeIn blockOf pageOf blockSize saidOf framesOf framed payloads askedIn commandsIn
+    readyCommands fitted work blockErase number3
 always-acknowledges-differs = record { chip = eraseChip; event = Byte 0x03; apart = λ e. let z : _≡_ {A = ℕ} 0x06 0x05 = ap (λ (o : Outcome). getD (o .room) 2 0) e in omega arith }
 
 pub stores-nothing-differs : Differs storesNothing
-unfolding storesOnly kept stepOf settled verdictOf firstOf described _from_to_ _and_ _or_ if_then_else_ goodState goodCollected goodBegun goodCore goodOptions fixedBits goodPhase lastBlock freshOptions fresh heard holding hear complete full counted isFrame reactTo byteIn heardByte frameDoes commandDoes judgeOf summed sumOf lessAll less placeOf liesIn placeIn blockOf pageOf blockSize saidOf framesOf framed payloads dataDoes goodData payload programPage pageIn pageStored blank allAre putOf putAt nextPage storedReply fitting footerOf lengthOf isLastPage goodAwaited goodPlaces hearing
+unfolding storesOnly kept stepOf settled verdictOf firstOf described _from_to_ _and_ _or_ if_then_else_ goodState goodCollected goodBegun goodCore goodOptions
+    fixedBits goodPhase lastBlock freshOptions fresh heard holding hear complete full counted isFrame reactTo byteIn heardByte frameDoes commandDoes judgeOf
+    summed sumOf lessAll less placeOf liesIn placeIn blockOf pageOf blockSize saidOf framesOf framed payloads dataDoes goodData payload programPage pageIn
+    pageStored blank allAre putOf putAt nextPage storedReply fitting footerOf lengthOf isLastPage goodAwaited goodPlaces hearing
 stores-nothing-differs = record { chip = pageChip 0x0400; event = Byte 0x17; apart = λ e. let z : _≡_ {A = ℕ} 0xFF 0xAA = ap (λ (o : Outcome). getD (o .memory .codeFlash) 0x0400 0) e in omega arith }
 
 pub stores-the-first-page-differs : Differs storesTheFirstPage
-unfolding storesOnly kept stepOf settled verdictOf firstOf described _from_to_ _and_ _or_ if_then_else_ goodState goodCollected goodBegun goodCore goodOptions fixedBits goodPhase lastBlock freshOptions fresh heard holding hear complete full counted isFrame reactTo byteIn heardByte frameDoes commandDoes judgeOf summed sumOf lessAll less placeOf liesIn placeIn blockOf pageOf blockSize saidOf framesOf framed payloads dataDoes goodData payload programPage pageIn pageStored blank allAre putOf putAt nextPage storedReply fitting footerOf lengthOf isLastPage goodAwaited goodPlaces hearing
+unfolding storesOnly kept stepOf settled verdictOf firstOf described _from_to_ _and_ _or_ if_then_else_ goodState goodCollected goodBegun goodCore goodOptions
+    fixedBits goodPhase lastBlock freshOptions fresh heard holding hear complete full counted isFrame reactTo byteIn heardByte frameDoes commandDoes judgeOf
+    summed sumOf lessAll less placeOf liesIn placeIn blockOf pageOf blockSize saidOf framesOf framed payloads dataDoes goodData payload programPage pageIn
+    pageStored blank allAre putOf putAt nextPage storedReply fitting footerOf lengthOf isLastPage goodAwaited goodPlaces hearing
 stores-the-first-page-differs = record { chip = pageChip 0x0500; event = Byte 0x17; apart = λ e. let z : _≡_ {A = ℕ} 0xFF 0xAA = ap (λ (o : Outcome). getD (o .memory .codeFlash) 0x0500 0) e in omega arith }
 
 -- A chip that differs on an input does not meet demand 2.
