@@ -1,34 +1,23 @@
 -- Laws about blank, equal and erased bytes: how far each loop has come, and what a caller may conclude from an answer.
 -- Assumes nothing.
 use mathlib.Core.Bool.{true}
-use mathlib.Core.List.{List, [], _++_, _∷_, append-assoc, append-nil}
-use mathlib.Core.Path.{_∙_, _≡_, ap, refl, sym}
-use Prim.Native.Nat.{_+_, _-_, _<_, _≤_, suc, zero, ℕ}
-use native.Mathlib.Decide.{decLe}
+use mathlib.Core.List.{List, _++_, append-nil}
+use mathlib.Core.Path.{_∙_, _≡_, refl}
+use Prim.Native.Nat.{_+_, _-_, _<_, _≤_, ℕ}
 use native.Mathlib.Numerals.{add-one}
 use native.Mathlib.Omega.{arith}
-use lib.Dec.{eqb}
-use lib.ListN.{drop, length, length-append, length-drop, length-replicate, length-set, replicate, replicate-append-replicate, set, take}
-use lib.Seq.{append-snoc, drop-cons, drop-drop, drop-length, length-take-le, set-at}
-use borrow.Author.Tests.{eqb-true}
+use lib.ListN.{drop, length, length-drop, length-replicate, length-set, replicate, replicate-append-replicate, set, take}
+use lib.Seq.{append-snoc, drop-cons, drop-length, length-take-le, set-at}
 use Rattle.chip_flash.specs.Flash.{blank, eraseOf, erased}
-use Rattle.lent.proofs.Laws.{put-lands, put-short}
-use Rattle.lent.specs.Lent.{Left, allAre, left, putAt, putOf}
+use Rattle.lent.proofs.Laws.{all-is, part-put, put-lands, put-long, put-short}
+use Rattle.lent.specs.Lent.{left, putAt}
 use Rattle.lent.specs.declared.Room.{Room}
 use Rattle.lent.specs.declared.Room.the-variants.{Enough, Short}
-use Rattle.words.proofs.Laws.{and-both, and-left, and-right}
-
-pub blank-erased : (n : ℕ) → blank (replicate n erased) ≡ true
-unfolding blank allAre
-blank-erased zero = refl
-blank-erased (suc n) = and-both refl (blank-erased n)
 
 -- Blank bytes are so many bytes FFh, and nothing else.
 pub blank-is : (bs : List ℕ) → blank bs ≡ true → bs ≡ replicate (length bs) erased
-unfolding blank allAre
-blank-is [] t = refl
-blank-is (b ∷ bs) t =
-    ap (λ (x : ℕ). x ∷ bs) (eqb-true b erased (and-left _ _ t)) ∙ ap (λ (r : List ℕ). erased ∷ r) (blank-is bs (and-right (eqb b erased) _ t))
+unfolding blank
+blank-is bs t = all-is erased bs t
 
 -- How far a fill has come: the first i bytes are FFh, the others still stand.
 pub record Filled (l : List ℕ) (i : ℕ) (d : List ℕ) : Type 0 where
@@ -59,23 +48,13 @@ erase-fits l at n h = put-lands l at (replicate n erased) (rw length-replicate h
 -- A part lent to a fill comes back in this form.
 pub erase-lands : (l : List ℕ) (at n : ℕ) (t : List ℕ) → at + n ≤ length l → t ≡ replicate (length (take (at + n - at) (drop at l))) erased
     → left Enough (take at l ++ (t ++ drop (at + n - at) (drop at l))) ≡ eraseOf l at n
-unfolding putAt
+unfolding eraseOf
 erase-lands l at n t h e =
     let m : at + n - at ≡ n = omega arith in
     let k : length (take n (drop at l)) ≡ n = length-take-le n (drop at l) (rw length-drop (omega arith)) in
-    rw (e, m, k, erase-fits l at n h, length-replicate, drop-drop, append-assoc)
+    rw (e, m, k) (part-put l at n (replicate n erased) h (length-replicate n erased))
 
--- Neither a store nor an erase changes how many bytes there are, done or refused.
-pub put-long : {a : Room} {d : List ℕ} (l : List ℕ) (at : ℕ) (s : List ℕ) → left a d ≡ putOf l at s → length d ≡ length l
-unfolding putAt
-put-long {a} {d} l at s e = go (decLe (at + length s) (length l))
-  where
-    go : Dec (at + length s ≤ length l) → length d ≡ length l
-    go (yes h) =
-        ap (λ (x : Left). length (x .bytes)) (e ∙ put-lands l at s h)
-        ∙ rw (length-append, length-append, length-drop, length-take-le at l (omega arith)) (omega arith)
-    go (no h) = ap (λ (x : Left). length (x .bytes)) (e ∙ sym (put-short l at s (omega arith)))
-
+-- An erase does not change how many bytes there are, done or refused.
 pub erase-long : {a : Room} {d : List ℕ} (l : List ℕ) (at n : ℕ) → left a d ≡ eraseOf l at n → length d ≡ length l
 unfolding eraseOf
 erase-long l at n e = put-long l at (replicate n erased) e

@@ -20,7 +20,8 @@ use Rattle.chip_core.specs.declared.Awaited.{Awaited}
 use Rattle.chip_core.specs.declared.Core.{Core}
 use Rattle.chip_core.specs.declared.Done.{Done}
 use Rattle.chip_core.specs.declared.Phase.the-variants.{Awaiting}
-use Rattle.chip_flash.proofs.Laws.{erase-of-long, put-long}
+use Rattle.chip_flash.proofs.Laws.{erase-of-long}
+use Rattle.lent.proofs.Laws.{put-long}
 use Rattle.chip_options.proofs.Laws.{released-good}
 use Rattle.part.specs.Part.{blockSize, described, rangeOf}
 use Rattle.part.specs.Rate.{acceptsRate}

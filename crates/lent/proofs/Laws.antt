@@ -4,11 +4,12 @@ use mathlib.Core.Bool.{Bool, false, false≢true, true}
 use mathlib.Core.List.{List, [], _++_, _∷_, append-assoc, append-nil}
 use mathlib.Core.Path.{_∙_, _≡_, ap, refl, sym}
 use Prim.Native.Nat.{_+_, _-_, _<_, _≤_, suc, ℕ}
+use native.Mathlib.Decide.{decLe}
 use native.Mathlib.Numerals.{add-one}
 use native.Mathlib.Omega.{arith}
 use lib.Dec.{eqb}
-use lib.ListN.{drop, drop-of-length-le, getD, length, length-append, length-drop, length-take, set, take}
-use lib.Seq.{append-snoc, drop-append-add, drop-cons, drop-drop, drop-length, set-append-seam, take-all, take-append-seam, take-length, take-nil}
+use lib.ListN.{drop, drop-of-length-le, getD, length, length-append, length-drop, length-take, replicate, set, take}
+use lib.Seq.{append-snoc, drop-append-add, drop-cons, drop-drop, drop-length, length-take-le, set-append-seam, take-all, take-append-seam, take-length, take-nil}
 use borrow.Author.Tests.{eq-eqb, eqb-true, le-leb, lt-leb}
 use Rattle.lent.specs.Lent.{Left, allAre, left, putAt, putOf, same}
 use Rattle.lent.specs.declared.Room.{Room}
@@ -23,6 +24,22 @@ put-short l at s h = simp (lt-leb _ _ h)
 pub put-lands : (l : List ℕ) (at : ℕ) (s : List ℕ) → at + length s ≤ length l → putOf l at s ≡ left Enough (putAt l at s)
 unfolding putOf if_then_else_
 put-lands l at s h = simp (le-leb _ _ h)
+
+-- Neither answer changes how many bytes there are.
+pub put-long : {a : Room} {d : List ℕ} (l : List ℕ) (at : ℕ) (s : List ℕ) → left a d ≡ putOf l at s → length d ≡ length l
+unfolding putAt
+put-long {a} {d} l at s e = go (decLe (at + length s) (length l))
+  where
+    go : Dec (at + length s ≤ length l) → length d ≡ length l
+    go (yes h) =
+        ap (λ (x : Left). length (x .bytes)) (e ∙ put-lands l at s h)
+        ∙ rw (length-append, length-append, length-drop, length-take-le at l (omega arith)) (omega arith)
+    go (no h) = ap (λ (x : Left). length (x .bytes)) (e ∙ sym (put-short l at s (omega arith)))
+
+-- A part of n bytes from at on, lent and changed to t, comes back in this form.
+pub part-put : (l : List ℕ) (at n : ℕ) (t : List ℕ) → at + n ≤ length l → length t ≡ n → left Enough (take at l ++ (t ++ drop n (drop at l))) ≡ putOf l at t
+unfolding putAt
+part-put l at n t h e = rw (put-lands l at t (omega arith), e, drop-drop, append-assoc)
 
 -- A part from at to the end, lent to `bytes::copy`, comes back in this form.
 pub copied : (l : List ℕ) (at : ℕ) (s t : List ℕ) → at + length s ≤ length l
@@ -66,6 +83,19 @@ written-put {w} {r} {l} {l′} {a} at s p e f h =
     let i : l′ ≡ (w ++ s) ++ drop (length (w ++ s)) r =
     ap (λ (x : Left). x .bytes) v ∙ rw (n, p .is, f, take-append-seam, drop-append-add, drop-drop) in
     record { is = i; room = m; long = ap length i ∙ is-long (w ++ s) r m }
+
+-- What is written from the room's start was put there.
+pub written-laid : {w r l : List ℕ} → Written w r l → left Enough l ≡ putOf r 0 w
+unfolding putAt
+written-laid {w} {r} {l} p =
+    let z : 0 + length w ≡ length w = omega arith in
+    ap (left Enough) (p .is ∙ ap (λ (n : ℕ). w ++ drop n r) (sym z)) ∙ sym (put-lands r 0 w (omega (arith, p .room)))
+
+-- Bytes that are all v are so many bytes v, and nothing else.
+pub all-is : (v : ℕ) (bs : List ℕ) → allAre v bs ≡ true → bs ≡ replicate (length bs) v
+unfolding allAre
+all-is v [] t = refl
+all-is v (b ∷ bs) t = ap (λ (x : ℕ). x ∷ bs) (eqb-true b v (and-left _ _ t)) ∙ ap (λ (r : List ℕ). v ∷ r) (all-is v bs (and-right (eqb b v) _ t))
 
 -- How far a test that each byte is v has come: t is what the flag makes of the rest.
 pub record AllFrom (v : ℕ) (ok : Bool) (bs : List ℕ) (i : ℕ) (t : Bool) : Type 0 where

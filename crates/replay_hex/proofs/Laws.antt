@@ -4,7 +4,6 @@ use mathlib.Core.List.{List, [], _++_, _∷_, append-nil}
 use mathlib.Core.Path.{_∙_, _≡_, ap, refl, sym}
 use Prim.Native.Nat.{_%_, _*_, _+_, _/_, _<_, _≤_, suc, ℕ}
 use native.Mathlib.Decide.{decLt}
-use native.Mathlib.Nat.{zero-add}
 use native.Mathlib.Numerals.{add-one}
 use native.Mathlib.Omega.{arith}
 use lib.ListN.{drop, drop-of-length-le, getD, length, length-append, set}
@@ -12,8 +11,8 @@ use lib.Seq.{append-snoc, drop-cons}
 use borrow.Author.Tests.{le-ltb, lt-ltb}
 use Rattle.replay_hex.specs.Hex.{digitOf, lineOf, separator}
 use Rattle.replay_hex.specs.inner.Places.{separatorAt}
-use Rattle.lent.proofs.Laws.{Written, put-lands, put-short, written-byte, written-start}
-use Rattle.lent.specs.Lent.{left, putAt, putOf}
+use Rattle.lent.proofs.Laws.{Written, put-short, written-byte, written-laid, written-start}
+use Rattle.lent.specs.Lent.{left, putOf}
 use Rattle.lent.specs.declared.Room.the-variants.{Enough, Short}
 use Rattle.words.specs.Words.{if_then_else_}
 
@@ -71,14 +70,11 @@ lined-turn {bs} {i} {whole} {text} h l m j q k r a b c e =
     }
 
 pub lined-end : {bs : List ℕ} {i : ℕ} {whole text : List ℕ} → LinedFrom bs i whole text → i ≡ length bs → left Enough text ≡ putOf whole 0 (lineOf bs)
-unfolding putAt lineOf
+unfolding lineOf
 lined-end {bs} {i} {whole} {text} q e =
     let past : length bs ≤ i = omega arith in
     let w : q .done ≡ lineOf bs = sym (append-nil (q .done)) ∙ ap (λ (x : List ℕ). q .done ++ lineOf x) (sym (drop-of-length-le bs past)) ∙ q .rest in
-    let l : length (lineOf bs) ≤ length whole = rw (sym w) (q .stands .room) in
-    let z : 0 + length (lineOf bs) ≡ length (lineOf bs) = zero-add (length (lineOf bs)) in
-    ap (left Enough) (q .stands .is ∙ ap (λ (x : List ℕ). x ++ drop (length x) whole) w ∙ ap (λ (n : ℕ). lineOf bs ++ drop n whole) (sym z))
-    ∙ sym (put-lands whole 0 (lineOf bs) (omega arith))
+    written-laid (q .stands) ∙ ap (λ (x : List ℕ). putOf whole 0 x) w
 
 pub line-short : (bs text : List ℕ) → length text / 3 < length bs → left Short text ≡ putOf text 0 (lineOf bs)
 line-short bs text h = put-short text 0 (lineOf bs) (rw line-long (omega arith))
