@@ -2,7 +2,7 @@
 -- Assumes nothing.
 use mathlib.Core.Path.{_≡_, sym}
 use Prim.Native.Nat.{_%_, _*_, _+_, _-_, _/_, _<_, _≤_, suc, zero, ℕ}
-use native.Mathlib.Nat.{div-add-mod', div-eq-of-lt-le, div-lt-iff-lt-mul, div-mul-le-self, le-div-iff-mul-le, le-of-mul-le-mul-right, mod-lt, mul-div-left, mul-mod-left, suc-mul, zero-mul}
+use native.Mathlib.Nat.{div-add-mod', div-eq-of-lt-le, div-lt-iff-lt-mul, div-mul-le-self, le-div-iff-mul-le, le-of-mul-le-mul-right, mul-div-left, mul-mod-left, suc-mul, zero-mul}
 use native.Mathlib.Numerals.{add-one}
 use native.Mathlib.Omega.{arith}
 
@@ -62,7 +62,3 @@ module _ (s : ℕ) (pos : 0 < s) where
         number = n;
         long = omega arith;
       }
-
-  -- A block of pages: the page that an offset lies in is one of the block's.
-  pub below-page : (g pages x : ℕ) → 0 < g → s ≡ pages * g → x % s / g < pages
-  below-page g pages x h e = div-lt-iff-lt-mul h .1 (rw (← e) (mod-lt x pos))

@@ -9,7 +9,7 @@ use native.Mathlib.Numerals.{add-one}
 use native.Mathlib.Omega.{arith}
 use lib.Dec.{leb·zero, ltb}
 use borrow.Author.Tests.{eq-eqb, eqb-true, le-leb, le-ltb, leb-true, lt-ltb, ltb-false, ltb-true}
-use Rattle.part.proofs.Blocks.{Whole, below, below-page, whole, whole-inside, whole-read}
+use Rattle.part.proofs.Blocks.{Whole, below, whole, whole-inside, whole-read}
 use Rattle.part.specs.Part.{blockOf, blockSize, blocks, described, endsBlock, first, liesIn, pageOf, pageSize, pages, placeIn, placeOf, rangeOf, size, startsBlock, stretch, wholeBlocks}
 use Rattle.part.specs.Rate.{acceptsRate}
 use Rattle.part.specs.Refusal.{Condition, _when_, firstOf}
@@ -194,14 +194,12 @@ good-range p start end DataFlash block count d st =
     let n : wholeBlocks p CodeFlash start end ≡ false = not-in-code p start end (omega (arith, areas-apart p d, st .begins)) in
     simp (le-ltb _ _ (in-order p start end DataFlash block count st), n, whole-yes p start end DataFlash block count st, stretch-is p start end DataFlash block count st)
 
--- Where an address lies: the offset is below the area's size, block and page are of that area and block, and the three agree.
+-- Where an address lies: the offset is below the area's size, the block is of that area, and the two agree.
 pub record Spot (p : Part) (at : ℕ) (a : Area) (offset block page : ℕ) : Type 0 where
   pub is : at ≡ first a + offset
   pub inside : offset < size p a
   pub in-block : offset ≡ block * blockSize p a + offset % blockSize p a
-  pub in-page : offset % blockSize p a ≡ page * pageSize + offset % blockSize p a % pageSize
   pub block-below : block < blocks p a
-  pub page-below : page < pages p a
 
 spot-law : (p : Part) (a : Area) (at : ℕ) → LiesIn p a at → Spot p at a (at - first a) (blockOf p a at) (pageOf p a at)
 unfolding blockOf pageOf
@@ -212,9 +210,7 @@ spot-law p a at l =
       is = omega (arith, l .low);
       inside = omega (arith, l .low, l .high);
       in-block = sym (div-add-mod' x s);
-      in-page = sym (div-add-mod' (x % s) pageSize);
       block-below = below s (blockSize-pos p a) (blocks p a) x (omega (arith, l .low, l .high));
-      page-below = below-page s (blockSize-pos p a) pageSize (pages p a) x (omega arith) (pages-whole p a);
     }
 
 pub place-lies : (p : Part) (at : ℕ) (a : Area) (offset block page : ℕ) → placeOf p at ≡ In a offset block page → Spot p at a offset block page

@@ -29,10 +29,20 @@ part-sum8-start : tie.Need-part-sum8-start
 part-sum8-start c = omega (arith, frame-long _ (sym (c .before .before .before .before .before .is-frame .ensures) ∙ c .before .before .before .before .if1 .taken))
 
 returns : tie.Need-returns
-returns c = sym (judged-good _ _ (sym (c .before .before .before .before .before .before .before .before .is-frame .ensures) ∙ c .before .before .before .before .before .before .before .if1 .taken) (c .before .before .before .before .if2 .taken ∙ c .before .before .before .before .before .byte .ensures) (c .if3 .taken ∙ c .before .sum8 .ensures ∙ summed-part _))
+returns c =
+    let is-frame = c .before .before .before .before .before .before .before .before .is-frame in
+    let if1 = c .before .before .before .before .before .before .before .if1 in
+    let byte = c .before .before .before .before .before .byte in
+    let if2 = c .before .before .before .before .if2 in
+    sym (judged-good _ _ (sym (is-frame .ensures) ∙ if1 .taken) (if2 .taken ∙ byte .ensures) (c .if3 .taken ∙ c .before .sum8 .ensures ∙ summed-part _))
 
 returns-2 : tie.Need-returns-2
-returns-2 c = sym (judged-sum _ _ (sym (c .before .before .before .before .before .before .before .before .is-frame .ensures) ∙ c .before .before .before .before .before .before .before .if1 .taken) (c .before .before .before .before .if2 .taken ∙ c .before .before .before .before .before .byte .ensures) (λ e. c .if3 .left (e ∙ sym (c .before .sum8 .ensures ∙ summed-part _))))
+returns-2 c =
+    let is-frame = c .before .before .before .before .before .before .before .before .is-frame in
+    let if1 = c .before .before .before .before .before .before .before .if1 in
+    let byte = c .before .before .before .before .before .byte in
+    let if2 = c .before .before .before .before .if2 in
+    sym (judged-sum _ _ (sym (is-frame .ensures) ∙ if1 .taken) (if2 .taken ∙ byte .ensures) (λ e. c .if3 .left (e ∙ sym (c .before .sum8 .ensures ∙ summed-part _))))
 
 returns-3 : tie.Need-returns-3
 returns-3 c = sym (judged-footer _ _ (sym (c .before .before .before .before .is-frame .ensures) ∙ c .before .before .before .if1 .taken) (λ e. c .if2 .left (e ∙ sym (c .before .byte .ensures))))

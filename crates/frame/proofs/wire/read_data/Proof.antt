@@ -20,7 +20,12 @@ returns-3 : tie.Need-returns-3
 returns-3 c = read-cut _ (omega (arith, c .before .needed .ensures .0))
 
 returns-4 : tie.Need-returns-4
-returns-4 c = read-good _ _ _ _ (c .before .before .before .before .before .before .before .before .before .if2 .left ∙ c .before .before .before .before .before .before .before .before .before .before .byte .ensures) (c .before .before .before .before .before .before .before .counted .ensures) (c .before .before .before .before .before .needed .ensures .0) (c .before .before .judge .ensures) (c .enum-told .given .1)
+returns-4 c =
+    let byte = c .before .before .before .before .before .before .before .before .before .before .byte in
+    let if2 = c .before .before .before .before .before .before .before .before .before .if2 in
+    let counted = c .before .before .before .before .before .before .before .counted in
+    let needed = c .before .before .before .before .before .needed in
+    read-good _ _ _ _ (if2 .left ∙ byte .ensures) (counted .ensures) (needed .ensures .0) (c .before .before .judge .ensures) (c .enum-told .given .1)
 
 returns-5 : tie.Need-returns-5
 returns-5 c = read-judged _ _ _ (c .before .before .before .before .before .needed .ensures .0) (c .before .before .judge .ensures) (ap isGood (c .enum-told2 .given .1))

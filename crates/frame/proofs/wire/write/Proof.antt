@@ -17,7 +17,9 @@ returns-3 : tie.Need-returns-3
 returns-3 c = write-short _ _ _ _ (rw length-append (omega arith)) (rw length-append (omega arith)) (rw length-append (omega arith))
 
 returns-4 : tie.Need-returns-4
-returns-4 c = write-laid _ (c .before .before .before .before .before .before .before .before .before .before .args .lead .now) (c .before .before .before .before .before .before .before .before .before .before .args .rest .now) _ _ _ (c .before .before .lay .ensures) (omega arith) (omega arith) (omega arith)
+returns-4 c =
+    let args = c .before .before .before .before .before .before .before .before .before .before .args in
+    write-laid _ (args .lead .now) (args .rest .now) _ _ _ (c .before .before .lay .ensures) (omega arith) (omega arith) (omega arith)
 
 pub write-spec : {M : Type 1} → statement M
 write-spec =

@@ -17,7 +17,11 @@ rem-if3 : tie.Need-rem-if3
 rem-if3 c = positive _ _ (c .block-size .ensures)
 
 add-result : tie.Need-add-result
-add-result c = omega (arith, lies _ _ _ (sym (c .before .before .before .before .lies-in2 .ensures) ∙ c .before .before .before .if2 .taken) .high, size-small (c .before .before .before .before .before .before .before .args .self) (c .before .before .before .before .before .before .before .args .area) (search needs) (search needs), first-small (c .before .before .before .before .before .before .before .args .area))
+add-result c =
+    let args = c .before .before .before .before .before .before .before .args in
+    let lies-in2 = c .before .before .before .before .lies-in2 in
+    let if2 = c .before .before .before .if2 in
+    omega (arith, lies _ _ _ (sym (lies-in2 .ensures) ∙ if2 .taken) .high, size-small (args .self) (args .area) (search needs) (search needs), first-small (args .area))
 
 sub-result : tie.Need-sub-result
 sub-result c = omega (arith, lies _ _ _ (sym (c .before .before .before .before .lies-in2 .ensures) ∙ c .before .before .before .if2 .taken) .low)
@@ -27,11 +31,21 @@ rem-result c = positive _ _ (c .before .block-size .ensures)
 
 returns : tie.Need-returns
 unfolding wholeBlocks startsBlock endsBlock _and_
-returns c = simp (← c .before .before .before .before .before .before .lies-in .ensures, c .before .before .before .before .before .if1 .taken, ← c .before .before .before .before .lies-in2 .ensures, c .before .before .before .if2 .taken, ← c .before .before .first .ensures, ← c .before .block-size .ensures, eq-eqb _ _ (c .if3 .taken))
+returns c =
+    let lies-in = c .before .before .before .before .before .before .lies-in in
+    let if1 = c .before .before .before .before .before .if1 in
+    let lies-in2 = c .before .before .before .before .lies-in2 in
+    let if2 = c .before .before .before .if2 in
+    simp (← lies-in .ensures, if1 .taken, ← lies-in2 .ensures, if2 .taken, ← c .before .before .first .ensures, ← c .before .block-size .ensures, eq-eqb _ _ (c .if3 .taken))
 
 returns-2 : tie.Need-returns-2
 unfolding wholeBlocks startsBlock endsBlock _and_
-returns-2 c = simp (← c .before .before .before .before .before .before .lies-in .ensures, c .before .before .before .before .before .if1 .taken, ← c .before .before .before .before .lies-in2 .ensures, c .before .before .before .if2 .taken, ← c .before .before .first .ensures, ← c .before .block-size .ensures, ne-eqb _ _ (c .if3 .left))
+returns-2 c =
+    let lies-in = c .before .before .before .before .before .before .lies-in in
+    let if1 = c .before .before .before .before .before .if1 in
+    let lies-in2 = c .before .before .before .before .lies-in2 in
+    let if2 = c .before .before .before .if2 in
+    simp (← lies-in .ensures, if1 .taken, ← lies-in2 .ensures, if2 .taken, ← c .before .before .first .ensures, ← c .before .block-size .ensures, ne-eqb _ _ (c .if3 .left))
 
 returns-3 : tie.Need-returns-3
 unfolding wholeBlocks startsBlock endsBlock _and_

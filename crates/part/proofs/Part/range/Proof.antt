@@ -24,7 +24,11 @@ stretch-requires-2 c κs = (sym (c .before .is-whole-blocks2 .ensures) ∙ c .if
 
 returns-3 : tie.Need-returns-3
 unfolding rangeOf if_then_else_
-returns-3 c = simp (le-ltb _ _ (c .before .before .before .before .before .if1 .left), ← c .before .before .before .before .is-whole-blocks .ensures, c .before .before .before .if2 .left, ← c .before .before .is-whole-blocks2 .ensures, c .before .if3 .taken, ← c .stretch2 .ensures)
+returns-3 c =
+    let if1 = c .before .before .before .before .before .if1 in
+    let is-whole-blocks = c .before .before .before .before .is-whole-blocks in
+    let if2 = c .before .before .before .if2 in
+    simp (le-ltb _ _ (if1 .left), ← is-whole-blocks .ensures, if2 .left, ← c .before .before .is-whole-blocks2 .ensures, c .before .if3 .taken, ← c .stretch2 .ensures)
 
 returns-4 : tie.Need-returns-4
 unfolding rangeOf if_then_else_

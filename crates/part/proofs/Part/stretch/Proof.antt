@@ -29,7 +29,15 @@ div-t9 : tie.Need-div-t9
 div-t9 c = positive _ _ (c .block-size .ensures)
 
 add-t10 : tie.Need-add-t10
-add-t10 c = omega (arith, inside c .ends, size-small (c .before .before .args .self) (c .before .before .args .area) (search needs) (search needs), first-small (c .before .before .args .area), div-le-self (c .before .before .args .end - c .before .first .result) (c .block-size .result))
+add-t10 c =
+    omega (
+      arith,
+      inside c .ends,
+      size-small (c .before .before .args .self) (c .before .before .args .area) (search needs) (search needs),
+      first-small (c .before .before .args .area),
+      div-le-self
+          (c .before .before .args .end - c .before .first .result) (c .block-size .result),
+    )
 
 sub-t11 : tie.Need-sub-t11
 sub-t11 c = omega (arith, blocks-in-order c)

@@ -9,7 +9,9 @@ use Rattle.part.proofs.crossing.part_with.Tie as tie
 returns : tie.Need-returns
 unfolding partWith
 returns c =
-    rw (put-whole _ _ _ _ (c .before .before .before .before .before .before .before .before .before .put .ensures) (search needs), put-whole _ _ _ _ (c .before .before .before .before .before .put2 .ensures) (search needs), put-whole _ _ _ _ (c .before .put3 .ensures) (search needs))
+    let put = c .before .before .before .before .before .before .before .before .before .put in
+    let put2 = c .before .before .before .before .before .put2 in
+    rw (put-whole _ _ _ _ (put .ensures) (search needs), put-whole _ _ _ _ (put2 .ensures) (search needs), put-whole _ _ _ _ (c .before .put3 .ensures) (search needs))
 
 pub part-with-spec : {M : Type 1} → statement M
 part-with-spec =

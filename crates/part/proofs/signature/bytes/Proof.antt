@@ -23,7 +23,18 @@ slice-aggregate-put-10 c = sym (version-long (c .before .before .before .before 
 
 returns : tie.Need-returns
 returns c =
-    signature-is (c .before .before .before .before .before .before .before .before .before .before .before .before .before .before .before .before .before .before .before .before .before .before .before .before .before .before .before .args .part) _ _ _ _ _ _ _ _ _ _ _ _ _ (c .before .before .before .before .before .before .before .before .before .before .before .before .before .before .before .before .before .put .ensures) (c .before .before .before .before .before .before .before .before .before .before .before .before .before .put2 .ensures) (c .before .before .before .before .before .before .before .before .before .put3 .ensures) (c .before .before .before .before .before .put4 .ensures) (c .before .put5 .ensures) (c .before .before .before .before .before .before .before .before .before .before .before .before .before .before .before .before .before .before .before .before .before .before .last-bytes .ensures ∙ ap lastBytes (c .before .before .before .before .before .before .before .before .before .before .before .before .before .before .before .before .before .before .before .before .before .before .before .last .ensures)) (c .before .before .before .before .before .before .before .before .before .before .before .before .before .before .before .before .before .before .before .before .last-bytes2 .ensures ∙ ap lastBytes (c .before .before .before .before .before .before .before .before .before .before .before .before .before .before .before .before .before .before .before .before .before .last2 .ensures)) refl (device-long (c .before .before .before .before .before .before .before .before .before .before .before .before .before .before .before .before .before .before .before .before .before .before .before .before .before .before .before)) (name-long (c .before .before .before .before .before .before .before .before .before .before .before .before .before .before .before .before .before .before .before .before .before .before .before .before .before .before .before)) (version-long (c .before .before .before .before .before .before .before .before .before .before .before .before .before .before .before .before .before .before .before .before .before .before .before .before .before .before .before))
+    let args = c .before .before .before .before .before .before .before .before .before .before .before .before .before .before .before .before .before .before .before .before .before .before .before .before .before .before .before .args in
+    let start = c .before .before .before .before .before .before .before .before .before .before .before .before .before .before .before .before .before .before .before .before .before .before .before .before .before .before .before in
+    let last = c .before .before .before .before .before .before .before .before .before .before .before .before .before .before .before .before .before .before .before .before .before .before .before .last in
+    let last-bytes = c .before .before .before .before .before .before .before .before .before .before .before .before .before .before .before .before .before .before .before .before .before .before .last-bytes in
+    let last2 = c .before .before .before .before .before .before .before .before .before .before .before .before .before .before .before .before .before .before .before .before .before .last2 in
+    let last-bytes2 = c .before .before .before .before .before .before .before .before .before .before .before .before .before .before .before .before .before .before .before .before .last-bytes2 in
+    let put = c .before .before .before .before .before .before .before .before .before .before .before .before .before .before .before .before .before .put in
+    let put2 = c .before .before .before .before .before .before .before .before .before .before .before .before .before .put2 in
+    let put3 = c .before .before .before .before .before .before .before .before .before .put3 in
+    let put4 = c .before .before .before .before .before .put4 in
+    signature-is (args .part) _ _ _ _ _ _ _ _ _ _ _ _ _ (put .ensures) (put2 .ensures) (put3 .ensures) (put4 .ensures) (c .before .put5 .ensures) (last-bytes .ensures ∙ ap lastBytes (last .ensures))
+    (last-bytes2 .ensures ∙ ap lastBytes (last2 .ensures)) refl (device-long start) (name-long start) (version-long start)
 
 pub bytes-spec : {M : Type 1} → statement M
 bytes-spec =

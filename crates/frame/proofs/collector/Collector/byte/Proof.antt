@@ -38,7 +38,10 @@ put-requires-3 : tie.Need-put-requires-3
 put-requires-3 c κs = omega (arith, c .before .needed .ensures .0, c .before .needed .ensures .1)
 
 returns-5 : tie.Need-returns-5
-returns-5 c = c .put3 .ensures ∙ byte-added _ _ _ (c .before .before .before .before .before .if1 .left) (search needs) (omega (arith, c .before .before .needed .ensures .0, c .before .before .needed .ensures .1)) (lacking _ (search needs) (c .before .before .needed .ensures .1) (omega (arith, c .before .before .needed .ensures .0)))
+returns-5 c =
+    let if1 = c .before .before .before .before .before .if1 in
+    c .put3 .ensures ∙ byte-added _ _ _ (if1 .left) (search needs) (omega (arith, c .before .before .needed .ensures .0, c .before .before .needed .ensures .1))
+    (lacking _ (search needs) (c .before .before .needed .ensures .1) (omega (arith, c .before .before .needed .ensures .0)))
 
 pub byte-spec : {M : Type 1} → statement M
 byte-spec =
