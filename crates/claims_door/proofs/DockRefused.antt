@@ -11,7 +11,7 @@ use Rattle.claims_door.specs.Docked.{AskKept}
 use Rattle.dock.specs.Calls.{Asking, askOf, asked, hearOf, moved, standing, startOf, turning}
 use Rattle.dock.specs.declared.Stepped.{Stepped}
 use Rattle.dock_door.proofs.Laws.{admitted}
-use Rattle.dock_door.specs.Calls.{AskTold, admission, askThrough, askTold, askedBy, bytesPut, hearThrough, heardBy, refusalNumber, startThrough, startTold, startedBy, toldOf}
+use Rattle.dock_door.specs.Calls.{AskTold, admission, askThrough, askTold, askedBy, figuresOf, hearThrough, heardBy, startThrough, startTold, startedBy, toldOf}
 use Rattle.dock_door.specs.Layout.{dockIn, dockSize, isDock, layoutOf}
 use Rattle.dock_flow.specs.Flow.{Heard, afterHeard}
 use Rattle.dock_flow.specs.Frames.{handed, placing, sendOf}
@@ -30,13 +30,13 @@ use Rattle.part.specs.declared.refusal.Verdict.the-variants.{Accepted, Refused}
 use Rattle.words.specs.Words.{if_then_else_}
 
 abbrev askAnswered : Asking → AskTold
-askAnswered a = askTold (refusalNumber (a .report)) (bytesPut (a .report)) (layoutOf (a .dock)) (a .room)
+askAnswered a = askTold (figuresOf (a .report) .refusal) (figuresOf (a .report) .bytes) (layoutOf (a .dock)) (a .room)
 
 -- The dock is asked, and refuses: it hands the dock back as it was, and that is written back as the bytes it was read from.
 asks-kept : (u : Verdict) (f : Placed) (state room : List ℕ) → isDock state ≡ true
-    → (refusalNumber (asked (handed u f room) (handed u f room .answer) (dockIn state) .report) ≡ 0 → ⊥)
+    → (figuresOf (asked (handed u f room) (handed u f room .answer) (dockIn state) .report) .refusal ≡ 0 → ⊥)
     → AskKept (askAnswered (asked (handed u f room) (handed u f room .answer) (dockIn state))) state room
-unfolding asked handed refusalNumber
+unfolding asked handed figuresOf
 asks-kept (Refused r) f state room e h = record { stateStays = dock-written-back state e; roomStays = refl }
 asks-kept Accepted f state room e h = absurd (h refl)
 
@@ -52,13 +52,13 @@ pub refused-ask-keeps : (j : Job) (image state room : List ℕ) → (askThrough 
 unfolding askThrough
 refused-ask-keeps j image state room h = asked-kept (admission j (length image) state) j image state room (λ e. admitted j (length image) state e) h
 
-unrefused : (s : Stage) (d : Dock) → refusalNumber (standing s d) ≡ 0
-unfolding refusalNumber standing
+unrefused : (s : Stage) (d : Dock) → figuresOf (standing s d) .refusal ≡ 0
+unfolding figuresOf standing
 unrefused (SetUp s) d = refl
 unrefused (InBlock k w) d = refl
 unrefused (Over e) d = refl
 
-tells-kept : (u : Verdict) (t : Turned) (state : List ℕ) → isDock state ≡ true → (refusalNumber (turning u (dockIn state) t .report) ≡ 0 → ⊥)
+tells-kept : (u : Verdict) (t : Turned) (state : List ℕ) → isDock state ≡ true → (figuresOf (turning u (dockIn state) t .report) .refusal ≡ 0 → ⊥)
     → layoutOf (turning u (dockIn state) t .dock) ≡ state
 unfolding turning
 tells-kept (Refused r) t state e h = dock-written-back state e

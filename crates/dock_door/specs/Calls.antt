@@ -1,5 +1,6 @@
 -- What each call on the dock does and tells through the door: refusals by document 01's numbers, then the dock's own definitions on the state that crossed as
 -- bytes.
+use mathlib.Core.Bool.{Bool, false, true}
 use mathlib.Core.List.{List}
 use Prim.Native.Nat.{_+_, ℕ}
 use lib.Dec.{eqb}
@@ -10,7 +11,8 @@ use Rattle.dock.specs.declared.Report.the-variants.{Due, Ended, Put}
 use Rattle.dock.specs.declared.Report.the-variants as Report
 use Rattle.dock.specs.declared.Stepped.{Stepped}
 use Rattle.dock_door.specs.Layout.{causeNumber, dockIn, dockSize, isDock, layoutOf}
-use Rattle.dock_flow.specs.Flow.{Heard}
+use Rattle.dock_door.specs.declared.calls.Figures.{Figures}
+use Rattle.dock_flow.specs.Flow.{Heard, answered, silence}
 use Rattle.dock_job.specs.Refusals.{callVerdict}
 use Rattle.dock_job.specs.declared.Ending.{Ending}
 use Rattle.dock_job.specs.declared.Ending.the-variants.{Failed, Finished}
@@ -37,41 +39,20 @@ holding Accepted state = if isDock state then Accepted else Verdict.Refused BadS
 unfoldable pub admission : Job → ℕ → List ℕ → Verdict
 admission j image state = holding (callVerdict j image Begins) state
 
--- What a report is in numbers: the refusal's; the bytes of the frame that was put; how the job ended ("finished" 1, failed 2 to 5 by its cause), and the frames
--- and retries used where it has ended. Each is 0 where there is none.
-unfoldable pub refusalNumber : Report → ℕ
-refusalNumber Due = 0
-refusalNumber (Put n) = 0
-refusalNumber (Ended a) = 0
-refusalNumber (Report.Refused r) = number r
-
-unfoldable pub bytesPut : Report → ℕ
-bytesPut Due = 0
-bytesPut (Put n) = n
-bytesPut (Ended a) = 0
-bytesPut (Report.Refused r) = 0
-
 unfoldable pub endingNumber : Ending → ℕ
 endingNumber Finished = 1
 endingNumber (Failed f) = 1 + causeNumber (f .cause)
 
-unfoldable pub endedNumber : Report → ℕ
-endedNumber Due = 0
-endedNumber (Put n) = 0
-endedNumber (Ended a) = endingNumber (a .ending)
-endedNumber (Report.Refused r) = 0
+-- What a report is in numbers: the refusal's; the bytes of the frame that was put; how the job ended ("finished" 1, failed 2 to 5 by its cause), and the frames
+-- and retries used where it has ended. Each is 0 where there is none.
+abbrev pub figures : ℕ → ℕ → ℕ → ℕ → ℕ → Figures
+figures refusal bytes ended frames retries = record { refusal = refusal; bytes = bytes; ended = ended; frames = frames; retries = retries }
 
-unfoldable pub framesUsed : Report → ℕ
-framesUsed Due = 0
-framesUsed (Put n) = 0
-framesUsed (Ended a) = a .frames
-framesUsed (Report.Refused r) = 0
-
-unfoldable pub retriesUsed : Report → ℕ
-retriesUsed Due = 0
-retriesUsed (Put n) = 0
-retriesUsed (Ended a) = a .retries
-retriesUsed (Report.Refused r) = 0
+unfoldable pub figuresOf : Report → Figures
+figuresOf Due = figures 0 0 0 0 0
+figuresOf (Put n) = figures 0 n 0 0 0
+figuresOf (Ended a) = figures 0 0 (endingNumber (a .ending)) (a .frames) (a .retries)
+figuresOf (Report.Refused r) = figures (number r) 0 0 0 0
 
 -- To start: 9 for lent bytes that no state fits in.
 pub record StartTold : Type 0 where
@@ -102,12 +83,17 @@ unfoldable pub askedBy : Verdict → Job → List ℕ → List ℕ → List ℕ 
 askedBy (Verdict.Refused r) j image state room = askTold (number r) 0 state room
 askedBy Accepted j image state room =
     let a = askOf j image (dockIn state) room in
-    askTold (refusalNumber (a .report)) (bytesPut (a .report)) (layoutOf (a .dock)) (a .room)
+    let f = figuresOf (a .report) in
+    askTold (f .refusal) (f .bytes) (layoutOf (a .dock)) (a .room)
 
 unfoldable pub askThrough : Job → List ℕ → List ℕ → List ℕ → AskTold
 askThrough j image state room = askedBy (admission j (length image) state) j image state room
 
--- To hand in an answer, or to report a timeout.
+-- To hand in an answer, or to report a timeout: an answer came, or none did.
+unfoldable pub heardAs : Bool → List ℕ → Heard
+heardAs true bs = answered bs
+heardAs false bs = silence
+
 pub record HearTold : Type 0 where
   pub refusal : ℕ
   pub ended : ℕ
@@ -119,7 +105,7 @@ abbrev pub hearTold : ℕ → ℕ → ℕ → ℕ → List ℕ → HearTold
 hearTold n ended frames retries state = record { refusal = n; ended = ended; frames = frames; retries = retries; state = state }
 
 unfoldable pub toldOf : Stepped → HearTold
-toldOf s = hearTold (refusalNumber (s .report)) (endedNumber (s .report)) (framesUsed (s .report)) (retriesUsed (s .report)) (layoutOf (s .dock))
+toldOf s = let f = figuresOf (s .report) in hearTold (f .refusal) (f .ended) (f .frames) (f .retries) (layoutOf (s .dock))
 
 unfoldable pub heardBy : Verdict → Job → List ℕ → List ℕ → Heard → HearTold
 heardBy (Verdict.Refused r) j image state h = hearTold (number r) 0 0 0 state

@@ -3,17 +3,29 @@
 ghost use mathlib.Core.Path.{_≡_};
 ghost use lib.ListN.{length};
 ghost use Rattle.dock_flow.specs.Flow.{answered, silence};
-ghost use Rattle.dock_door.specs.Calls.{admission, askThrough, askTold, bytesPut, endedNumber, endingNumber, framesUsed, hearThrough, hearTold, jobOf, refusalNumber, retriesUsed, startThrough, startTold, toldOf};
+ghost use Rattle.dock_door.specs.Calls.{admission, askThrough, askTold, endingNumber, figures, figuresOf, hearThrough, hearTold, heardAs, jobOf};
+ghost use Rattle.dock_door.specs.Calls.{startThrough, startTold, toldOf};
+ghost use Rattle.dock.specs.Calls.{hearOf};
 ghost use Rattle.dock_door.specs.Layout.{dockSize};
 use dock::Report;
 use dock::Stepped;
 use dock::calls;
+use dock_job::Dock;
 use dock_job::Ending;
 use dock_job::Job;
 use dock_job::refusals;
 use dock_job::refusals::Call;
 use part::refusal::Refusal;
 use part::refusal::Verdict;
+
+// A report in numbers.
+pub struct Figures {
+    pub refusal: u32,
+    pub bytes: usize,
+    pub ended: u32,
+    pub frames: u32,
+    pub retries: u32,
+}
 
 fn job_of(
     code_blocks: u32,
@@ -55,28 +67,6 @@ fn admit(job: Job, image: usize, state: &[u8]) -> Verdict
     }
 }
 
-fn refusal_number(report: Report) -> u32
-    ensures { λ r. ⌜ r ≡ refusalNumber report ⌝ }
-{
-    match report {
-        Report::Due => 0,
-        Report::Put(n) => 0,
-        Report::Ended(account) => 0,
-        Report::Refused(refusal) => refusal.number() as u32,
-    }
-}
-
-fn bytes_put(report: Report) -> usize
-    ensures { λ r. ⌜ r ≡ bytesPut report ⌝ }
-{
-    match report {
-        Report::Due => 0,
-        Report::Put(n) => n,
-        Report::Ended(account) => 0,
-        Report::Refused(refusal) => 0,
-    }
-}
-
 fn ending_number(ending: Ending) -> u32
     ensures { λ r. ⌜ r ≡ endingNumber ending ⌝ }
 {
@@ -89,39 +79,29 @@ fn ending_number(ending: Ending) -> u32
     }
 }
 
-fn ended_number(report: Report) -> u32
-    ensures { λ r. ⌜ r ≡ endedNumber report ⌝ }
+fn made(refusal: u32, bytes: usize, ended: u32, frames: u32, retries: u32) -> Figures
+    ensures { λ r. ⌜ r ≡ figures refusal bytes ended frames retries ⌝ }
+{
+    Figures {
+        refusal,
+        bytes,
+        ended,
+        frames,
+        retries,
+    }
+}
+
+fn figures_of(report: Report) -> Figures
+    ensures { λ r. ⌜ r ≡ figuresOf report ⌝ }
 {
     match report {
-        Report::Due => 0,
-        Report::Put(n) => 0,
+        Report::Due => made(0, 0, 0, 0, 0),
+        Report::Put(n) => made(0, n, 0, 0, 0),
         Report::Ended(account) => {
             let ending = account.ending;
-            ending_number(ending)
+            made(0, 0, ending_number(ending), account.frames, account.retries)
         }
-        Report::Refused(refusal) => 0,
-    }
-}
-
-fn frames_used(report: Report) -> u32
-    ensures { λ r. ⌜ r ≡ framesUsed report ⌝ }
-{
-    match report {
-        Report::Due => 0,
-        Report::Put(n) => 0,
-        Report::Ended(account) => account.frames,
-        Report::Refused(refusal) => 0,
-    }
-}
-
-fn retries_used(report: Report) -> u32
-    ensures { λ r. ⌜ r ≡ retriesUsed report ⌝ }
-{
-    match report {
-        Report::Due => 0,
-        Report::Put(n) => 0,
-        Report::Ended(account) => account.retries,
-        Report::Refused(refusal) => 0,
+        Report::Refused(refusal) => made(refusal.number() as u32, 0, 0, 0, 0),
     }
 }
 
@@ -137,11 +117,50 @@ fn tell(
     ensures { λ r. ⌜ hearTold r (now (ended .exit)) (now («frames_told» .exit)) (now («retries_told» .exit)) (now (state .exit)) ≡ toldOf s ⌝ }
 {
     let report = s.report;
+    let figures = figures_of(report);
     super::lay(s.dock, state);
-    *ended = ended_number(report);
-    *frames_told = frames_used(report);
-    *retries_told = retries_used(report);
-    refusal_number(report)
+    *ended = figures.ended;
+    *frames_told = figures.frames;
+    *retries_told = figures.retries;
+    figures.refusal
+}
+
+fn hear_of(job: Job, image: &[u8], dock: Dock, came: bool, answer: &[u8]) -> Stepped
+    ensures { λ r. ⌜ r ≡ hearOf job (now (image .entry)) dock (heardAs came (now (answer .entry))) ⌝ }
+{
+    if came {
+        return calls::answer(job, image, dock, answer);
+    }
+    calls::timeout(job, image, dock)
+}
+
+// The whole answer to the frame that was handed out, where one came.
+fn hear(
+    job: Job,
+    image: &[u8],
+    state: &mut [u8],
+    came: bool,
+    answer: &[u8],
+    ended: &mut u32,
+    frames_told: &mut u32,
+    retries_told: &mut u32,
+) -> u32
+    ensures { λ r. ⌜ hearTold r (now (ended .exit)) (now («frames_told» .exit)) (now («retries_told» .exit)) (now (state .exit))
+        ≡ hearThrough job (now (image .entry)) (now (state .entry)) (heardAs came (now (answer .entry))) ⌝ }
+{
+    let v = admit(job, image.len(), state);
+    match v {
+        Verdict::Refused(refusal) => {
+            *ended = 0;
+            *frames_told = 0;
+            *retries_told = 0;
+            refusal.number() as u32
+        }
+        Verdict::Accepted => {
+            let s = hear_of(job, image, super::dock_in(state), came, answer);
+            tell(s, state, ended, frames_told, retries_told)
+        }
+    }
 }
 
 // A dock before its first frame, into the lent state.
@@ -159,7 +178,9 @@ pub extern "C" fn zc_start(
     image: &[u8],
     state: &mut [u8],
 ) -> u32
-    ensures { λ r. ⌜ startTold r (now (state .exit)) ≡ startThrough (jobOf «code_blocks» «data_blocks» clock (now (names .entry)) start end rate supply retries) (now (image .entry)) (now (state .entry)) ⌝ }
+    ensures { λ r. ⌜ startTold r (now (state .exit))
+        ≡ startThrough (jobOf «code_blocks» «data_blocks» clock (now (names .entry)) start end rate supply retries)
+        (now (image .entry)) (now (state .entry)) ⌝ }
 {
     let job = job_of(
         code_blocks,
@@ -203,7 +224,9 @@ pub extern "C" fn zc_ask(
     room: &mut [u8],
     bytes: &mut usize,
 ) -> u32
-    ensures { λ r. ⌜ askTold r (now (bytes .exit)) (now (state .exit)) (now (room .exit)) ≡ askThrough (jobOf «code_blocks» «data_blocks» clock (now (names .entry)) start end rate supply retries) (now (image .entry)) (now (state .entry)) (now (room .entry)) ⌝ }
+    ensures { λ r. ⌜ askTold r (now (bytes .exit)) (now (state .exit)) (now (room .exit))
+        ≡ askThrough (jobOf «code_blocks» «data_blocks» clock (now (names .entry)) start end rate supply retries)
+        (now (image .entry)) (now (state .entry)) (now (room .entry)) ⌝ }
 {
     let job = job_of(
         code_blocks,
@@ -225,9 +248,10 @@ pub extern "C" fn zc_ask(
         Verdict::Accepted => {
             let s = calls::ask(job, image, super::dock_in(state), room);
             let report = s.report;
+            let figures = figures_of(report);
             super::lay(s.dock, state);
-            *bytes = bytes_put(report);
-            refusal_number(report)
+            *bytes = figures.bytes;
+            figures.refusal
         }
     }
 }
@@ -251,7 +275,9 @@ pub extern "C" fn zc_answer(
     frames_told: &mut u32,
     retries_told: &mut u32,
 ) -> u32
-    ensures { λ r. ⌜ hearTold r (now (ended .exit)) (now («frames_told» .exit)) (now («retries_told» .exit)) (now (state .exit)) ≡ hearThrough (jobOf «code_blocks» «data_blocks» clock (now (names .entry)) start end rate supply retries) (now (image .entry)) (now (state .entry)) (answered (now (answer .entry))) ⌝ }
+    ensures { λ r. ⌜ hearTold r (now (ended .exit)) (now («frames_told» .exit)) (now («retries_told» .exit)) (now (state .exit))
+        ≡ hearThrough (jobOf «code_blocks» «data_blocks» clock (now (names .entry)) start end rate supply retries)
+        (now (image .entry)) (now (state .entry)) (answered (now (answer .entry))) ⌝ }
 {
     let job = job_of(
         code_blocks,
@@ -264,19 +290,16 @@ pub extern "C" fn zc_answer(
         supply,
         retries,
     );
-    let v = admit(job, image.len(), state);
-    match v {
-        Verdict::Refused(refusal) => {
-            *ended = 0;
-            *frames_told = 0;
-            *retries_told = 0;
-            refusal.number() as u32
-        }
-        Verdict::Accepted => {
-            let s = calls::answer(job, image, super::dock_in(state), answer);
-            tell(s, state, ended, frames_told, retries_told)
-        }
-    }
+    hear(
+        job,
+        image,
+        state,
+        true,
+        answer,
+        ended,
+        frames_told,
+        retries_told,
+    )
 }
 
 // No answer came to the frame that was handed out.
@@ -297,7 +320,9 @@ pub extern "C" fn zc_timeout(
     frames_told: &mut u32,
     retries_told: &mut u32,
 ) -> u32
-    ensures { λ r. ⌜ hearTold r (now (ended .exit)) (now («frames_told» .exit)) (now («retries_told» .exit)) (now (state .exit)) ≡ hearThrough (jobOf «code_blocks» «data_blocks» clock (now (names .entry)) start end rate supply retries) (now (image .entry)) (now (state .entry)) silence ⌝ }
+    ensures { λ r. ⌜ hearTold r (now (ended .exit)) (now («frames_told» .exit)) (now («retries_told» .exit)) (now (state .exit))
+        ≡ hearThrough (jobOf «code_blocks» «data_blocks» clock (now (names .entry)) start end rate supply retries)
+        (now (image .entry)) (now (state .entry)) silence ⌝ }
 {
     let job = job_of(
         code_blocks,
@@ -310,17 +335,14 @@ pub extern "C" fn zc_timeout(
         supply,
         retries,
     );
-    let v = admit(job, image.len(), state);
-    match v {
-        Verdict::Refused(refusal) => {
-            *ended = 0;
-            *frames_told = 0;
-            *retries_told = 0;
-            refusal.number() as u32
-        }
-        Verdict::Accepted => {
-            let s = calls::timeout(job, image, super::dock_in(state));
-            tell(s, state, ended, frames_told, retries_told)
-        }
-    }
+    hear(
+        job,
+        image,
+        state,
+        false,
+        &image[0..0],
+        ended,
+        frames_told,
+        retries_told,
+    )
 }

@@ -1,7 +1,8 @@
 // How a dock's state crosses the door as bytes: one layout, read and written here alone. The calls for C and Rust stand in `calls`.
 ghost use mathlib.Core.Path.{_≡_};
 ghost use lib.ListN.{length};
-ghost use Rattle.dock_door.specs.Layout.{bit, causeIn, causeNumber, dockIn, dockSize, endingIn, flatEnding, flatIn, flatOf, flatWork, isDock, isNamed, layoutOf, layoutWith, named, namedIn, plain, setupIn, setupNumber, stageIn, workIn};
+ghost use Rattle.dock_door.specs.Layout.{bit, causeIn, causeNumber, dockIn, dockSize, endingIn, flatEnding, flatIn, flatOf, flatWork, isDock, isNamed};
+ghost use Rattle.dock_door.specs.Layout.{layoutOf, layoutWith, named, namedIn, plain, setupIn, setupNumber, stageIn, workIn};
 use dock_job::Cause;
 use dock_job::Dock;
 use dock_job::Ending;

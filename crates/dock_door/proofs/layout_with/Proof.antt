@@ -7,7 +7,12 @@ use Rattle.dock_door.proofs.layout_with.Tie as tie
 
 returns : tie.Need-returns
 returns c =
-    layout-is _ _ _ _ _ _ _ _ _ _ _ _ (c .before .before .before .before .before .before .before .low4 .ensures) (c .before .before .before .before .before .before .low42 .ensures) (c .before .before .before .before .before .named .ensures) (c .before .before .before .before .low43 .ensures) (c .before .before .before .named2 .ensures) (c .before .before .low44 .ensures) (c .before .is-named .ensures) (c .is-named2 .ensures)
+    let low4 = c .before .before .before .before .before .before .before .low4 in
+    let low42 = c .before .before .before .before .before .before .low42 in
+    let named = c .before .before .before .before .before .named in
+    let low43 = c .before .before .before .before .low43 in
+    let named2 = c .before .before .before .named2 in
+    layout-is _ _ _ _ _ _ _ _ _ _ _ _ (low4 .ensures) (low42 .ensures) (named .ensures) (low43 .ensures) (named2 .ensures) (c .before .before .low44 .ensures) (c .before .is-named .ensures) (c .is-named2 .ensures)
 
 pub layout-with-spec : {M : Type 1} → statement M
 layout-with-spec =

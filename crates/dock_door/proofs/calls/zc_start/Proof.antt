@@ -9,7 +9,13 @@ use Rattle.dock_door.proofs.calls.zc_start.Tie as tie
 
 returns : tie.Need-returns
 unfolding startThrough startedBy if_then_else_
-returns c = simp (← c .before .before .before .before .before .before .before .before .before .job-of .ensures, ← c .before .before .before .before .before .before .before .before .verdict .ensures, c .before .before .before .before .before .before .enum-told .given .1, eq-eqb _ _ (c .before .before .before .before .before .if1 .taken), ← c .before .before .before .before .start .ensures, ← c .before .before .lay .ensures)
+returns c =
+    let job-of = c .before .before .before .before .before .before .before .before .before .job-of in
+    let verdict = c .before .before .before .before .before .before .before .before .verdict in
+    let enum-told = c .before .before .before .before .before .before .enum-told in
+    let if1 = c .before .before .before .before .before .if1 in
+    let start = c .before .before .before .before .start in
+    simp (← job-of .ensures, ← verdict .ensures, enum-told .given .1, eq-eqb _ _ (if1 .taken), ← start .ensures, ← c .before .before .lay .ensures)
 
 returns-2 : tie.Need-returns-2
 unfolding startThrough startedBy if_then_else_

@@ -1,0 +1,41 @@
+-- `dock_door::calls::hear` meets its contract: what bars the call comes first; then the dock hears.
+-- Assumes nothing.
+use mathlib.Core.Path.{_∙_, sym}
+use Rattle.dock_door.proofs.Laws.{admitted, dock-long}
+use Rattle.dock_door.specs.Calls.{hearThrough, heardBy}
+use borrow.Author.Needs.{needs}
+use Rattle.dock_door.proofs.calls.hear.Statement.{statement}
+use Rattle.dock_door.proofs.calls.hear.Tie as tie
+
+tell-requires : tie.Need-tell-requires
+tell-requires c κs = dock-long _ (admitted _ _ _ (sym (c .before .before .before .before .before .before .before .before .before .admit .ensures) ∙ c .before .before .before .before .before .before .before .enum-told .given .1))
+
+returns : tie.Need-returns
+unfolding hearThrough heardBy
+returns c = simp (← c .before .before .before .before .admit .ensures, c .before .before .v .given .1, ← c .number .ensures)
+
+returns-2 : tie.Need-returns-2
+unfolding hearThrough heardBy
+returns-2 c =
+    let admit = c .before .before .before .before .before .before .before .before .before .before .before .before .admit in
+    let enum-told = c .before .before .before .before .before .before .before .before .before .before .enum-told in
+    let dock-in = c .before .before .before .before .before .before .before .before .dock-in in
+    let hear-of = c .before .before .before .before .before .before .before .hear-of in
+    simp (← admit .ensures, enum-told .given .1, ← dock-in .ensures, ← hear-of .ensures, ← c .before .before .tell .ensures)
+
+pub hear-spec : {M : Type 1} → statement M
+hear-spec =
+    tie.close
+    (tie.spec
+    (λ c κs. search needs)
+    (λ c. search needs)
+    (λ c κs. search needs)
+    (λ c. search needs)
+    (λ c. search needs)
+    (λ c κs. search needs)
+    (λ c κs. search needs)
+    tell-requires
+    (λ c. search needs)
+    returns
+    (λ c. search needs)
+    returns-2)
