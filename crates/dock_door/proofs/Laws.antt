@@ -7,7 +7,7 @@ use Prim.Native.Nat.{ℕ}
 use native.Mathlib.Omega.{arith}
 use lib.ListN.{getD, length}
 use borrow.Author.Tests.{eqb-true}
-use Rattle.dock_door.specs.Calls.{admission, holding}
+use Rattle.dock_door.specs.Calls.{admission, barring}
 use Rattle.dock_door.specs.Layout.{dockSize, isDock, isNamed, layoutWith, named}
 use Rattle.dock_door.specs.declared.Flat.{Flat}
 use Rattle.dock_job.specs.Refusals.{callVerdict}
@@ -46,8 +46,8 @@ unfolding if_then_else_
 held true e = refl
 held false e = absurd (let z : _≡_ {A = ℕ} 0 1 = cc in omega arith)
 
-holds : (v : Verdict) (state : List ℕ) → holding v state ≡ Accepted → isDock state ≡ true
-unfolding holding
+holds : (v : Verdict) (state : List ℕ) → barring v state ≡ Accepted → isDock state ≡ true
+unfolding barring
 holds (Refused r) state e = absurd (let z : _≡_ {A = ℕ} 0 1 = cc in omega arith)
 holds Accepted state e = held (isDock state) e
 

@@ -32,12 +32,12 @@ jobOf codes extras clock names start end rate supply retries =
     record { part = partOf codes extras clock names; start = start; end = end; rate = rate; supply = supply; retries = retries }
 
 -- "for the dock: 1, 5, 6, 7, 9, 4, 8": what bars a call before the dock is asked. The job's refusals come first, then bytes that are no state.
-unfoldable pub holding : Verdict → List ℕ → Verdict
-holding (Verdict.Refused r) state = Verdict.Refused r
-holding Accepted state = if isDock state then Accepted else Verdict.Refused BadState
+unfoldable pub barring : Verdict → List ℕ → Verdict
+barring (Verdict.Refused r) state = Verdict.Refused r
+barring Accepted state = if isDock state then Accepted else Verdict.Refused BadState
 
 unfoldable pub admission : Job → ℕ → List ℕ → Verdict
-admission j image state = holding (callVerdict j image Begins) state
+admission j image state = barring (callVerdict j image Begins) state
 
 unfoldable pub endingNumber : Ending → ℕ
 endingNumber Finished = 1
