@@ -1,7 +1,6 @@
 -- What a complete frame does: its reply, the chip's record after it, and flash. No room, collector or array is in it.
 use mathlib.Core.List.{List}
-use Prim.Native.Nat.{_*_, _+_, ℕ}
-use lib.ListN.{getD}
+use Prim.Native.Nat.{ℕ}
 use Rattle.chip_core.specs.declared.Core.{Core}
 use Rattle.chip_core.specs.declared.Done.{Done}
 use Rattle.chip_core.specs.declared.Phase.{Phase}
@@ -71,10 +70,3 @@ writeError = 0x1C
 -- "A status reply is a data frame with one byte."
 abbrev pub says : ℕ → Core → Done
 says s k = told (Status s) k
-
--- Numbers in a frame, from the place i on, low byte first.
-unfoldable pub number2 : ℕ → List ℕ → ℕ
-number2 i f = getD f i 0 + 256 * getD f (i + 1) 0
-
-unfoldable pub number3 : ℕ → List ℕ → ℕ
-number3 i f = getD f i 0 + 256 * getD f (i + 1) 0 + 65536 * getD f (i + 2) 0

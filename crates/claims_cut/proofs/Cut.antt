@@ -21,12 +21,15 @@ use Rattle.claims_good.proofs.Core.{core-is}
 use Rattle.claims_good.proofs.Rooms.{leaves, reactionOf}
 use Rattle.chip_state.proofs.Laws.{Accepts, accepts}
 use Rattle.chip_work.specs.Work.{blockErase, erasedIn}
-use Rattle.chip_commands.specs.Commands.{commandDoes, work}
+use Rattle.chip_commands.specs.Commands.{commandDoes, readingDoes, work}
 use Rattle.chip_core.specs.Hearing.{hearing}
 use Rattle.chip_core.specs.Effect.{Effect, Flash, bytesIn, effect}
 use Rattle.chip_pages.specs.Pages.{dataDoes, footerOf, goodData, lengthOf, pageIn, pageStored, programPage}
-use Rattle.chip_commands.specs.declared.Asked.{Asked}
-use Rattle.chip_commands.specs.declared.Asked.the-variants.{BlankCheck, BlockErase, Checksum, Programming, RateSet, Reset, SecurityGet, SecurityRelease, SecuritySet, SignatureGet, Unfit, Unknown, Verify}
+use Rattle.commands.specs.declared.Command.{Command}
+use Rattle.commands.specs.declared.Command.the-variants.{BlankCheck, BlockErase, Checksum, Programming, RateSet, Reset, Verify}
+use Rattle.commands.specs.declared.Command.the-variants.{SecurityGet, SecurityRelease, SecuritySet, SignatureGet}
+use Rattle.commands.specs.declared.Reading.{Reading}
+use Rattle.commands.specs.declared.Reading.the-variants.{Meant, UnfitLen, Unknown}
 use Rattle.chip_core.specs.declared.Awaited.{Awaited}
 use Rattle.frame.proofs.Laws.Frame.{payload-long}
 use Rattle.frame.specs.Frame.{payload}
@@ -98,25 +101,29 @@ module _ (p : Part) (k : Core) (m : Flash) (long : (a : Area) → length (bytesI
       let i = block-inside p at a offset block page (place-lies p at a offset block page e) z in
       record { change = oneBlock a offset z (put-becomes a offset (replicate (blockSize p a) erased) m (omega (arith, long a))) }))
 
-  works : (a : Asked) (f : List ℕ) → Does p m (work a p k f m)
+  works : (c : Command) → Does p m (work c p k m)
   unfolding work
-  works Unknown f = stays-so m _
-  works Unfit f = stays-so m _
-  works RateSet f = stays-so m _
-  works Reset f = stays-so m _
-  works BlockErase f = erases _ _ refl
-  works BlankCheck f = stays-so m _
-  works Programming f = stays-so m _
-  works Verify f = stays-so m _
-  works Checksum f = stays-so m _
-  works SignatureGet f = stays-so m _
-  works SecurityGet f = stays-so m _
-  works SecuritySet f = stays-so m _
-  works SecurityRelease f = stays-so m _
+  works (RateSet rate supply) = stays-so m _
+  works Reset = stays-so m _
+  works (BlockErase start) = erases _ _ refl
+  works (BlankCheck start end d01) = stays-so m _
+  works (Programming start end) = stays-so m _
+  works (Verify start end) = stays-so m _
+  works (Checksum start end) = stays-so m _
+  works SignatureGet = stays-so m _
+  works SecurityGet = stays-so m _
+  works SecuritySet = stays-so m _
+  works SecurityRelease = stays-so m _
+
+  reading-does : (r : Reading) → Does p m (readingDoes r p k m)
+  unfolding readingDoes
+  reading-does Unknown = stays-so m _
+  reading-does UnfitLen = stays-so m _
+  reading-does (Meant c) = works c
 
   command-does : (f : List ℕ) → Does p m (commandDoes p k f m)
   unfolding commandDoes
-  command-does f = if-all (Does p m) _ (λ t. stays-so m _) (λ t. works _ f)
+  command-does f = if-all (Does p m) _ (λ t. stays-so m _) (λ t. if-all (Does p m) _ (λ u. stays-so m _) (λ u. reading-does _))
 
   -- The page is stored where all was FFh, or nothing is.
   programs : (w : Awaited) (a : Area) (offset block page : ℕ) (ds : List ℕ) → offset % pageSize ≡ 0 → offset + 256 ≤ size p a → length ds ≡ 256

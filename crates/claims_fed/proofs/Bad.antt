@@ -5,14 +5,15 @@ use mathlib.Core.List.{List, [], _∷_, append-nil}
 use mathlib.Core.Path.{_≡_, ap, refl, sym}
 use Prim.Native.Nat.{_-_, ℕ}
 use lib.Dec.{eqb}
-use lib.ListN.{getD, length}
+use lib.ListN.{getD}
 use Rattle.chip.specs.Step.{frameDoes, reaction}
 use Rattle.claims_good.proofs.Rooms.{utteranceOf}
 use Rattle.claims_fed.specs.Fed.{BadDoes, Blame, badCore, does, is07h, is15h, saysFrame}
 use Rattle.claims_fed.specs.Awaits.{AwaitsFrame, aCommand, aPage, awaitsIn, command, goodFor, inReady, inSetup, page}
-use Rattle.chip_commands.specs.Commands.{askedIn, commandDoes, commandsIn, work}
+use Rattle.chip_commands.specs.Commands.{allowedIn, commandDoes, readingDoes}
+use Rattle.commands.specs.Commands.{readCommand}
 use Rattle.chip_core.specs.Hearing.{hearing}
-use Rattle.chip_core.specs.Effect.{Flash, effect, says}
+use Rattle.chip_core.specs.Effect.{Flash, commandError, effect, says}
 use Rattle.chip_pages.specs.Pages.{badData, dataDoes, footerOf, goodData, lengthOf, pair, ready}
 use Rattle.chip_core.specs.declared.Awaited.{Awaited}
 use Rattle.chip_core.specs.declared.Core.{Core}
@@ -44,7 +45,9 @@ says-pair p k m s = rw append-nil
 bad-command : (f : Phase) (p : Part) (k : Core) (m : Flash) (g : List ℕ) → goodFor aCommand g ≡ false
     → commandDoes p k g m ≡ effect (says (statusOf (judgeOf Last g)) k) m
 unfolding commandDoes goodFor if_then_else_
-bad-command f p k m g e = ap (λ (t : Bool). if not t then effect (says (statusOf (judgeOf Last g)) k) m else work (askedIn (commandsIn (k .phase)) (getD g 2 0) (length g - 4)) p k g m) e
+bad-command f p k m g e =
+    let rest = if not (allowedIn (k .phase) (getD (payload g) 0 0)) then effect (says commandError k) m else readingDoes (readCommand (payload g)) p k m in
+    ap (λ (t : Bool). if not t then effect (says (statusOf (judgeOf Last g)) k) m else rest) e
 
 bad-data : (p : Part) (k : Core) (w : Awaited) (m : Flash) (g : List ℕ) → goodFor (aPage (footerOf w) (lengthOf w)) g ≡ false
     → dataDoes p k w g m ≡ effect (badData w (statusOf (fitting (lengthOf w) g (judgeOf (footerOf w) g))) k) m

@@ -11,11 +11,13 @@ use Rattle.chip_state.specs.Refusals.{goodAwaited, goodPhase}
 use Rattle.claims_good.proofs.Awaited.{next-awaited, pagesOf, range-awaited, security-awaited}
 use Rattle.claims_good.proofs.Core.{GoodCore, enters, made-ready}
 use Rattle.chip_work.specs.Work.{blankCheck, blockErase, checksum, erasedIn, programming, rateSet, securityRelease, verify}
-use Rattle.chip_commands.specs.Commands.{commandDoes, work}
+use Rattle.chip_commands.specs.Commands.{commandDoes, readingDoes, work}
 use Rattle.chip_core.specs.Effect.{Effect, Flash, bytesIn, effect, entered, withBytes}
 use Rattle.chip_pages.specs.Pages.{badData, dataDoes, goodData, nextPage, pageStored, programPage, securityData, verifyPage}
-use Rattle.chip_commands.specs.declared.Asked.{Asked}
-use Rattle.chip_commands.specs.declared.Asked.the-variants.{BlankCheck, BlockErase, Checksum, Programming, RateSet, Reset, SecurityGet, SecurityRelease, SecuritySet, SignatureGet, Unfit, Unknown, Verify}
+use Rattle.commands.specs.declared.Command.{Command}
+use Rattle.commands.specs.declared.Command.the-variants.{BlankCheck, BlockErase, Checksum, Programming, RateSet, Reset, SecurityGet, SecurityRelease, SecuritySet, SignatureGet, Verify}
+use Rattle.commands.specs.declared.Reading.{Reading}
+use Rattle.commands.specs.declared.Reading.the-variants.{Meant, UnfitLen, Unknown}
 use Rattle.chip_core.specs.declared.Awaited.{Awaited}
 use Rattle.chip_core.specs.declared.Core.{Core}
 use Rattle.chip_core.specs.declared.Done.{Done}
@@ -105,25 +107,29 @@ module _ (p : Part) (k : Core) (part : described p ≡ true) (good : GoodCore p 
       (λ t. if-all (GoodDone p) _ (λ u. done-so good)
       (λ u. done-so (record { rate = good .rate; options = released-good p (k .options) part (good .options); phase = good .phase })))
 
-  works : (a : Asked) (f : List ℕ) (m : Flash) → Keeps p m (work a p k f m)
+  works : (c : Command) (m : Flash) → Keeps p m (work c p k m)
   unfolding work
-  works Unknown f m = stays-so m good
-  works Unfit f m = stays-so m good
-  works RateSet f m = done-keeps m (rate-set _ _)
-  works Reset f m = stays-so m good
-  works BlockErase f m = erase _ m
-  works BlankCheck f m = done-keeps m (check _ _ m)
-  works Programming f m = done-keeps m (program _ _ _ refl)
-  works Verify f m = done-keeps m (verifies _ _ _ refl)
-  works Checksum f m = done-keeps m (sums _ m)
-  works SignatureGet f m = stays-so m good
-  works SecurityGet f m = stays-so m good
-  works SecuritySet f m = stays-so m (awaits (pagesOf 0xA0 0 0) (security-awaited p))
-  works SecurityRelease f m = done-keeps m (releases m)
+  works (RateSet rate supply) m = done-keeps m (rate-set _ _)
+  works Reset m = stays-so m good
+  works (BlockErase start) m = erase _ m
+  works (BlankCheck start end d01) m = done-keeps m (check _ _ m)
+  works (Programming start end) m = done-keeps m (program _ _ _ refl)
+  works (Verify start end) m = done-keeps m (verifies _ _ _ refl)
+  works (Checksum start end) m = done-keeps m (sums _ m)
+  works SignatureGet m = stays-so m good
+  works SecurityGet m = stays-so m good
+  works SecuritySet m = stays-so m (awaits (pagesOf 0xA0 0 0) (security-awaited p))
+  works SecurityRelease m = done-keeps m (releases m)
+
+  reading-keeps : (r : Reading) (m : Flash) → Keeps p m (readingDoes r p k m)
+  unfolding readingDoes
+  reading-keeps Unknown m = stays-so m good
+  reading-keeps UnfitLen m = stays-so m good
+  reading-keeps (Meant c) m = works c m
 
   pub command-keeps : (f : List ℕ) (m : Flash) → Keeps p m (commandDoes p k f m)
   unfolding commandDoes
-  command-keeps f m = if-all (Keeps p m) _ (λ t. stays-so m good) (λ t. works _ f m)
+  command-keeps f m = if-all (Keeps p m) _ (λ t. stays-so m good) (λ t. if-all (Keeps p m) _ (λ u. stays-so m good) (λ u. reading-keeps _ m))
 
   -- The pages and A0h's data.
   module _ (w : Awaited) (awaited : goodAwaited p w ≡ true) where

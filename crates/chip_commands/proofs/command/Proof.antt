@@ -1,4 +1,4 @@
--- `chip_commands::command` meets its contract: the judgement, then the table.
+-- `chip_commands::command` meets its contract: the judgement, then the phase, then the command that the payload is.
 -- Assumes nothing.
 use borrow.Author.Needs.{needs}
 use Rattle.chip_commands.specs.Commands.{commandDoes}
@@ -8,11 +8,15 @@ use Rattle.chip_commands.proofs.command.Tie as tie
 
 returns : tie.Need-returns
 unfolding commandDoes if_then_else_
-returns c = simp (← c .before .before .before .before .before .before .before .before .before .before .before .before .judge .ensures, ← c .before .before .before .before .before .before .before .before .before .before .before .is-good .ensures, c .before .before .before .before .before .before .before .before .before .before .if1 .taken, ← c .before .before .before .before .before .before .before .before .before .byte-at .ensures, ← c .before .before .before .before .before .before .before .before .payload-length .ensures, ← c .before .before .before .before .before .before .before .asked-of .ensures, ← c .before .before .before .before .work .ensures)
+returns c = simp (← c .before .before .before .before .before .before .before .before .before .before .before .before .before .before .judge .ensures, ← c .before .before .before .before .before .before .before .before .before .before .before .before .before .is-good .ensures, c .before .before .before .before .before .before .before .before .before .before .before .before .if1 .taken, ← c .before .before .before .before .before .before .before .before .before .before .before .payload .ensures, ← c .before .before .before .before .before .before .before .before .before .before .byte-at .ensures, ← c .before .before .before .before .before .before .before .before .before .allowed-in .ensures, c .before .before .before .before .before .before .before .before .if2 .taken, ← c .before .before .before .before .before .before .before .read .ensures, ← c .before .before .before .before .reading-does .ensures)
 
 returns-2 : tie.Need-returns-2
 unfolding commandDoes if_then_else_
-returns-2 c = simp (← c .before .before .before .before .judge .ensures, ← c .before .before .before .is-good .ensures, c .before .before .if1 .left, ← c .before .status .ensures, c .says .ensures)
+returns-2 c = simp (← c .before .before .before .before .before .before .before .judge .ensures, ← c .before .before .before .before .before .before .is-good .ensures, c .before .before .before .before .before .if1 .taken, ← c .before .before .before .before .payload .ensures, ← c .before .before .before .byte-at .ensures, ← c .before .before .allowed-in .ensures, c .before .if2 .left, c .says .ensures)
+
+returns-3 : tie.Need-returns-3
+unfolding commandDoes if_then_else_
+returns-3 c = simp (← c .before .before .before .before .judge .ensures, ← c .before .before .before .is-good .ensures, c .before .before .if1 .left, ← c .before .status .ensures, c .says2 .ensures)
 
 pub command-spec : {M : Type 1} → statement M
 command-spec =
@@ -24,9 +28,12 @@ command-spec =
     (λ c κs. search needs)
     (λ c κs. search needs)
     (λ c κs. search needs)
+    (λ c κs. search needs)
     (λ c. search needs)
     (λ c. search needs)
     returns
     (λ c κs. search needs)
+    returns-2
     (λ c κs. search needs)
-    returns-2)
+    (λ c κs. search needs)
+    returns-3)
