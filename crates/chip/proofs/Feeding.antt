@@ -126,3 +126,12 @@ unfolding feedFrom
 feed-takes p n m k b bs o q =
     on-takes (onward p o (Byte b) .answer) n m k (onward p o (Byte b)) (feedFrom p (n + 1) bs (onward p o (Byte b))) refl
     (feed-within p (n + 1) bs (onward p o (Byte b)) .0) q
+
+-- A run, event by event.
+pub run-none : (p : Part) (o : Outcome) → run p [] o ≡ o
+unfolding run
+run-none p o = refl
+
+pub run-more : (p : Part) (v : Event) (vs : List Event) (o : Outcome) → run p (v ∷ vs) o ≡ run p vs (onward p o v)
+unfolding run
+run-more p v vs o = refl

@@ -105,7 +105,8 @@ pub frame-settles : (p : Part) (d : Done) (c e : Collector) (k : Core) (s : Sent
 unfolding settled
 frame-settles p d c e k s x m n room r f q g =
     ap (λ (z : Said). record { answer = replied (z .sent); chip = record { core = d .core; collector = e }; memory = n; room = z .room }) q
-    ∙ ap (λ (z : Collector). record { answer = replied (saidOf (payloads p (d .core .options) (d .reply)) room .sent); chip = record { core = d .core; collector = z }; memory = n; room = saidOf (payloads p (d .core .options) (d .reply)) room .room }) (g ∙ dropped-is c)
+    ∙ ap (λ (z : Collector). record
+    { answer = replied (saidOf (payloads p (d .core .options) (d .reply)) room .sent); chip = record { core = d .core; collector = z }; memory = n; room = saidOf (payloads p (d .core .options) (d .reply)) room .room }) (g ∙ dropped-is c)
     ∙ ap (λ (y : Effect). settled Accepted p (reaction [] y) (record { core = k; collector = c }) m room) f
 
 pub next-within : (c d : Collector) (h : Header) (b : ℕ) → length (c .bytes) ≡ 260 → Begun c → d ≡ byteOf c h b → d .len ≤ 260

@@ -106,7 +106,8 @@ module _ (p : Part) (c : Chip) (m : Flash) (room : List ℕ) (places : length (c
   pub byte-heard : (b : ℕ) → before (after c b) m room ≡ stepOf p c (Byte b) m room
   byte-heard b =
       let a = accepts accepted in
-      let w = heard-as (hearing (c .core .phase)) (c .collector .len) (getD (c .collector .bytes) 0 0) (getD (c .collector .bytes) 1 0) begun short (state-collected p (c .core) (c .collector .len) (getD (c .collector .bytes) 0 0) (getD (c .collector .bytes) 1 0) (hearing (c .core .phase)) good refl) in
+      let w = heard-as (hearing (c .core .phase)) (c .collector .len) (getD (c .collector .bytes) 0 0) (getD (c .collector .bytes) 1 0) begun short
+      (state-collected p (c .core) (c .collector .len) (getD (c .collector .bytes) 0 0) (getD (c .collector .bytes) 1 0) (hearing (c .core .phase)) good refl) in
       let lacking : complete (heard (c .collector)) ≡ false = complete-within (c .collector) places (omega arith) ∙ full-not _ _ (omega arith) in
       let adds : added (c .collector) (b ∷ []) ≡ byteOf (c .collector) (w .header) b = added-byte (c .collector) (w .header) b (λ z. omega arith) places (omega arith) lacking in
       step-accepted (before (after c b) m room) (byteIn (hearing (c .core .phase)) p (c .core) (heard (c .collector)) b m) p c (Byte b) (Byte b) m room accepted refl (at-byte p (c .core) (heard (c .collector)) b m)

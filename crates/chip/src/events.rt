@@ -78,7 +78,8 @@ fn way_in(phase: Phase, count: usize, len: u8) -> Way
 
 // A complete frame, by what the phase hears.
 fn frame_does(part: Part, core: Core, bytes: &[u8], code: &mut [u8], data: &mut [u8]) -> Done
-    ensures { λ r. ⌜ effect r (flash (now (code .exit)) (now («data» .exit))) ≡ frameDoes (hearing (core .phase)) part core (now (bytes .entry)) (flash (now (code .entry)) (now («data» .entry))) ⌝ }
+    ensures { λ r. ⌜ effect r (flash (now (code .exit)) (now («data» .exit)))
+        ≡ frameDoes (hearing (core .phase)) part core (now (bytes .entry)) (flash (now (code .entry)) (now («data» .entry))) ⌝ }
 {
     let phase = core.phase;
     let hears = phase.hearing();
@@ -92,7 +93,7 @@ fn frame_does(part: Part, core: Core, bytes: &[u8], code: &mut [u8], data: &mut 
     }
 }
 
-fn restarted(core: Core) -> Core
+fn powered_on(core: Core) -> Core
     ensures { λ r. ⌜ r ≡ poweredOn core ⌝ }
 {
     let options = core.options;
@@ -112,7 +113,8 @@ fn long_step(
     data: &mut [u8],
     room: &mut [u8],
 ) -> Step
-    ensures { λ r. ⌜ outcome r (flash (now (code .exit)) (now («data» .exit))) (now (room .exit)) ≡ stepOf part chip event (flash (now (code .entry)) (now («data» .entry))) (now (room .entry)) ⌝ }
+    ensures { λ r. ⌜ outcome r (flash (now (code .exit)) (now («data» .exit))) (now (room .exit))
+        ≡ stepOf part chip event (flash (now (code .entry)) (now («data» .entry))) (now (room .entry)) ⌝ }
 {
     let core = chip.core;
     let collector = chip.collector;
@@ -149,7 +151,7 @@ fn long_step(
                     frames: 0,
                 },
                 chip: Chip {
-                    core: restarted(core),
+                    core: powered_on(core),
                     collector: collector.power_on(),
                 },
             },
@@ -259,7 +261,8 @@ pub fn step(
     data: &mut [u8],
     room: &mut [u8],
 ) -> Step
-    ensures { λ r. ⌜ outcome r (flash (now (code .exit)) (now («data» .exit))) (now (room .exit)) ≡ stepOf part chip event (flash (now (code .entry)) (now («data» .entry))) (now (room .entry)) ⌝ }
+    ensures { λ r. ⌜ outcome r (flash (now (code .exit)) (now («data» .exit))) (now (room .exit))
+        ≡ stepOf part chip event (flash (now (code .entry)) (now («data» .entry))) (now (room .entry)) ⌝ }
 {
     let core = chip.core;
     let collector = chip.collector;
@@ -359,7 +362,8 @@ pub fn feed(
     data: &mut [u8],
     room: &mut [u8],
 ) -> Fed
-    ensures { λ r. ⌜ fed r (flash (now (code .exit)) (now («data» .exit))) (now (room .exit)) ≡ feedOf part (now (bytes .entry)) (before chip (flash (now (code .entry)) (now («data» .entry))) (now (room .entry))) ⌝ }
+    ensures { λ r. ⌜ fed r (flash (now (code .exit)) (now («data» .exit))) (now (room .exit))
+        ≡ feedOf part (now (bytes .entry)) (before chip (flash (now (code .entry)) (now («data» .entry))) (now (room .entry))) ⌝ }
 {
     let mut last = Step {
         answer: Answer::Replied {

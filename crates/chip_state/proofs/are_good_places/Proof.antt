@@ -13,11 +13,21 @@ is-block-end-requires c κs = positive _ _ (c .block-size .ensures)
 
 returns : tie.Need-returns
 unfolding goodPlaces _and_
-returns c = simp (c .before .before .before .before .before .before .before .before .before .before .next .given .1, c .before .before .before .before .before .before .before .last .given .1, ← c .before .before .before .before .before .same-area .ensures, c .before .before .before .before .if1 .taken, ← c .before .before .before .page-size .ensures, eq-eqb _ _ (c .before .before .if2 .taken), ← c .before .block-size .ensures, ← c .is-block-end .ensures)
+returns c =
+    let next = c .before .before .before .before .before .before .before .before .before .before .next in
+    let last = c .before .before .before .before .before .before .before .last in
+    let same-area = c .before .before .before .before .before .same-area in
+    let if1 = c .before .before .before .before .if1 in
+    let page-size = c .before .before .before .page-size in
+    simp (next .given .1, last .given .1, ← same-area .ensures, if1 .taken, ← page-size .ensures, eq-eqb _ _ (c .before .before .if2 .taken), ← c .before .block-size .ensures, ← c .is-block-end .ensures)
 
 returns-2 : tie.Need-returns-2
 unfolding goodPlaces _and_
-returns-2 c = simp (c .before .before .before .before .before .before .before .before .next .given .1, c .before .before .before .before .before .last .given .1, ← c .before .before .before .same-area .ensures, c .before .before .if1 .taken, ← c .before .page-size .ensures, ne-eqb _ _ (c .if2 .left))
+returns-2 c =
+    let next = c .before .before .before .before .before .before .before .before .next in
+    let last = c .before .before .before .before .before .last in
+    let same-area = c .before .before .before .same-area in
+    simp (next .given .1, last .given .1, ← same-area .ensures, c .before .before .if1 .taken, ← c .before .page-size .ensures, ne-eqb _ _ (c .if2 .left))
 
 returns-3 : tie.Need-returns-3
 unfolding goodPlaces _and_

@@ -13,7 +13,12 @@ returns c = simp (eq-eqb _ _ (c .if1 .taken))
 
 returns-2 : tie.Need-returns-2
 unfolding goodAwaited _or_ _and_
-returns-2 c = simp (ne-eqb _ _ (c .before .before .before .before .before .before .before .if1 .left), ← c .before .before .before .before .before .before .has-pages .ensures, c .before .before .before .before .before .if2 .taken, le-leb _ _ (c .before .before .before .if3 .taken), ← c .before .before .place .ensures, ← c .before .place2 .ensures, ← c .are-good-places .ensures)
+returns-2 c =
+    let if1 = c .before .before .before .before .before .before .before .if1 in
+    let has-pages = c .before .before .before .before .before .before .has-pages in
+    let if2 = c .before .before .before .before .before .if2 in
+    let if3 = c .before .before .before .if3 in
+    simp (ne-eqb _ _ (if1 .left), ← has-pages .ensures, if2 .taken, le-leb _ _ (if3 .taken), ← c .before .before .place .ensures, ← c .before .place2 .ensures, ← c .are-good-places .ensures)
 
 returns-3 : tie.Need-returns-3
 unfolding goodAwaited _or_ _and_

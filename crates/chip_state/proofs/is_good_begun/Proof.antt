@@ -13,11 +13,19 @@ returns c = simp (eq-eqb _ _ (c .if1 .taken))
 
 returns-2 : tie.Need-returns-2
 unfolding goodBegun _or_ _and_
-returns-2 c = simp (ne-eqb _ _ (c .before .before .before .before .before .if1 .left), lt-ltb _ _ (c .before .before .before .before .if2 .taken), ← c .before .before .before .byte .ensures, eq-eqb _ _ (c .before .before .if3 .taken), ← c .before .is-full .ensures, c .if4 .taken)
+returns-2 c =
+    let if1 = c .before .before .before .before .before .if1 in
+    let if2 = c .before .before .before .before .if2 in
+    let byte = c .before .before .before .byte in
+    simp (ne-eqb _ _ (if1 .left), lt-ltb _ _ (if2 .taken), ← byte .ensures, eq-eqb _ _ (c .before .before .if3 .taken), ← c .before .is-full .ensures, c .if4 .taken)
 
 returns-3 : tie.Need-returns-3
 unfolding goodBegun _or_ _and_
-returns-3 c = simp (ne-eqb _ _ (c .before .before .before .before .before .if1 .left), lt-ltb _ _ (c .before .before .before .before .if2 .taken), ← c .before .before .before .byte .ensures, eq-eqb _ _ (c .before .before .if3 .taken), ← c .before .is-full .ensures, c .if4 .left)
+returns-3 c =
+    let if1 = c .before .before .before .before .before .if1 in
+    let if2 = c .before .before .before .before .if2 in
+    let byte = c .before .before .before .byte in
+    simp (ne-eqb _ _ (if1 .left), lt-ltb _ _ (if2 .taken), ← byte .ensures, eq-eqb _ _ (c .before .before .if3 .taken), ← c .before .is-full .ensures, c .if4 .left)
 
 returns-4 : tie.Need-returns-4
 unfolding goodBegun _or_ _and_

@@ -49,28 +49,44 @@ loop-less : tie.Need-loop-less Inv-loop μ-loop
 loop-less c = omega (arith, known (c .before .before .before .before), c .before .before .before .before .if1 .taken, c .before .before .before .before .before .before .before .loop-test .taken)
 
 loop-again : tie.Need-loop-again Inv-loop μ-loop
-loop-again c = (
-  omega (arith, known (c .before .before .before .before), c .before .before .before .before .before .before .before .loop-test .taken),
-  c .before .before .before .before .before .before .before .before .loop .inv .1,
-  c .before .before .before .before .before .before .before .before .loop .inv .2,
-  c .before .before .before .before .before .before .before .before .loop .inv .3,
-  fed-stretch _ _ (c .before .before .before .before .before .before .before .before .loop .inv .4) (c .before .before .before .before .before .plain .ensures .2) (c .before .before .before .before .before .plain .ensures .1) (c .before .before .before .before .before .plain .ensures .0) (c .before .before .before .before .if1 .taken) (c .before .before .before .before .before .before .before .loop-test .taken) (c .add-all .ensures),
-)
+loop-again c =
+    let loop = c .before .before .before .before .before .before .before .before .loop in
+    let loop-test = c .before .before .before .before .before .before .before .loop-test in
+    let plain = c .before .before .before .before .before .plain in
+    let there = c .before .before .before .before in
+    let if1 = c .before .before .before .before .if1 in (
+      omega (arith, known there, loop-test .taken),
+      loop .inv .1,
+      loop .inv .2,
+      loop .inv .3,
+      fed-stretch _ _ (loop .inv .4) (plain .ensures .2) (plain .ensures .1) (plain .ensures .0) (if1 .taken) (loop-test .taken) (c .add-all .ensures),
+    )
 
 returns : tie.Need-returns Inv-loop μ-loop
-returns c = fed-said (c .before .before .before .before .before .before .before .before .before .before .before .before .before .before .before .before .before .before .before .before .loop .inv .4) (c .before .before .before .before .before .before .before .before .before .before .before .long-step .ensures) (c .before .before .before .before .before .before .before .before .before .before .before .before .before .before .before .before .before .before .before .loop-test .taken) (c .before .before .answer .given .1) (c .if2 .taken)
+returns c =
+    let loop = c .before .before .before .before .before .before .before .before .before .before .before .before .before .before .before .before .before .before .before .before .loop in
+    let loop-test = c .before .before .before .before .before .before .before .before .before .before .before .before .before .before .before .before .before .before .before .loop-test in
+    let long-step = c .before .before .before .before .before .before .before .before .before .before .before .long-step in
+    fed-said (loop .inv .4) (long-step .ensures) (loop-test .taken) (c .before .before .answer .given .1) (c .if2 .taken)
 
 loop-again-2 : tie.Need-loop-again-2 Inv-loop μ-loop
-loop-again-2 c = (
-  omega (arith, c .before .before .before .before .before .before .before .before .before .before .before .before .before .before .before .before .before .before .before .loop-test .taken),
-  c .before .before .before .before .before .before .before .before .before .before .before .long-step .kept .1 .1 .1 .0 ∙ c .before .before .before .before .before .before .before .before .before .before .before .before .before .before .before .before .before .before .before .before .loop .inv .1,
-  c .before .before .before .before .before .before .before .before .before .before .before .long-step .kept .1 .1 .1 .1 .0 ∙ c .before .before .before .before .before .before .before .before .before .before .before .before .before .before .before .before .before .before .before .before .loop .inv .2,
-  c .before .before .before .before .before .before .before .before .before .before .before .long-step .kept .1 .1 .1 .1 .1 .0 ∙ c .before .before .before .before .before .before .before .before .before .before .before .before .before .before .before .before .before .before .before .before .loop .inv .3,
-  fed-turn (c .before .before .before .before .before .before .before .before .before .before .before .before .before .before .before .before .before .before .before .before .loop .inv .4) (c .before .before .before .before .before .before .before .before .before .before .before .long-step .ensures) (c .before .before .before .before .before .before .before .before .before .before .before .before .before .before .before .before .before .before .before .loop-test .taken) (c .before .before .answer .given .1) (c .if2 .left),
-)
+loop-again-2 c =
+    let loop = c .before .before .before .before .before .before .before .before .before .before .before .before .before .before .before .before .before .before .before .before .loop in
+    let loop-test = c .before .before .before .before .before .before .before .before .before .before .before .before .before .before .before .before .before .before .before .loop-test in
+    let long-step = c .before .before .before .before .before .before .before .before .before .before .before .long-step in (
+      omega (arith, loop-test .taken),
+      long-step .kept .1 .1 .1 .0 ∙ loop .inv .1,
+      long-step .kept .1 .1 .1 .1 .0 ∙ loop .inv .2,
+      long-step .kept .1 .1 .1 .1 .1 .0 ∙ loop .inv .3,
+      fed-turn (loop .inv .4) (long-step .ensures) (loop-test .taken) (c .before .before .answer .given .1) (c .if2 .left),
+    )
 
 returns-2 : tie.Need-returns-2 Inv-loop μ-loop
-returns-2 c = fed-refused (c .before .before .before .before .before .before .before .before .before .before .before .before .before .before .before .before .before .before .before .loop .i + 1 - 1) (c .before .before .before .before .before .before .before .before .before .before .before .before .before .before .before .before .before .before .before .loop .inv .4) (c .before .before .before .before .before .before .before .before .before .before .long-step .ensures) (c .before .before .before .before .before .before .before .before .before .before .before .before .before .before .before .before .before .before .loop-test .taken) (c .before .answer2 .given .1) (omega arith)
+returns-2 c =
+    let loop = c .before .before .before .before .before .before .before .before .before .before .before .before .before .before .before .before .before .before .before .loop in
+    let loop-test = c .before .before .before .before .before .before .before .before .before .before .before .before .before .before .before .before .before .before .loop-test in
+    let long-step = c .before .before .before .before .before .before .before .before .before .before .long-step in
+    fed-refused (loop .i + 1 - 1) (loop .inv .4) (long-step .ensures) (loop-test .taken) (c .before .answer2 .given .1) (omega arith)
 
 returns-3 : tie.Need-returns-3 Inv-loop μ-loop
 returns-3 c = fed-end (c .before .before .loop .inv .4) (c .before .loop-test .left)

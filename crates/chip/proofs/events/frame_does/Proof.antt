@@ -15,7 +15,11 @@ returns-2 c = simp (← c .before .before .before .before .before .before .befor
 
 returns-3 : tie.Need-returns-3
 unfolding frameDoes
-returns-3 c = simp (← c .before .before .before .before .before .before .before .before .before .before .hearing .ensures, c .before .before .before .before .before .before .before .before .hears .given .1, ← c .before .before .before .before .page .ensures)
+returns-3 c =
+    let hearing = c .before .before .before .before .before .before .before .before .before .before .hearing in
+    let hears = c .before .before .before .before .before .before .before .before .hears in
+    let page = c .before .before .before .before .page in
+    simp (← hearing .ensures, hears .given .1, ← page .ensures)
 
 pub frame-does-spec : {M : Type 1} → statement M
 frame-does-spec =

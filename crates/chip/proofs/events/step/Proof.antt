@@ -24,7 +24,12 @@ returns-2 c =
 
 returns-4 : tie.Need-returns-4
 returns-4 c =
-    byte-adds _ _ _ _ _ _ _ _ (long (c .before .before .before .before .before .before .before .before .before .before .before .before .before .before .before .before .before)) (c .before .before .before .lacking .ensures .1) (sym (c .before .before .before .before .before .before .before .before .before .verdict .ensures) ∙ c .before .before .before .before .before .before .before .enum-told .given .1) (c .before .before .before .lacking .ensures .0) (c .before .before .if1 .taken) (c .before .before .before .before .before .event .given .1) (adds-collector _ _ _ _ (c .add .ensures))
+    let start = c .before .before .before .before .before .before .before .before .before .before .before .before .before .before .before .before .before in
+    let verdict = c .before .before .before .before .before .before .before .before .before .verdict in
+    let enum-told = c .before .before .before .before .before .before .before .enum-told in
+    let event = c .before .before .before .before .before .event in
+    let lacking = c .before .before .before .lacking in
+    byte-adds _ _ _ _ _ _ _ _ (long start) (lacking .ensures .1) (sym (verdict .ensures) ∙ enum-told .given .1) (lacking .ensures .0) (c .before .before .if1 .taken) (event .given .1) (adds-collector _ _ _ _ (c .add .ensures))
 
 returns-5 : tie.Need-returns-5
 returns-5 c = same-event _ _ _ _ _ _ _ (c .before .before .before .before .before .before .long-step2 .ensures) (c .before .before .before .before .before .before .before .before .before .before .before .before .before .event .given .1)
