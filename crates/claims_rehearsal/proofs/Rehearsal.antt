@@ -12,8 +12,7 @@ use Rattle.claims_rehearsal.specs.Cable.{cable, exchange, speaks}
 use Rattle.claims_rehearsal.specs.Rehearsal.{finishedAfter, holds, mixed, oldCode, oldData, readyAt, rehearsed, rehearsedData, theChip, theDataImage, theImage}
 use Rattle.dock.specs.Calls.{askOf, asked, freshDock, hearOf, standing, startOf, starting, turning}
 use Rattle.chip_commands.specs.Commands.{allowedIn, commandDoes, readingDoes, work}
-use Rattle.commands.specs.Commands as commands
-use Rattle.commands.specs.Commands.{fitted, readCommand, readIn}
+use Rattle.commands.specs.Commands.{fitted, readCommand, readIn, table}
 use Rattle.chip_work.specs.Work.{blankCheck, blockErase, checksum, erasedIn, forbidden, programming, rangeBytes, rateSet, securityRelease, verify}
 use Rattle.chip_pages.specs.Pages.{badData, dataDoes, footerOf, goodData, isLastPage, lengthOf, nextPage, pageIn, pageStored, programPage, securityData, storedReply, verifyPage}
 use Rattle.chip_flash.specs.Flash.{blank, eraseOf, sumOfBytes}
@@ -40,72 +39,72 @@ use Rattle.chip_core.specs.Hearing.{hearing}
 
 -- Two blocks that were not blank: 3 + 2 * 12 frames. The chip is ready at the job's rate, the image in place, and all other flash as it was.
 pub rehearsal-dock : rehearsed .dock ≡ finishedAfter 27
-unfolding byteIn frameDoes heardByte modeByte reactTo settled stepOf commandDoes allowedIn readingDoes readCommand readIn commands.table fitted work
-    hearing blank eraseOf sumOfBytes fixedBits freshOptions goodOptions isFresh lastBlock optionBytes optionsIn raises released rises security badData
-    dataDoes footerOf goodData isLastPage lengthOf nextPage pageIn pageStored programPage securityData storedReply verifyPage framesOf payloads saidOf
-    goodAwaited goodBegun goodCollected goodCore goodPhase goodPlaces goodState verdictOf blankCheck blockErase checksum erasedIn forbidden programming
-    rangeBytes rateSet securityRelease verify cable exchange speaks mixed rehearsed theChip theImage askOf asked freshDock hearOf standing startOf starting
-    turning carriedBy deciding exactly matching rateMatches readAnswer readable shape signatureMatches statuses afterAnswer afterHeard afterSetup
-    afterStatus afterWork blockFrom inBlock next retried saysNotBlank setupFrom frameAt handed lastPage pageFooter queryAt sendOf setupFrame storedForm
-    workFrame areaIn blocksIn bound isOver setup badJob badState callVerdict due goodBlock goodDock goodEnding goodFailure goodNamedBlock goodNamedPage
-    goodPage goodStage goodWork isBad outOfTurn shortRoom spent fresh hear heard holding complete counted framed full isFrame payload frames framing
-    fitting judgeOf summed less lessAll sumOf readOf allAre putAt putOf same lowFirst numberAt blockOf blockSize described endsBlock lastOf liesIn pageOf
-    placeIn placeOf rangeOf startsBlock stretch wholeBlocks acceptsRate modeOf firstOf signature _and_ _from_to_ _or_ if_then_else_
+unfolding byteIn frameDoes heardByte modeByte reactTo settled stepOf allowedIn commandDoes readingDoes work hearing blank eraseOf sumOfBytes fixedBits
+    freshOptions goodOptions isFresh lastBlock optionBytes optionsIn raises released rises security badData dataDoes footerOf goodData isLastPage lengthOf
+    nextPage pageIn pageStored programPage securityData storedReply verifyPage framesOf payloads saidOf goodAwaited goodBegun goodCollected goodCore goodPhase
+    goodPlaces goodState verdictOf blankCheck blockErase checksum erasedIn forbidden programming rangeBytes rateSet securityRelease verify cable exchange
+    speaks mixed rehearsed theChip theImage fitted readCommand readIn table askOf asked freshDock hearOf standing startOf starting turning carriedBy deciding
+    exactly matching rateMatches readAnswer readable shape signatureMatches statuses afterAnswer afterHeard afterSetup afterStatus afterWork blockFrom inBlock
+    next retried saysNotBlank setupFrom frameAt handed lastPage pageFooter queryAt sendOf setupFrame storedForm workFrame areaIn blocksIn bound isOver setup
+    badJob badState callVerdict due goodBlock goodDock goodEnding goodFailure goodNamedBlock goodNamedPage goodPage goodStage goodWork isBad outOfTurn
+    shortRoom spent fresh hear heard holding complete counted framed full isFrame payload frames framing fitting judgeOf summed less lessAll sumOf readOf
+    allAre putAt putOf same lowFirst numberAt blockOf blockSize described endsBlock lastOf liesIn pageOf placeIn placeOf rangeOf startsBlock stretch
+    wholeBlocks acceptsRate modeOf firstOf signature _and_ _from_to_ _or_ if_then_else_
 rehearsal-dock = refl
 
 pub rehearsal-chip : rehearsed .chip .chip .core ≡ readyAt 0x03
-unfolding byteIn frameDoes heardByte modeByte reactTo settled stepOf commandDoes allowedIn readingDoes readCommand readIn commands.table fitted work
-    hearing blank eraseOf sumOfBytes fixedBits freshOptions goodOptions isFresh lastBlock optionBytes optionsIn raises released rises security badData
-    dataDoes footerOf goodData isLastPage lengthOf nextPage pageIn pageStored programPage securityData storedReply verifyPage framesOf payloads saidOf
-    goodAwaited goodBegun goodCollected goodCore goodPhase goodPlaces goodState verdictOf blankCheck blockErase checksum erasedIn forbidden programming
-    rangeBytes rateSet securityRelease verify cable exchange speaks mixed rehearsed theChip theImage askOf asked freshDock hearOf standing startOf starting
-    turning carriedBy deciding exactly matching rateMatches readAnswer readable shape signatureMatches statuses afterAnswer afterHeard afterSetup
-    afterStatus afterWork blockFrom inBlock next retried saysNotBlank setupFrom frameAt handed lastPage pageFooter queryAt sendOf setupFrame storedForm
-    workFrame areaIn blocksIn bound isOver setup badJob badState callVerdict due goodBlock goodDock goodEnding goodFailure goodNamedBlock goodNamedPage
-    goodPage goodStage goodWork isBad outOfTurn shortRoom spent fresh hear heard holding complete counted framed full isFrame payload frames framing
-    fitting judgeOf summed less lessAll sumOf readOf allAre putAt putOf same lowFirst numberAt blockOf blockSize described endsBlock lastOf liesIn pageOf
-    placeIn placeOf rangeOf startsBlock stretch wholeBlocks acceptsRate modeOf firstOf signature _and_ _from_to_ _or_ if_then_else_
+unfolding byteIn frameDoes heardByte modeByte reactTo settled stepOf allowedIn commandDoes readingDoes work hearing blank eraseOf sumOfBytes fixedBits
+    freshOptions goodOptions isFresh lastBlock optionBytes optionsIn raises released rises security badData dataDoes footerOf goodData isLastPage lengthOf
+    nextPage pageIn pageStored programPage securityData storedReply verifyPage framesOf payloads saidOf goodAwaited goodBegun goodCollected goodCore goodPhase
+    goodPlaces goodState verdictOf blankCheck blockErase checksum erasedIn forbidden programming rangeBytes rateSet securityRelease verify cable exchange
+    speaks mixed rehearsed theChip theImage fitted readCommand readIn table askOf asked freshDock hearOf standing startOf starting turning carriedBy deciding
+    exactly matching rateMatches readAnswer readable shape signatureMatches statuses afterAnswer afterHeard afterSetup afterStatus afterWork blockFrom inBlock
+    next retried saysNotBlank setupFrom frameAt handed lastPage pageFooter queryAt sendOf setupFrame storedForm workFrame areaIn blocksIn bound isOver setup
+    badJob badState callVerdict due goodBlock goodDock goodEnding goodFailure goodNamedBlock goodNamedPage goodPage goodStage goodWork isBad outOfTurn
+    shortRoom spent fresh hear heard holding complete counted framed full isFrame payload frames framing fitting judgeOf summed less lessAll sumOf readOf
+    allAre putAt putOf same lowFirst numberAt blockOf blockSize described endsBlock lastOf liesIn pageOf placeIn placeOf rangeOf startsBlock stretch
+    wholeBlocks acceptsRate modeOf firstOf signature _and_ _from_to_ _or_ if_then_else_
 rehearsal-chip = refl
 
 pub rehearsal-flash : holds (rehearsed .chip .memory) (replicate 2048 0x42 ++ theImage ++ replicate 4096 0x42) oldData ≡ true
-unfolding byteIn frameDoes heardByte modeByte reactTo settled stepOf commandDoes allowedIn readingDoes readCommand readIn commands.table fitted work
-    hearing blank eraseOf sumOfBytes fixedBits freshOptions goodOptions isFresh lastBlock optionBytes optionsIn raises released rises security badData
-    dataDoes footerOf goodData isLastPage lengthOf nextPage pageIn pageStored programPage securityData storedReply verifyPage framesOf payloads saidOf
-    goodAwaited goodBegun goodCollected goodCore goodPhase goodPlaces goodState verdictOf blankCheck blockErase checksum erasedIn forbidden programming
-    rangeBytes rateSet securityRelease verify cable exchange speaks holds mixed rehearsed theChip theImage askOf asked freshDock hearOf standing startOf
-    starting turning carriedBy deciding exactly matching rateMatches readAnswer readable shape signatureMatches statuses afterAnswer afterHeard afterSetup
-    afterStatus afterWork blockFrom inBlock next retried saysNotBlank setupFrom frameAt handed lastPage pageFooter queryAt sendOf setupFrame storedForm
-    workFrame areaIn blocksIn bound isOver setup badJob badState callVerdict due goodBlock goodDock goodEnding goodFailure goodNamedBlock goodNamedPage
-    goodPage goodStage goodWork isBad outOfTurn shortRoom spent fresh hear heard holding complete counted framed full isFrame payload frames framing
-    fitting judgeOf summed less lessAll sumOf readOf allAre putAt putOf same lowFirst numberAt blockOf blockSize described endsBlock lastOf liesIn pageOf
-    placeIn placeOf rangeOf startsBlock stretch wholeBlocks acceptsRate modeOf firstOf signature _and_ _from_to_ _or_ if_then_else_
+unfolding byteIn frameDoes heardByte modeByte reactTo settled stepOf allowedIn commandDoes readingDoes work hearing blank eraseOf sumOfBytes fixedBits
+    freshOptions goodOptions isFresh lastBlock optionBytes optionsIn raises released rises security badData dataDoes footerOf goodData isLastPage lengthOf
+    nextPage pageIn pageStored programPage securityData storedReply verifyPage framesOf payloads saidOf goodAwaited goodBegun goodCollected goodCore goodPhase
+    goodPlaces goodState verdictOf blankCheck blockErase checksum erasedIn forbidden programming rangeBytes rateSet securityRelease verify cable exchange
+    speaks holds mixed rehearsed theChip theImage fitted readCommand readIn table askOf asked freshDock hearOf standing startOf starting turning carriedBy
+    deciding exactly matching rateMatches readAnswer readable shape signatureMatches statuses afterAnswer afterHeard afterSetup afterStatus afterWork
+    blockFrom inBlock next retried saysNotBlank setupFrom frameAt handed lastPage pageFooter queryAt sendOf setupFrame storedForm workFrame areaIn blocksIn
+    bound isOver setup badJob badState callVerdict due goodBlock goodDock goodEnding goodFailure goodNamedBlock goodNamedPage goodPage goodStage goodWork
+    isBad outOfTurn shortRoom spent fresh hear heard holding complete counted framed full isFrame payload frames framing fitting judgeOf summed less lessAll
+    sumOf readOf allAre putAt putOf same lowFirst numberAt blockOf blockSize described endsBlock lastOf liesIn pageOf placeIn placeOf rangeOf startsBlock
+    stretch wholeBlocks acceptsRate modeOf firstOf signature _and_ _from_to_ _or_ if_then_else_
 rehearsal-flash = refl
 
 -- One block of data flash: 3 + 12 frames, and no byte of code flash changed.
 pub rehearsal-data : rehearsedData .dock ≡ finishedAfter 15
-unfolding byteIn frameDoes heardByte modeByte reactTo settled stepOf commandDoes allowedIn readingDoes readCommand readIn commands.table fitted work
-    hearing blank eraseOf sumOfBytes fixedBits freshOptions goodOptions isFresh lastBlock optionBytes optionsIn raises released rises security badData
-    dataDoes footerOf goodData isLastPage lengthOf nextPage pageIn pageStored programPage securityData storedReply verifyPage framesOf payloads saidOf
-    goodAwaited goodBegun goodCollected goodCore goodPhase goodPlaces goodState verdictOf blankCheck blockErase checksum erasedIn forbidden programming
-    rangeBytes rateSet securityRelease verify cable exchange speaks mixed rehearsedData theChip theDataImage askOf asked freshDock hearOf standing startOf
-    starting turning carriedBy deciding exactly matching rateMatches readAnswer readable shape signatureMatches statuses afterAnswer afterHeard afterSetup
-    afterStatus afterWork blockFrom inBlock next retried saysNotBlank setupFrom frameAt handed lastPage pageFooter queryAt sendOf setupFrame storedForm
-    workFrame areaIn blocksIn bound isOver setup badJob badState callVerdict due goodBlock goodDock goodEnding goodFailure goodNamedBlock goodNamedPage
-    goodPage goodStage goodWork isBad outOfTurn shortRoom spent fresh hear heard holding complete counted framed full isFrame payload frames framing
-    fitting judgeOf summed less lessAll sumOf readOf allAre putAt putOf same lowFirst numberAt blockOf blockSize described endsBlock lastOf liesIn pageOf
-    placeIn placeOf rangeOf startsBlock stretch wholeBlocks acceptsRate modeOf firstOf signature _and_ _from_to_ _or_ if_then_else_
+unfolding byteIn frameDoes heardByte modeByte reactTo settled stepOf allowedIn commandDoes readingDoes work hearing blank eraseOf sumOfBytes fixedBits
+    freshOptions goodOptions isFresh lastBlock optionBytes optionsIn raises released rises security badData dataDoes footerOf goodData isLastPage lengthOf
+    nextPage pageIn pageStored programPage securityData storedReply verifyPage framesOf payloads saidOf goodAwaited goodBegun goodCollected goodCore goodPhase
+    goodPlaces goodState verdictOf blankCheck blockErase checksum erasedIn forbidden programming rangeBytes rateSet securityRelease verify cable exchange
+    speaks mixed rehearsedData theChip theDataImage fitted readCommand readIn table askOf asked freshDock hearOf standing startOf starting turning carriedBy
+    deciding exactly matching rateMatches readAnswer readable shape signatureMatches statuses afterAnswer afterHeard afterSetup afterStatus afterWork
+    blockFrom inBlock next retried saysNotBlank setupFrom frameAt handed lastPage pageFooter queryAt sendOf setupFrame storedForm workFrame areaIn blocksIn
+    bound isOver setup badJob badState callVerdict due goodBlock goodDock goodEnding goodFailure goodNamedBlock goodNamedPage goodPage goodStage goodWork
+    isBad outOfTurn shortRoom spent fresh hear heard holding complete counted framed full isFrame payload frames framing fitting judgeOf summed less lessAll
+    sumOf readOf allAre putAt putOf same lowFirst numberAt blockOf blockSize described endsBlock lastOf liesIn pageOf placeIn placeOf rangeOf startsBlock
+    stretch wholeBlocks acceptsRate modeOf firstOf signature _and_ _from_to_ _or_ if_then_else_
 rehearsal-data = refl
 
 pub rehearsal-data-flash : holds (rehearsedData .chip .memory) oldCode theDataImage ≡ true
-unfolding byteIn frameDoes heardByte modeByte reactTo settled stepOf commandDoes allowedIn readingDoes readCommand readIn commands.table fitted work
-    hearing blank eraseOf sumOfBytes fixedBits freshOptions goodOptions isFresh lastBlock optionBytes optionsIn raises released rises security badData
-    dataDoes footerOf goodData isLastPage lengthOf nextPage pageIn pageStored programPage securityData storedReply verifyPage framesOf payloads saidOf
-    goodAwaited goodBegun goodCollected goodCore goodPhase goodPlaces goodState verdictOf blankCheck blockErase checksum erasedIn forbidden programming
-    rangeBytes rateSet securityRelease verify cable exchange speaks holds mixed rehearsedData theChip theDataImage askOf asked freshDock hearOf standing
-    startOf starting turning carriedBy deciding exactly matching rateMatches readAnswer readable shape signatureMatches statuses afterAnswer afterHeard
-    afterSetup afterStatus afterWork blockFrom inBlock next retried saysNotBlank setupFrom frameAt handed lastPage pageFooter queryAt sendOf setupFrame
-    storedForm workFrame areaIn blocksIn bound isOver setup badJob badState callVerdict due goodBlock goodDock goodEnding goodFailure goodNamedBlock
-    goodNamedPage goodPage goodStage goodWork isBad outOfTurn shortRoom spent fresh hear heard holding complete counted framed full isFrame payload frames
-    framing fitting judgeOf summed less lessAll sumOf readOf allAre putAt putOf same lowFirst numberAt blockOf blockSize described endsBlock lastOf liesIn
-    pageOf placeIn placeOf rangeOf startsBlock stretch wholeBlocks acceptsRate modeOf firstOf signature _and_ _from_to_ _or_ if_then_else_
+unfolding byteIn frameDoes heardByte modeByte reactTo settled stepOf allowedIn commandDoes readingDoes work hearing blank eraseOf sumOfBytes fixedBits
+    freshOptions goodOptions isFresh lastBlock optionBytes optionsIn raises released rises security badData dataDoes footerOf goodData isLastPage lengthOf
+    nextPage pageIn pageStored programPage securityData storedReply verifyPage framesOf payloads saidOf goodAwaited goodBegun goodCollected goodCore goodPhase
+    goodPlaces goodState verdictOf blankCheck blockErase checksum erasedIn forbidden programming rangeBytes rateSet securityRelease verify cable exchange
+    speaks holds mixed rehearsedData theChip theDataImage fitted readCommand readIn table askOf asked freshDock hearOf standing startOf starting turning
+    carriedBy deciding exactly matching rateMatches readAnswer readable shape signatureMatches statuses afterAnswer afterHeard afterSetup afterStatus
+    afterWork blockFrom inBlock next retried saysNotBlank setupFrom frameAt handed lastPage pageFooter queryAt sendOf setupFrame storedForm workFrame areaIn
+    blocksIn bound isOver setup badJob badState callVerdict due goodBlock goodDock goodEnding goodFailure goodNamedBlock goodNamedPage goodPage goodStage
+    goodWork isBad outOfTurn shortRoom spent fresh hear heard holding complete counted framed full isFrame payload frames framing fitting judgeOf summed less
+    lessAll sumOf readOf allAre putAt putOf same lowFirst numberAt blockOf blockSize described endsBlock lastOf liesIn pageOf placeIn placeOf rangeOf
+    startsBlock stretch wholeBlocks acceptsRate modeOf firstOf signature _and_ _from_to_ _or_ if_then_else_
 rehearsal-data-flash = refl

@@ -8,8 +8,7 @@ use Rattle.chip.specs.Step.{byteIn, frameDoes, freshChip, heardByte, modeByte, 
 use Rattle.chip_state.specs.Refusals.{goodAwaited, goodBegun, goodCollected, goodCore, goodPhase, goodPlaces, goodState, verdictOf}
 use Rattle.claims_replay.specs.Printed.{digitsIn, lastLine, linesIn, printed}
 use Rattle.chip_commands.specs.Commands.{allowedIn, commandDoes, readingDoes, work}
-use Rattle.commands.specs.Commands as commands
-use Rattle.commands.specs.Commands.{fitted, readCommand, readIn}
+use Rattle.commands.specs.Commands.{fitted, readCommand, readIn, table}
 use Rattle.chip_work.specs.Work.{blankCheck, blockErase, checksum, erasedIn, forbidden, programming, rangeBytes, rateSet, securityRelease, verify}
 use Rattle.frame.specs.Collector.{fresh, hear, heard, holding}
 use Rattle.frame.specs.Frame.{complete, counted, framed, full, isFrame, payload}
@@ -48,40 +47,40 @@ wholePrinted =
     ++ 0x45 ∷ 0x4E ∷ 0x44 ∷ 0x20 ∷ 0x33 ∷ 0x0A ∷ []
 
 pub whole-case : printed wholeCase ≡ wholePrinted
-unfolding byteIn frameDoes freshChip heardByte modeByte reactTo settled stepOf commandDoes allowedIn readingDoes readCommand readIn commands.table fitted
-    work hearing blank eraseOf sumOfBytes fixedBits freshOptions goodOptions isFresh lastBlock optionBytes optionsIn raises released rises security badData
-    dataDoes footerOf goodData isLastPage lengthOf nextPage pageIn pageStored programPage securityData storedReply verifyPage framesOf payloads saidOf
-    goodAwaited goodBegun goodCollected goodCore goodPhase goodPlaces goodState verdictOf blankCheck blockErase checksum erasedIn forbidden programming
-    rangeBytes rateSet securityRelease verify digitsIn lastLine linesIn printed fresh hear heard holding complete counted framed full isFrame payload
-    frames framing fitting judgeOf summed less lessAll sumOf allAre putAt putOf same lowFirst numberAt blockOf blockSize described endsBlock lastOf liesIn
-    pageOf placeIn placeOf rangeOf startsBlock stretch wholeBlocks acceptsRate modeOf firstOf signature bytesRecord gapRecord recordOf recordsIn recordsOf
-    unused digitOf lineOf separator answering endedBy eventsOf goesOn nextBy playBy playOf playWith played playedInto replayOf replayedFrom whileWhole
-    _and_ _from_to_ _or_ if_then_else_
+unfolding byteIn frameDoes freshChip heardByte modeByte reactTo settled stepOf allowedIn commandDoes readingDoes work hearing blank eraseOf sumOfBytes
+    fixedBits freshOptions goodOptions isFresh lastBlock optionBytes optionsIn raises released rises security badData dataDoes footerOf goodData isLastPage
+    lengthOf nextPage pageIn pageStored programPage securityData storedReply verifyPage framesOf payloads saidOf goodAwaited goodBegun goodCollected goodCore
+    goodPhase goodPlaces goodState verdictOf blankCheck blockErase checksum erasedIn forbidden programming rangeBytes rateSet securityRelease verify digitsIn
+    lastLine linesIn printed fitted readCommand readIn table fresh hear heard holding complete counted framed full isFrame payload frames framing fitting
+    judgeOf summed less lessAll sumOf allAre putAt putOf same lowFirst numberAt blockOf blockSize described endsBlock lastOf liesIn pageOf placeIn placeOf
+    rangeOf startsBlock stretch wholeBlocks acceptsRate modeOf firstOf signature bytesRecord gapRecord recordOf recordsIn recordsOf unused digitOf lineOf
+    separator answering endedBy eventsOf goesOn nextBy playBy playOf playWith played playedInto replayOf replayedFrom whileWhole _and_ _from_to_ _or_
+    if_then_else_
 whole-case = refl
 
 -- An empty capture prints "END 0", a short record "BAD" and its number.
 pub empty-case : printed [] ≡ 0x45 ∷ 0x4E ∷ 0x44 ∷ 0x20 ∷ 0x30 ∷ 0x0A ∷ []
-unfolding byteIn frameDoes freshChip heardByte modeByte reactTo settled stepOf commandDoes allowedIn readingDoes readCommand readIn commands.table fitted
-    work hearing blank eraseOf sumOfBytes fixedBits freshOptions goodOptions isFresh lastBlock optionBytes optionsIn raises released rises security badData
-    dataDoes footerOf goodData isLastPage lengthOf nextPage pageIn pageStored programPage securityData storedReply verifyPage framesOf payloads saidOf
-    goodAwaited goodBegun goodCollected goodCore goodPhase goodPlaces goodState verdictOf blankCheck blockErase checksum erasedIn forbidden programming
-    rangeBytes rateSet securityRelease verify digitsIn lastLine linesIn printed fresh hear heard holding complete counted framed full isFrame payload
-    frames framing fitting judgeOf summed less lessAll sumOf allAre putAt putOf same lowFirst numberAt blockOf blockSize described endsBlock lastOf liesIn
-    pageOf placeIn placeOf rangeOf startsBlock stretch wholeBlocks acceptsRate modeOf firstOf signature bytesRecord gapRecord recordOf recordsIn recordsOf
-    unused digitOf lineOf separator answering endedBy eventsOf goesOn nextBy playBy playOf playWith played playedInto replayOf replayedFrom whileWhole
-    _and_ _from_to_ _or_ if_then_else_
+unfolding byteIn frameDoes freshChip heardByte modeByte reactTo settled stepOf allowedIn commandDoes readingDoes work hearing blank eraseOf sumOfBytes
+    fixedBits freshOptions goodOptions isFresh lastBlock optionBytes optionsIn raises released rises security badData dataDoes footerOf goodData isLastPage
+    lengthOf nextPage pageIn pageStored programPage securityData storedReply verifyPage framesOf payloads saidOf goodAwaited goodBegun goodCollected goodCore
+    goodPhase goodPlaces goodState verdictOf blankCheck blockErase checksum erasedIn forbidden programming rangeBytes rateSet securityRelease verify digitsIn
+    lastLine linesIn printed fitted readCommand readIn table fresh hear heard holding complete counted framed full isFrame payload frames framing fitting
+    judgeOf summed less lessAll sumOf allAre putAt putOf same lowFirst numberAt blockOf blockSize described endsBlock lastOf liesIn pageOf placeIn placeOf
+    rangeOf startsBlock stretch wholeBlocks acceptsRate modeOf firstOf signature bytesRecord gapRecord recordOf recordsIn recordsOf unused digitOf lineOf
+    separator answering endedBy eventsOf goesOn nextBy playBy playOf playWith played playedInto replayOf replayedFrom whileWhole _and_ _from_to_ _or_
+    if_then_else_
 empty-case = refl
 
 pub short-case : printed (0x00 ∷ []) ≡ 0x42 ∷ 0x41 ∷ 0x44 ∷ 0x20 ∷ 0x30 ∷ 0x0A ∷ []
-unfolding byteIn frameDoes freshChip heardByte modeByte reactTo settled stepOf commandDoes allowedIn readingDoes readCommand readIn commands.table fitted
-    work hearing blank eraseOf sumOfBytes fixedBits freshOptions goodOptions isFresh lastBlock optionBytes optionsIn raises released rises security badData
-    dataDoes footerOf goodData isLastPage lengthOf nextPage pageIn pageStored programPage securityData storedReply verifyPage framesOf payloads saidOf
-    goodAwaited goodBegun goodCollected goodCore goodPhase goodPlaces goodState verdictOf blankCheck blockErase checksum erasedIn forbidden programming
-    rangeBytes rateSet securityRelease verify digitsIn lastLine linesIn printed fresh hear heard holding complete counted framed full isFrame payload
-    frames framing fitting judgeOf summed less lessAll sumOf allAre putAt putOf same lowFirst numberAt blockOf blockSize described endsBlock lastOf liesIn
-    pageOf placeIn placeOf rangeOf startsBlock stretch wholeBlocks acceptsRate modeOf firstOf signature bytesRecord gapRecord recordOf recordsIn recordsOf
-    unused digitOf lineOf separator answering endedBy eventsOf goesOn nextBy playBy playOf playWith played playedInto replayOf replayedFrom whileWhole
-    _and_ _from_to_ _or_ if_then_else_
+unfolding byteIn frameDoes freshChip heardByte modeByte reactTo settled stepOf allowedIn commandDoes readingDoes work hearing blank eraseOf sumOfBytes
+    fixedBits freshOptions goodOptions isFresh lastBlock optionBytes optionsIn raises released rises security badData dataDoes footerOf goodData isLastPage
+    lengthOf nextPage pageIn pageStored programPage securityData storedReply verifyPage framesOf payloads saidOf goodAwaited goodBegun goodCollected goodCore
+    goodPhase goodPlaces goodState verdictOf blankCheck blockErase checksum erasedIn forbidden programming rangeBytes rateSet securityRelease verify digitsIn
+    lastLine linesIn printed fitted readCommand readIn table fresh hear heard holding complete counted framed full isFrame payload frames framing fitting
+    judgeOf summed less lessAll sumOf allAre putAt putOf same lowFirst numberAt blockOf blockSize described endsBlock lastOf liesIn pageOf placeIn placeOf
+    rangeOf startsBlock stretch wholeBlocks acceptsRate modeOf firstOf signature bytesRecord gapRecord recordOf recordsIn recordsOf unused digitOf lineOf
+    separator answering endedBy eventsOf goesOn nextBy playBy playOf playWith played playedInto replayOf replayedFrom whileWhole _and_ _from_to_ _or_
+    if_then_else_
 short-case = refl
 
 -- "and stops there": the gap after a bad record is not played.
@@ -89,13 +88,13 @@ pub stopped-case : printed
     (0x02 ∷ 0x00 ∷ 0x00 ∷ 0x00 ∷ 0x00 ∷ 0x00 ∷ 0x00 ∷ 0x00
     ∷ 0x00 ∷ 0x00 ∷ 0x00 ∷ 0x00 ∷ 0x00 ∷ 0x00 ∷ 0x00 ∷ 0x00 ∷ [])
     ≡ 0x42 ∷ 0x41 ∷ 0x44 ∷ 0x20 ∷ 0x30 ∷ 0x0A ∷ []
-unfolding byteIn frameDoes freshChip heardByte modeByte reactTo settled stepOf commandDoes allowedIn readingDoes readCommand readIn commands.table fitted
-    work hearing blank eraseOf sumOfBytes fixedBits freshOptions goodOptions isFresh lastBlock optionBytes optionsIn raises released rises security badData
-    dataDoes footerOf goodData isLastPage lengthOf nextPage pageIn pageStored programPage securityData storedReply verifyPage framesOf payloads saidOf
-    goodAwaited goodBegun goodCollected goodCore goodPhase goodPlaces goodState verdictOf blankCheck blockErase checksum erasedIn forbidden programming
-    rangeBytes rateSet securityRelease verify digitsIn lastLine linesIn printed fresh hear heard holding complete counted framed full isFrame payload
-    frames framing fitting judgeOf summed less lessAll sumOf allAre putAt putOf same lowFirst numberAt blockOf blockSize described endsBlock lastOf liesIn
-    pageOf placeIn placeOf rangeOf startsBlock stretch wholeBlocks acceptsRate modeOf firstOf signature bytesRecord gapRecord recordOf recordsIn recordsOf
-    unused digitOf lineOf separator answering endedBy eventsOf goesOn nextBy playBy playOf playWith played playedInto replayOf replayedFrom whileWhole
-    _and_ _from_to_ _or_ if_then_else_
+unfolding byteIn frameDoes freshChip heardByte modeByte reactTo settled stepOf allowedIn commandDoes readingDoes work hearing blank eraseOf sumOfBytes
+    fixedBits freshOptions goodOptions isFresh lastBlock optionBytes optionsIn raises released rises security badData dataDoes footerOf goodData isLastPage
+    lengthOf nextPage pageIn pageStored programPage securityData storedReply verifyPage framesOf payloads saidOf goodAwaited goodBegun goodCollected goodCore
+    goodPhase goodPlaces goodState verdictOf blankCheck blockErase checksum erasedIn forbidden programming rangeBytes rateSet securityRelease verify digitsIn
+    lastLine linesIn printed fitted readCommand readIn table fresh hear heard holding complete counted framed full isFrame payload frames framing fitting
+    judgeOf summed less lessAll sumOf allAre putAt putOf same lowFirst numberAt blockOf blockSize described endsBlock lastOf liesIn pageOf placeIn placeOf
+    rangeOf startsBlock stretch wholeBlocks acceptsRate modeOf firstOf signature bytesRecord gapRecord recordOf recordsIn recordsOf unused digitOf lineOf
+    separator answering endedBy eventsOf goesOn nextBy playBy playOf playWith played playedInto replayOf replayedFrom whileWhole _and_ _from_to_ _or_
+    if_then_else_
 stopped-case = refl

@@ -7,8 +7,7 @@ use Rattle.chip.specs.Step.{byteIn, frameDoes, heardByte, modeByte, reactTo, se
 use Rattle.chip_state.specs.Refusals.{goodAwaited, goodBegun, goodCollected, goodCore, goodPhase, goodPlaces, goodState, verdictOf}
 use Rattle.claims_stars.specs.Table.{Example, order, replyBy, table}
 use Rattle.chip_commands.specs.Commands.{allowedIn, commandDoes, readingDoes, work}
-use Rattle.commands.specs.Commands as commands
-use Rattle.commands.specs.Commands.{fitted, readCommand, readIn}
+use Rattle.commands.specs.Commands.{fitted, readCommand, readIn, table}
 use Rattle.chip_work.specs.Work.{blankCheck, blockErase, checksum, erasedIn, forbidden, programming, rangeBytes, rateSet, securityRelease, verify}
 use Rattle.chip_flash.specs.Flash.{blank, eraseOf, sumOfBytes}
 use Rattle.frame.specs.Collector.{fresh, hear, heard, holding}
@@ -29,21 +28,21 @@ use Rattle.part.specs.Signature.{signature}
 use Rattle.chip_core.specs.Hearing.{hearing}
 
 pub stars : map (λ (x : Example). x .gives) table ≡ map (λ (x : Example). x .printed) table
-unfolding answers heardBack byteIn frameDoes heardByte modeByte reactTo settled stepOf commandDoes allowedIn readingDoes readCommand readIn commands.table
-    fitted work hearing blank eraseOf sumOfBytes fixedBits freshOptions goodOptions isFresh lastBlock optionBytes optionsIn raises released rises security
-    badData dataDoes footerOf goodData isLastPage lengthOf nextPage pageIn pageStored programPage securityData storedReply verifyPage framesOf payloads
-    saidOf goodAwaited goodBegun goodCollected goodCore goodPhase goodPlaces goodState verdictOf blankCheck blockErase checksum erasedIn forbidden
-    programming rangeBytes rateSet securityRelease verify replyBy table fresh hear heard holding complete counted framed full isFrame payload frames
-    framing fitting judgeOf summed less lessAll sumOf allAre putAt putOf same lowFirst numberAt blockOf blockSize described endsBlock lastOf liesIn pageOf
-    placeIn placeOf rangeOf startsBlock stretch wholeBlocks acceptsRate modeOf firstOf signature _and_ _from_to_ _or_ if_then_else_
+unfolding answers heardBack byteIn frameDoes heardByte modeByte reactTo settled stepOf allowedIn commandDoes readingDoes work hearing blank eraseOf sumOfBytes
+    fixedBits freshOptions goodOptions isFresh lastBlock optionBytes optionsIn raises released rises security badData dataDoes footerOf goodData isLastPage
+    lengthOf nextPage pageIn pageStored programPage securityData storedReply verifyPage framesOf payloads saidOf goodAwaited goodBegun goodCollected goodCore
+    goodPhase goodPlaces goodState verdictOf blankCheck blockErase checksum erasedIn forbidden programming rangeBytes rateSet securityRelease verify replyBy
+    table fitted readCommand readIn fresh hear heard holding complete counted framed full isFrame payload frames framing fitting judgeOf summed less lessAll
+    sumOf allAre putAt putOf same lowFirst numberAt blockOf blockSize described endsBlock lastOf liesIn pageOf placeIn placeOf rangeOf startsBlock stretch
+    wholeBlocks acceptsRate modeOf firstOf signature _and_ _from_to_ _or_ if_then_else_
 stars = refl
 
 pub in-order : map (λ (x : Example). x .gives) order ≡ map (λ (x : Example). x .printed) order
-unfolding answers heardBack byteIn frameDoes heardByte modeByte reactTo settled stepOf commandDoes allowedIn readingDoes readCommand readIn commands.table
-    fitted work hearing blank eraseOf sumOfBytes fixedBits goodOptions isFresh lastBlock optionBytes optionsIn raises released rises security badData
-    dataDoes footerOf goodData isLastPage lengthOf nextPage pageIn pageStored programPage securityData storedReply verifyPage framesOf payloads saidOf
-    goodAwaited goodBegun goodCollected goodCore goodPhase goodPlaces goodState verdictOf blankCheck blockErase checksum erasedIn forbidden programming
-    rangeBytes rateSet securityRelease verify order replyBy fresh hear heard holding complete counted framed full isFrame payload frames framing fitting
-    judgeOf summed less lessAll sumOf allAre putAt putOf same lowFirst numberAt blockOf blockSize described endsBlock lastOf liesIn pageOf placeIn placeOf
-    rangeOf startsBlock stretch wholeBlocks acceptsRate modeOf firstOf signature _and_ _from_to_ _or_ if_then_else_
+unfolding answers heardBack byteIn frameDoes heardByte modeByte reactTo settled stepOf allowedIn commandDoes readingDoes work hearing blank eraseOf sumOfBytes
+    fixedBits goodOptions isFresh lastBlock optionBytes optionsIn raises released rises security badData dataDoes footerOf goodData isLastPage lengthOf
+    nextPage pageIn pageStored programPage securityData storedReply verifyPage framesOf payloads saidOf goodAwaited goodBegun goodCollected goodCore goodPhase
+    goodPlaces goodState verdictOf blankCheck blockErase checksum erasedIn forbidden programming rangeBytes rateSet securityRelease verify order replyBy
+    fitted readCommand readIn table fresh hear heard holding complete counted framed full isFrame payload frames framing fitting judgeOf summed less lessAll
+    sumOf allAre putAt putOf same lowFirst numberAt blockOf blockSize described endsBlock lastOf liesIn pageOf placeIn placeOf rangeOf startsBlock stretch
+    wholeBlocks acceptsRate modeOf firstOf signature _and_ _from_to_ _or_ if_then_else_
 in-order = refl

@@ -26,7 +26,6 @@ use Rattle.claims_noise.specs.Noise.{thenGap}
 use Rattle.claims_stars.specs.Table.{readyChip, thePart}
 use Rattle.claims_wrong.specs.Wrong.{Differs, MeetsDemand2, alwaysAcknowledges, deaf, eraseChip, kept, pageChip, resetChip, saying, says15hToAll, saysAlways, storesNothing, storesOnly, storesTheFirstPage}
 use Rattle.chip_commands.specs.Commands.{allowedIn, commandDoes, readingDoes, work}
-use Rattle.commands.specs.Commands as commands
 use Rattle.commands.specs.Commands.{fitted, readCommand, readIn}
 use Rattle.chip_work.specs.Work.{blockErase}
 use Rattle.chip_core.specs.Hearing.{hearing}
@@ -100,24 +99,24 @@ spoken o = said (o .answer)
 
 pub deaf-differs : Differs deaf
 unfolding deaf spoken stepOf settled verdictOf firstOf described _from_to_ _and_ _or_ if_then_else_ goodState goodCollected goodBegun goodCore goodOptions
-    fixedBits goodPhase lastBlock freshOptions fresh heard holding hear complete full counted isFrame reactTo byteIn hearing heardByte frameDoes
-    commandDoes judgeOf summed sumOf lessAll less placeOf liesIn placeIn blockOf pageOf blockSize saidOf framesOf framed payloads allowedIn readingDoes
-    readCommand readIn commands.table fitted work payload numberAt
+    fixedBits goodPhase lastBlock freshOptions fresh heard holding hear complete full counted isFrame reactTo byteIn hearing heardByte frameDoes commandDoes
+    judgeOf summed sumOf lessAll less placeOf liesIn placeIn blockOf pageOf blockSize saidOf framesOf framed payloads allowedIn readingDoes readCommand readIn
+    fitted work payload numberAt
 deaf-differs = record { chip = resetChip; event = Byte 0x03; apart = λ e. let z : _≡_ {A = ℕ} 0 5 = ap spoken e in omega arith }
 
 -- The status byte of a reply.
 pub says-15h-differs : Differs says15hToAll
 unfolding saysAlways saying stepOf settled verdictOf firstOf described _from_to_ _and_ _or_ if_then_else_ goodState goodCollected goodBegun goodCore
-    goodOptions fixedBits goodPhase lastBlock freshOptions fresh heard holding hear complete full counted isFrame reactTo byteIn hearing heardByte
-    frameDoes commandDoes judgeOf summed sumOf lessAll less placeOf liesIn placeIn blockOf pageOf blockSize saidOf framesOf framed payloads allowedIn
-    readingDoes readCommand readIn commands.table fitted work payload numberAt
+    goodOptions fixedBits goodPhase lastBlock freshOptions fresh heard holding hear complete full counted isFrame reactTo byteIn hearing heardByte frameDoes
+    commandDoes judgeOf summed sumOf lessAll less placeOf liesIn placeIn blockOf pageOf blockSize saidOf framesOf framed payloads allowedIn readingDoes
+    readCommand readIn fitted work payload numberAt
 says-15h-differs = record { chip = resetChip; event = Byte 0x03; apart = λ e. let z : _≡_ {A = ℕ} 0x15 0x06 = ap (λ (o : Outcome). getD (o .room) 2 0) e in omega arith }
 
 pub always-acknowledges-differs : Differs alwaysAcknowledges
 unfolding saysAlways saying stepOf settled verdictOf firstOf described _from_to_ _and_ _or_ if_then_else_ goodState goodCollected goodBegun goodCore
-    goodOptions fixedBits goodPhase lastBlock freshOptions fresh heard holding hear complete full counted isFrame reactTo byteIn hearing heardByte
-    frameDoes commandDoes judgeOf summed sumOf lessAll less placeOf liesIn placeIn blockOf pageOf blockSize saidOf framesOf framed payloads allowedIn
-    readingDoes readCommand readIn commands.table fitted work blockErase payload numberAt
+    goodOptions fixedBits goodPhase lastBlock freshOptions fresh heard holding hear complete full counted isFrame reactTo byteIn hearing heardByte frameDoes
+    commandDoes judgeOf summed sumOf lessAll less placeOf liesIn placeIn blockOf pageOf blockSize saidOf framesOf framed payloads allowedIn readingDoes
+    readCommand readIn fitted work blockErase payload numberAt
 always-acknowledges-differs = record { chip = eraseChip; event = Byte 0x03; apart = λ e. let z : _≡_ {A = ℕ} 0x06 0x05 = ap (λ (o : Outcome). getD (o .room) 2 0) e in omega arith }
 
 pub stores-nothing-differs : Differs storesNothing
