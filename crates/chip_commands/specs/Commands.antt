@@ -12,7 +12,8 @@ use Rattle.chip_reply.specs.declared.Reply.the-variants.{Security, Signature}
 use Rattle.chip_work.specs.Work.{blankCheck, blockErase, checksum, programming, rateSet, securityRelease, verify}
 use Rattle.commands.specs.Commands.{readCommand}
 use Rattle.commands.specs.declared.Command.{Command}
-use Rattle.commands.specs.declared.Command.the-variants.{BlankCheck, BlockErase, Checksum, Programming, RateSet, Reset, SecurityGet, SecurityRelease, SecuritySet, SignatureGet, Verify}
+use Rattle.commands.specs.declared.Command.the-variants.{BlankCheck, BlockErase, Checksum, Programming, RateSet, Reset, Verify}
+use Rattle.commands.specs.declared.Command.the-variants.{SecurityGet, SecurityRelease, SecuritySet, SignatureGet}
 use Rattle.commands.specs.declared.Reading.{Reading}
 use Rattle.commands.specs.declared.Reading.the-variants.{Meant, UnfitLen, Unknown}
 use Rattle.frame.specs.Frame.{payload}

@@ -61,7 +61,8 @@ fn reading_does(part: Part, core: Core, reading: Reading, code: &mut [u8], data:
 
 // What a complete command frame does.
 pub fn command(part: Part, core: Core, bytes: &[u8], code: &mut [u8], data: &mut [u8]) -> Done
-    ensures { λ r. ⌜ effect r (flash (now (code .exit)) (now («data» .exit))) ≡ commandDoes part core (now (bytes .entry)) (flash (now (code .entry)) (now («data» .entry))) ⌝ }
+    ensures { λ r. ⌜ effect r (flash (now (code .exit)) (now («data» .exit)))
+        ≡ commandDoes part core (now (bytes .entry)) (flash (now (code .entry)) (now («data» .entry))) ⌝ }
 {
     let j = frame::judgement::judge(frame::Footer::Last, bytes);
     if j.is_good() {

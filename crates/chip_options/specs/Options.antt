@@ -36,7 +36,8 @@ writeAllowed flags = eqb (flags / 16 % 2) 1
 unfoldable pub fixedBits : Part → ℕ → Bool
 fixedBits p flags = bit0 flags and eqb (flags / 8 % 2) 1 and eqb (flags / 32 % 2) 1 and eqb (flags / 64 % 2) 1 and eqb (flags / 128 % 2) 1
 
--- Options that A0h's 05h rule does not bar: "05h if bits 0, 3, 5, 6, 7 are not all 1, the last boot block is not 03h, .. or the window is reversed or past the code blocks"
+-- Options that A0h's 05h rule does not bar: "05h if bits 0, 3, 5, 6, 7 are not all 1, the last boot block is not 03h, ..
+-- or the window is reversed or past the code blocks"
 unfoldable pub goodOptions : Part → Options → Bool
 goodOptions p o = fixedBits p (o .flags) and eqb (o .boot) 0x03 and leb (o .start) (o .end) and ltb (o .end) (blocks p CodeFlash)
 

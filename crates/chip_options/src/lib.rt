@@ -1,6 +1,7 @@
 // The lasting options: flags, last boot block and window, what they allow, and which are good. Document 01, "The part" and "Commands".
 ghost use mathlib.Core.Path.{_≡_};
-ghost use Rattle.chip_options.specs.Options.{bootAllowed, eraseAllowed, writeAllowed, fixedBits, lastBlock, freshOptions, goodOptions, isFresh, rises, raises, released, optionsIn, security};
+ghost use Rattle.chip_options.specs.Options.{bootAllowed, eraseAllowed, writeAllowed, fixedBits, lastBlock, freshOptions, goodOptions};
+ghost use Rattle.chip_options.specs.Options.{isFresh, rises, raises, released, optionsIn, security};
 use part::Area;
 use part::Part;
 

@@ -4,7 +4,8 @@ use mathlib.Core.List.{List, []}
 use Prim.Native.Nat.{_+_, ℕ}
 use lib.Dec.{eqb, ltb}
 use lib.ListN.{drop, getD, take}
-use Rattle.chip_core.specs.Effect.{Effect, Flash, acknowledge, awaiting, bytesIn, effect, entered, parameterError, protectError, says, told, verifyError, withBytes, writeError}
+use Rattle.chip_core.specs.Effect.{Effect, Flash, awaiting, bytesIn, effect, entered, says, told, withBytes}
+use Rattle.chip_core.specs.Effect.{acknowledge, parameterError, protectError, verifyError, writeError}
 use Rattle.chip_core.specs.declared.Awaited.{Awaited}
 use Rattle.chip_core.specs.declared.Core.{Core}
 use Rattle.chip_core.specs.declared.Done.{Done}

@@ -7,7 +7,8 @@ ghost use Rattle.chip_flash.specs.Flash.{blank};
 ghost use Rattle.chip_options.specs.Options.{goodOptions};
 ghost use Rattle.part.specs.Part.{placeOf};
 ghost use Rattle.chip_core.specs.Effect.{flash, effect};
-ghost use Rattle.chip_pages.specs.Pages.{isLastPage, footerOf, lengthOf, pageIn, pageStored, nextPage, programPage, verifyPage, securityData, badData, goodData, dataDoes};
+ghost use Rattle.chip_pages.specs.Pages.{isLastPage, footerOf, lengthOf, pageIn, pageStored, nextPage, programPage, verifyPage};
+ghost use Rattle.chip_pages.specs.Pages.{securityData, badData, goodData, dataDoes};
 use chip_core::Awaited;
 use chip_core::Core;
 use chip_core::Done;
@@ -115,7 +116,8 @@ fn program_page(
     code: &mut [u8],
     data: &mut [u8],
 ) -> Done
-    ensures { λ r. ⌜ effect r (flash (now (code .exit)) (now («data» .exit))) ≡ programPage core w (placeOf part (w .next)) (now (bytes .entry)) (flash (now (code .entry)) (now («data» .entry))) ⌝ }
+    ensures { λ r. ⌜ effect r (flash (now (code .exit)) (now («data» .exit)))
+        ≡ programPage core w (placeOf part (w .next)) (now (bytes .entry)) (flash (now (code .entry)) (now («data» .entry))) ⌝ }
 {
     let place = part.place(w.next);
     if is_blank_page(place, code, data) {
@@ -229,7 +231,8 @@ fn good_data(
     code: &mut [u8],
     data: &mut [u8],
 ) -> Done
-    ensures { λ r. ⌜ effect r (flash (now (code .exit)) (now («data» .exit))) ≡ goodData part core w (now (bytes .entry)) (flash (now (code .entry)) (now («data» .entry))) ⌝ }
+    ensures { λ r. ⌜ effect r (flash (now (code .exit)) (now («data» .exit)))
+        ≡ goodData part core w (now (bytes .entry)) (flash (now (code .entry)) (now («data» .entry))) ⌝ }
 {
     if w.command == 0xA0 {
         return security_data(part, core, bytes);
@@ -249,7 +252,8 @@ pub fn page(
     code: &mut [u8],
     data: &mut [u8],
 ) -> Done
-    ensures { λ r. ⌜ effect r (flash (now (code .exit)) (now («data» .exit))) ≡ dataDoes part core w (now (bytes .entry)) (flash (now (code .entry)) (now («data» .entry))) ⌝ }
+    ensures { λ r. ⌜ effect r (flash (now (code .exit)) (now («data» .exit)))
+        ≡ dataDoes part core w (now (bytes .entry)) (flash (now (code .entry)) (now («data» .entry))) ⌝ }
 {
     let footer = footer_of(w);
     let j = judgement::judge_fit(footer, length_of(w), bytes);

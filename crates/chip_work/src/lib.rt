@@ -1,4 +1,5 @@
-// The work of each command of document 01, "Commands", on the chip's record and the two areas of flash: parameters before protection, then the work. Decisions on numbers come first, flash is lent late.
+// The work of each command of document 01, "Commands", on the chip's record and the two areas of flash: parameters before protection, then the work.
+// Decisions on numbers come first, flash is lent late.
 ghost use mathlib.Core.Path.{_≡_};
 ghost use Prim.Native.Nat.{_≤_, _+_};
 ghost use Rattle.part.specs.Part.{rangeOf, placeOf, blocks};
@@ -78,7 +79,8 @@ fn erase_in(area: Area, offset: usize, size: usize, code: &mut [u8], data: &mut 
 }
 
 pub fn block_erase(part: Part, core: Core, start: usize, code: &mut [u8], data: &mut [u8]) -> Done
-    ensures { λ r. ⌜ effect r (flash (now (code .exit)) (now («data» .exit))) ≡ blockErase part core (placeOf part start) (flash (now (code .entry)) (now («data» .entry))) ⌝ }
+    ensures { λ r. ⌜ effect r (flash (now (code .exit)) (now («data» .exit)))
+        ≡ blockErase part core (placeOf part start) (flash (now (code .entry)) (now («data» .entry))) ⌝ }
 {
     let place = part.place(start);
     match place {

@@ -8,11 +8,21 @@ use Rattle.chip_pages.proofs.program_page.Tie as tie
 
 returns : tie.Need-returns
 unfolding programPage storedReply if_then_else_
-returns c = simp (← c .before .before .before .before .before .before .before .before .before .before .before .before .before .before .place .ensures, ← c .before .before .before .before .before .before .before .before .before .before .before .is-blank-page .ensures, c .before .before .before .before .before .before .before .before .before .before .if1 .taken, ← c .before .before .before .before .before .before .before .store-page .ensures, ← c .before .before .next-page .ensures, ← c .before .is-last-page .ensures, c .if2 .taken)
+returns c =
+    let place = c .before .before .before .before .before .before .before .before .before .before .before .before .before .before .place in
+    let is-blank-page = c .before .before .before .before .before .before .before .before .before .before .before .is-blank-page in
+    let if1 = c .before .before .before .before .before .before .before .before .before .before .if1 in
+    let store-page = c .before .before .before .before .before .before .before .store-page in
+    simp (← place .ensures, ← is-blank-page .ensures, if1 .taken, ← store-page .ensures, ← c .before .before .next-page .ensures, ← c .before .is-last-page .ensures, c .if2 .taken)
 
 returns-2 : tie.Need-returns-2
 unfolding programPage storedReply if_then_else_
-returns-2 c = simp (← c .before .before .before .before .before .before .before .before .before .before .before .before .before .before .place .ensures, ← c .before .before .before .before .before .before .before .before .before .before .before .is-blank-page .ensures, c .before .before .before .before .before .before .before .before .before .before .if1 .taken, ← c .before .before .before .before .before .before .before .store-page .ensures, ← c .before .before .next-page .ensures, ← c .before .is-last-page .ensures, c .if2 .left)
+returns-2 c =
+    let place = c .before .before .before .before .before .before .before .before .before .before .before .before .before .before .place in
+    let is-blank-page = c .before .before .before .before .before .before .before .before .before .before .before .is-blank-page in
+    let if1 = c .before .before .before .before .before .before .before .before .before .before .if1 in
+    let store-page = c .before .before .before .before .before .before .before .store-page in
+    simp (← place .ensures, ← is-blank-page .ensures, if1 .taken, ← store-page .ensures, ← c .before .before .next-page .ensures, ← c .before .is-last-page .ensures, c .if2 .left)
 
 returns-3 : tie.Need-returns-3
 unfolding programPage storedReply if_then_else_

@@ -8,7 +8,11 @@ use Rattle.chip_pages.proofs.security_data.Tie as tie
 
 returns : tie.Need-returns
 unfolding securityData if_then_else_
-returns c = simp (← c .before .before .before .before .before .before .read .ensures, ← c .before .before .before .before .before .is-good-data .ensures, c .before .before .before .before .if1 .taken, ← c .before .before .raises .ensures, c .before .if2 .taken, c .entered .ensures)
+returns c =
+    let read = c .before .before .before .before .before .before .read in
+    let is-good-data = c .before .before .before .before .before .is-good-data in
+    let if1 = c .before .before .before .before .if1 in
+    simp (← read .ensures, ← is-good-data .ensures, if1 .taken, ← c .before .before .raises .ensures, c .before .if2 .taken, c .entered .ensures)
 
 returns-2 : tie.Need-returns-2
 unfolding securityData if_then_else_

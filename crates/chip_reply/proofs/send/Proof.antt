@@ -25,31 +25,62 @@ returns-3 c = sends _ _ _ _ _ _ _ _ (omega arith) (sym (c .before .before .befor
 
 returns-4 : tie.Need-returns-4
 unfolding payloads
-returns-4 c = sends _ _ _ _ _ _ _ _ (omega arith) (sym (c .before .before .before .before .before .before .before .before .before .is-described .ensures) ∙ not-false _ (c .before .before .before .before .before .before .before .before .if2 .left)) (c .before .before .before .before .before .before .reply .given .1) refl (c .before .before .send-one .ensures)
+returns-4 c =
+    let is-described = c .before .before .before .before .before .before .before .before .before .is-described in
+    let if2 = c .before .before .before .before .before .before .before .before .if2 in
+    let reply = c .before .before .before .before .before .before .reply in
+    sends _ _ _ _ _ _ _ _ (omega arith) (sym (is-described .ensures) ∙ not-false _ (if2 .left)) (reply .given .1) refl (c .before .before .send-one .ensures)
 
 returns-5 : tie.Need-returns-5
 unfolding payloads
-returns-5 c = sends _ _ _ _ _ _ _ _ (omega arith) (sym (c .before .before .before .before .before .before .before .before .before .before .is-described .ensures) ∙ not-false _ (c .before .before .before .before .before .before .before .before .before .if2 .left)) (c .before .before .before .before .before .before .before .reply2 .given .1) refl (c .before .before .send-one2 .ensures)
+returns-5 c =
+    let is-described = c .before .before .before .before .before .before .before .before .before .before .is-described in
+    let if2 = c .before .before .before .before .before .before .before .before .before .if2 in
+    let reply2 = c .before .before .before .before .before .before .before .reply2 in
+    sends _ _ _ _ _ _ _ _ (omega arith) (sym (is-described .ensures) ∙ not-false _ (if2 .left)) (reply2 .given .1) refl (c .before .before .send-one2 .ensures)
 
 returns-6 : tie.Need-returns-6
 unfolding payloads
-returns-6 c = sends _ _ _ _ _ _ _ _ (omega arith) (sym (c .before .before .before .before .before .before .before .before .before .is-described .ensures) ∙ not-false _ (c .before .before .before .before .before .before .before .before .if2 .left)) (c .before .before .before .before .before .before .reply3 .given .1) refl (c .before .before .send-one3 .ensures)
+returns-6 c =
+    let is-described = c .before .before .before .before .before .before .before .before .before .is-described in
+    let if2 = c .before .before .before .before .before .before .before .before .if2 in
+    let reply3 = c .before .before .before .before .before .before .reply3 in
+    sends _ _ _ _ _ _ _ _ (omega arith) (sym (is-described .ensures) ∙ not-false _ (if2 .left)) (reply3 .given .1) refl (c .before .before .send-one3 .ensures)
 
 returns-7 : tie.Need-returns-7
 unfolding payloads
-returns-7 c = sends _ _ _ _ _ _ _ _ (omega arith) (sym (c .before .before .before .before .before .before .before .before .before .is-described .ensures) ∙ not-false _ (c .before .before .before .before .before .before .before .before .if2 .left)) (c .before .before .before .before .before .before .enum-told2 .given .1) refl (c .before .before .send-two .ensures)
+returns-7 c =
+    let is-described = c .before .before .before .before .before .before .before .before .before .is-described in
+    let if2 = c .before .before .before .before .before .before .before .before .if2 in
+    let enum-told2 = c .before .before .before .before .before .before .enum-told2 in
+    sends _ _ _ _ _ _ _ _ (omega arith) (sym (is-described .ensures) ∙ not-false _ (if2 .left)) (enum-told2 .given .1) refl (c .before .before .send-two .ensures)
 
 returns-8 : tie.Need-returns-8
 unfolding payloads
-returns-8 c = sends _ _ _ _ _ _ _ _ (omega arith) (sym (c .before .before .before .before .before .before .before .before .before .before .before .is-described .ensures) ∙ not-false _ (c .before .before .before .before .before .before .before .before .before .before .if2 .left)) (c .before .before .before .before .before .before .before .before .reply4 .given .1) (rw (← c .before .before .before .before .before .before .low2 .ensures)) (c .before .before .send-two2 .ensures)
+returns-8 c =
+    let is-described = c .before .before .before .before .before .before .before .before .before .before .before .is-described in
+    let if2 = c .before .before .before .before .before .before .before .before .before .before .if2 in
+    let reply4 = c .before .before .before .before .before .before .before .before .reply4 in
+    let low2 = c .before .before .before .before .before .before .low2 in
+    sends _ _ _ _ _ _ _ _ (omega arith) (sym (is-described .ensures) ∙ not-false _ (if2 .left)) (reply4 .given .1) (rw (← low2 .ensures)) (c .before .before .send-two2 .ensures)
 
 returns-9 : tie.Need-returns-9
 unfolding payloads
-returns-9 c = sends _ _ _ _ _ _ _ _ (omega arith) (sym (c .before .before .before .before .before .before .before .before .before .before .is-described .ensures) ∙ not-false _ (c .before .before .before .before .before .before .before .before .before .if2 .left)) (c .before .before .before .before .before .before .before .enum-told3 .given .1) (rw (← c .before .before .before .before .before .before .bytes .ensures)) (c .before .before .send-two3 .ensures)
+returns-9 c =
+    let is-described = c .before .before .before .before .before .before .before .before .before .before .is-described in
+    let if2 = c .before .before .before .before .before .before .before .before .before .if2 in
+    let enum-told3 = c .before .before .before .before .before .before .before .enum-told3 in
+    let bytes = c .before .before .before .before .before .before .bytes in
+    sends _ _ _ _ _ _ _ _ (omega arith) (sym (is-described .ensures) ∙ not-false _ (if2 .left)) (enum-told3 .given .1) (rw (← bytes .ensures)) (c .before .before .send-two3 .ensures)
 
 returns-10 : tie.Need-returns-10
 unfolding payloads
-returns-10 c = sends _ _ _ _ _ _ _ _ (omega arith) (sym (c .before .before .before .before .before .before .before .before .before .before .is-described .ensures) ∙ not-false _ (c .before .before .before .before .before .before .before .before .before .if2 .left)) (c .before .before .before .before .before .before .before .enum-told4 .given .1) (rw (← c .before .before .before .before .before .before .security .ensures)) (c .before .before .send-two4 .ensures)
+returns-10 c =
+    let is-described = c .before .before .before .before .before .before .before .before .before .before .is-described in
+    let if2 = c .before .before .before .before .before .before .before .before .before .if2 in
+    let enum-told4 = c .before .before .before .before .before .before .before .enum-told4 in
+    let security = c .before .before .before .before .before .before .security in
+    sends _ _ _ _ _ _ _ _ (omega arith) (sym (is-described .ensures) ∙ not-false _ (if2 .left)) (enum-told4 .given .1) (rw (← security .ensures)) (c .before .before .send-two4 .ensures)
 
 pub send-spec : {M : Type 1} → statement M
 send-spec =

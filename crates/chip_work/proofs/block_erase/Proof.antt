@@ -13,11 +13,29 @@ rem-if1 c = positive _ _ (c .block-size .ensures)
 
 returns : tie.Need-returns
 unfolding blockErase if_then_else_
-returns c = simp (← c .before .before .before .before .before .before .before .before .before .before .before .place .ensures, c .before .before .before .before .before .before .before .before .before .place2 .given .1, ← c .before .before .before .before .before .before .before .block-size .ensures, eq-eqb _ _ (c .before .before .before .before .before .before .if1 .taken), ← c .before .before .before .before .erase-allowed .ensures, ← c .before .before .before .is-boot .ensures, ← c .before .before .boot-allowed .ensures, ← c .before .is-forbidden .ensures, c .if2 .taken)
+returns c =
+    let place = c .before .before .before .before .before .before .before .before .before .before .before .place in
+    let place2 = c .before .before .before .before .before .before .before .before .before .place2 in
+    let block-size = c .before .before .before .before .before .before .before .block-size in
+    let if1 = c .before .before .before .before .before .before .if1 in
+    let erase-allowed = c .before .before .before .before .erase-allowed in
+    let is-boot = c .before .before .before .is-boot in
+    simp (← place .ensures, place2 .given .1, ← block-size .ensures, eq-eqb _ _ (if1 .taken), ← erase-allowed .ensures, ← is-boot .ensures, ← c .before .before .boot-allowed .ensures, ← c .before .is-forbidden .ensures, c .if2 .taken)
 
 returns-2 : tie.Need-returns-2
 unfolding blockErase if_then_else_
-returns-2 c = simp (← c .before .before .before .before .before .before .before .before .before .before .before .before .before .before .before .before .before .before .place .ensures, c .before .before .before .before .before .before .before .before .before .before .before .before .before .before .before .before .place2 .given .1, ← c .before .before .before .before .before .before .before .before .before .before .before .before .before .before .block-size .ensures, eq-eqb _ _ (c .before .before .before .before .before .before .before .before .before .before .before .before .before .if1 .taken), ← c .before .before .before .before .before .before .before .before .before .before .before .erase-allowed .ensures, ← c .before .before .before .before .before .before .before .before .before .before .is-boot .ensures, ← c .before .before .before .before .before .before .before .before .before .boot-allowed .ensures, ← c .before .before .before .before .before .before .before .before .is-forbidden .ensures, c .before .before .before .before .before .before .before .if2 .left, ← c .before .before .before .before .erase-in .ensures)
+returns-2 c =
+    let place = c .before .before .before .before .before .before .before .before .before .before .before .before .before .before .before .before .before .before .place in
+    let place2 = c .before .before .before .before .before .before .before .before .before .before .before .before .before .before .before .before .place2 in
+    let block-size = c .before .before .before .before .before .before .before .before .before .before .before .before .before .before .block-size in
+    let if1 = c .before .before .before .before .before .before .before .before .before .before .before .before .before .if1 in
+    let erase-allowed = c .before .before .before .before .before .before .before .before .before .before .before .erase-allowed in
+    let is-boot = c .before .before .before .before .before .before .before .before .before .before .is-boot in
+    let boot-allowed = c .before .before .before .before .before .before .before .before .before .boot-allowed in
+    let is-forbidden = c .before .before .before .before .before .before .before .before .is-forbidden in
+    let if2 = c .before .before .before .before .before .before .before .if2 in
+    let erase-in = c .before .before .before .before .erase-in in
+    simp (← place .ensures, place2 .given .1, ← block-size .ensures, eq-eqb _ _ (if1 .taken), ← erase-allowed .ensures, ← is-boot .ensures, ← boot-allowed .ensures, ← is-forbidden .ensures, if2 .left, ← erase-in .ensures)
 
 returns-3 : tie.Need-returns-3
 unfolding blockErase if_then_else_

@@ -8,16 +8,24 @@ use Rattle.chip_work.proofs.range_bytes.Statement.{statement}
 use Rattle.chip_work.proofs.range_bytes.Tie as tie
 
 mul-span : tie.Need-mul-span
-mul-span c = omega (arith, counts (c .before .before .before .before .before .args .part) (c .before .before .before .before .before .args .area) (c .before .before .before .before .before .args .block) _ (c .before .before .block-size .ensures) (omega arith) (search needs) (search needs))
+mul-span c =
+    let args = c .before .before .before .before .before .args in
+    omega (arith, counts (args .part) (args .area) (args .block) _ (c .before .before .block-size .ensures) (omega arith) (search needs) (search needs))
 
 mul-span-2 : tie.Need-mul-span-2
-mul-span-2 c = omega (arith, counts (c .before .before .before .before .before .args .part) (c .before .before .before .before .before .args .area) (c .before .before .before .before .before .args .count) _ (c .before .before .block-size .ensures) (omega arith) (search needs) (search needs))
+mul-span-2 c =
+    let args = c .before .before .before .before .before .args in
+    omega (arith, counts (args .part) (args .area) (args .count) _ (c .before .before .block-size .ensures) (omega arith) (search needs) (search needs))
 
 mul-span-3 : tie.Need-mul-span-3
-mul-span-3 c = omega (arith, counts (c .before .before .before .before .before .args .part) (c .before .before .before .before .before .args .area) (c .before .before .before .before .before .args .block) _ (c .before .before .block-size .ensures) (omega arith) (search needs) (search needs))
+mul-span-3 c =
+    let args = c .before .before .before .before .before .args in
+    omega (arith, counts (args .part) (args .area) (args .block) _ (c .before .before .block-size .ensures) (omega arith) (search needs) (search needs))
 
 mul-span-4 : tie.Need-mul-span-4
-mul-span-4 c = omega (arith, counts (c .before .before .before .before .before .args .part) (c .before .before .before .before .before .args .area) (c .before .before .before .before .before .args .count) _ (c .before .before .block-size .ensures) (omega arith) (search needs) (search needs))
+mul-span-4 c =
+    let args = c .before .before .before .before .before .args in
+    omega (arith, counts (args .part) (args .area) (args .count) _ (c .before .before .block-size .ensures) (omega arith) (search needs) (search needs))
 
 returns : tie.Need-returns
 returns c = c .span .ensures ∙ range-in-code _ _ _ _ _ _ _ (c .before .enum-told .given .1) (c .before .before .before .block-size .ensures)

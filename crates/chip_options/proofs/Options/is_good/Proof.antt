@@ -9,7 +9,11 @@ use Rattle.chip_options.proofs.Options.is_good.Tie as tie
 
 returns : tie.Need-returns
 unfolding goodOptions _and_
-returns c = simp (← c .before .before .before .before .before .before .before .fixed-bits .ensures, c .before .before .before .before .before .before .if1 .taken, eq-eqb _ _ (c .before .before .before .before .if2 .taken), le-leb _ _ (c .before .before .if3 .taken), ← c .blocks2 .ensures)
+returns c =
+    let fixed-bits = c .before .before .before .before .before .before .before .fixed-bits in
+    let if1 = c .before .before .before .before .before .before .if1 in
+    let if2 = c .before .before .before .before .if2 in
+    simp (← fixed-bits .ensures, if1 .taken, eq-eqb _ _ (if2 .taken), le-leb _ _ (c .before .before .if3 .taken), ← c .blocks2 .ensures)
 
 returns-2 : tie.Need-returns-2
 unfolding goodOptions _and_
