@@ -165,5 +165,5 @@ module _ (p : Part) (k : Core) (part : described p ≡ true) (good : GoodCore p 
     unfolding dataDoes goodData
     data-keeps f m =
         if-all (Keeps p m) _ (λ t. done-keeps m (bad-keeps _))
-        (λ t. if-all (Keeps p m) _ (λ u. done-keeps m (secures f))
+        (λ t. if-all (Keeps p m) _ (λ u. done-keeps m (secures _))
         (λ u. if-all (Keeps p m) _ (λ v. programs u _ _ m) (λ v. done-keeps m (compares u _ _ m))))
