@@ -22,7 +22,8 @@ fn steps(
     data: &mut [u8],
     room: &mut [u8],
 ) -> Step
-    ensures { λ r. ⌜ outcome r (flash (now (code .exit)) (now («data» .exit))) (now (room .exit)) ≡ run part (map Byte (now (bytes .entry))) (before chip (flash (now (code .entry)) (now («data» .entry))) (now (room .entry))) ⌝ }
+    ensures { λ r. ⌜ outcome r (flash (now (code .exit)) (now («data» .exit))) (now (room .exit))
+        ≡ run part (map Byte (now (bytes .entry))) (before chip (flash (now (code .entry)) (now («data» .entry))) (now (room .entry))) ⌝ }
 {
     let mut last = Step {
         answer: Answer::Replied {
@@ -53,7 +54,9 @@ pub extern "C" fn zp_steps(
     data: &mut [u8],
     room: &mut [u8],
 ) -> usize
-    ensures { λ r. ⌜ paced r (flash (now (code .exit)) (now («data» .exit))) (now (room .exit)) ≡ pacedOf (partOf «code_blocks» «data_blocks» clock (now (names .entry))) (now (bytes .entry)) (flash (now (code .entry)) (now («data» .entry))) (now (room .entry)) ⌝ }
+    ensures { λ r. ⌜ paced r (flash (now (code .exit)) (now («data» .exit))) (now (room .exit))
+        ≡ pacedOf (partOf «code_blocks» «data_blocks» clock (now (names .entry))) (now (bytes .entry)) (flash (now (code .entry)) (now («data» .entry)))
+        (now (room .entry)) ⌝ }
 {
     let part = part::crossing::part_of(code_blocks, data_blocks, clock, names);
     let first = events::fresh(part);

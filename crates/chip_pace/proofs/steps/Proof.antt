@@ -29,13 +29,16 @@ loop-holds : tie.Need-loop-holds Inv-loop μ-loop
 loop-holds c = (omega arith, refl, refl, refl, stepped-start _ _ _)
 
 loop-again : tie.Need-loop-again Inv-loop μ-loop
-loop-again c = (
-  omega (arith, c .before .before .before .before .before .before .before .before .before .before .before .before .loop-test .taken),
-  c .before .before .before .before .before .before .step .kept .1 .1 .1 .0 ∙ c .before .before .before .before .before .before .before .before .before .before .before .before .before .loop .inv .1,
-  c .before .before .before .before .before .before .step .kept .1 .1 .1 .1 .0 ∙ c .before .before .before .before .before .before .before .before .before .before .before .before .before .loop .inv .2,
-  c .before .before .before .before .before .before .step .kept .1 .1 .1 .1 .1 .0 ∙ c .before .before .before .before .before .before .before .before .before .before .before .before .before .loop .inv .3,
-  stepped-turn (c .before .before .before .before .before .before .before .before .before .before .before .before .before .loop .inv .4) (c .before .before .before .before .before .before .step .ensures) (c .before .before .before .before .before .before .before .before .before .before .before .before .loop-test .taken),
-)
+loop-again c =
+    let loop = c .before .before .before .before .before .before .before .before .before .before .before .before .before .loop in
+    let loop-test = c .before .before .before .before .before .before .before .before .before .before .before .before .loop-test in
+    let step = c .before .before .before .before .before .before .step in (
+      omega (arith, loop-test .taken),
+      step .kept .1 .1 .1 .0 ∙ loop .inv .1,
+      step .kept .1 .1 .1 .1 .0 ∙ loop .inv .2,
+      step .kept .1 .1 .1 .1 .1 .0 ∙ loop .inv .3,
+      stepped-turn (loop .inv .4) (step .ensures) (loop-test .taken),
+    )
 
 returns : tie.Need-returns Inv-loop μ-loop
 returns c = stepped-end (c .before .loop .inv .4) (c .loop-test .left)

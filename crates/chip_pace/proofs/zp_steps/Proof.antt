@@ -7,7 +7,11 @@ use Rattle.chip_pace.proofs.zp_steps.Tie as tie
 
 returns : tie.Need-returns
 unfolding pacedOf
-returns c = simp (← c .before .before .before .before .before .before .before .before .before .before .before .before .before .part-of .ensures, ← c .before .before .before .before .before .before .before .before .before .before .before .before .fresh .ensures, ← c .before .before .before .before .before .before .before .before .steps .ensures)
+returns c =
+    let part-of = c .before .before .before .before .before .before .before .before .before .before .before .before .before .part-of in
+    let fresh = c .before .before .before .before .before .before .before .before .before .before .before .before .fresh in
+    let steps = c .before .before .before .before .before .before .before .before .steps in
+    simp (← part-of .ensures, ← fresh .ensures, ← steps .ensures)
 
 pub zp-steps-spec : {M : Type 1} → statement M
 zp-steps-spec =
