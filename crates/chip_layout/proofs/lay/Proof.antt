@@ -11,10 +11,29 @@ bytes-long : (c : tie.Start) → length (c .args .chip .collector .bytes) ≡ 26
 bytes-long c = search needs
 
 slice-aggregate-put-5 : tie.Need-slice-aggregate-put-5
-slice-aggregate-put-5 c = sym (bytes-long (c .before .before .before .before .before .before .before .before .before .before .before .before .before .before .before .before .before .before .before .before .before .before .before .before .before .before .before .before .before .before .before .before .before))
+slice-aggregate-put-5 c =
+    let far = c .before .before .before .before .before .before .before .before .before .before .before .before .before .before .before .before .before .before .before .before in
+    let start = far .before .before .before .before .before .before .before .before .before .before .before .before .before in
+    sym (bytes-long start)
 
 returns : tie.Need-returns
-returns c = layout-is (c .before .before .before .before .before .before .before .before .before .before .before .before .before .before .before .before .before .before .before .before .before .before .before .before .before .before .before .before .before .before .before .before .before .before .before .before .args .chip) _ _ _ _ _ _ _ _ _ _ _ _ _ _ _ _ _ (c .before .before .before .before .before .before .before .before .before .before .before .before .before .before .before .before .before .before .before .before .before .before .put .ensures) (c .before .before .before .before .before .before .before .before .before .before .before .before .before .before .before .before .before .put2 .ensures) (c .before .before .before .before .before .before .before .before .before .before .before .before .put3 .ensures) (c .before .before .before .before .before .before .before .put4 .ensures) (c .before .before .put5 .ensures) (c .before .before .before .before .before .before .before .before .before .before .before .before .before .before .before .before .before .before .before .before .before .before .before .before .before .before .before .before .before .before .before .before .awaited-of .ensures) (c .before .before .before .before .before .before .before .before .before .before .before .before .before .before .before .before .before .before .before .before .before .before .before .before .before .before .before .before .before .before .phase-number .ensures) (c .before .before .before .before .before .before .before .before .before .before .before .before .before .before .before .before .before .before .before .before .before .before .before .before .before .before .before .before .before .head .ensures) (c .before .before .before .before .before .before .before .before .before .before .before .before .before .before .before .before .before .before .before .before .before .before .before .before .before .before .before .before .low8 .ensures) (c .before .before .before .before .before .before .before .before .before .before .before .before .before .before .before .before .before .before .before .before .before .before .before .before .before .before .before .low82 .ensures) (c .before .before .before .before .before .before .before .before .before .before .before .before .before .before .before .before .before .before .before .before .before .before .before .before .before .before .low83 .ensures) (c .before .before .before .before .before .before .before .before .before .before .before .before .before .before .before .before .before .before .before .before .before .before .before .before .before .before .before .before .before .before .before .before .before .before .before .before .pre) (bytes-long (c .before .before .before .before .before .before .before .before .before .before .before .before .before .before .before .before .before .before .before .before .before .before .before .before .before .before .before .before .before .before .before .before .before .before .before .before))
+returns c =
+    let far = c .before .before .before .before .before .before .before .before .before .before .before .before .before .before .before .before .before .before .before .before in
+    let args = far .before .before .before .before .before .before .before .before .before .before .before .before .before .before .before .before .args in
+    let pre = far .before .before .before .before .before .before .before .before .before .before .before .before .before .before .before .before .pre in
+    let start = far .before .before .before .before .before .before .before .before .before .before .before .before .before .before .before .before in
+    let awaited-of = far .before .before .before .before .before .before .before .before .before .before .before .before .awaited-of in
+    let phase-number = far .before .before .before .before .before .before .before .before .before .before .phase-number in
+    let head = far .before .before .before .before .before .before .before .before .before .head in
+    let low8 = far .before .before .before .before .before .before .before .before .low8 in
+    let low82 = far .before .before .before .before .before .before .before .low82 in
+    let low83 = far .before .before .before .before .before .before .low83 in
+    let put = far .before .before .put in
+    let put2 = c .before .before .before .before .before .before .before .before .before .before .before .before .before .before .before .before .before .put2 in
+    let put3 = c .before .before .before .before .before .before .before .before .before .before .before .before .put3 in
+    let put4 = c .before .before .before .before .before .before .before .put4 in
+    layout-is (args .chip) _ _ _ _ _ _ _ _ _ _ _ _ _ _ _ _ _ (put .ensures) (put2 .ensures) (put3 .ensures) (put4 .ensures) (c .before .before .put5 .ensures) (awaited-of .ensures) (phase-number .ensures) (head .ensures) (low8 .ensures)
+    (low82 .ensures) (low83 .ensures) pre (bytes-long start)
 
 pub lay-spec : {M : Type 1} → statement M
 lay-spec =

@@ -11,4 +11,4 @@ returns c = c .two .ensures ∙ number-two _ _ _ _ refl refl
 
 pub number2-spec : {M : Type 1} → statement M
 number2-spec =
-    tie.close (tie.spec (λ c. search needs) (λ c. search needs) (λ c. search needs) (λ c κs. search needs) returns)
+    tie.close (tie.spec (λ c. search needs) (λ c. search needs) (λ c. search needs) (λ c κs. search needs) (λ c. search needs) returns)
