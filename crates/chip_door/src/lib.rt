@@ -90,7 +90,9 @@ fn step(
     bytes: &mut usize,
     frames: &mut usize,
 ) -> u32
-    ensures { λ r. ⌜ stepTold r (now (bytes .exit)) (now (frames .exit)) (now (state .exit)) (flash (now (code .exit)) (now («data» .exit))) (now (room .exit)) ≡ steppedThrough (partOf «code_blocks» «data_blocks» clock (now (names .entry))) event (now (state .entry)) (flash (now (code .entry)) (now («data» .entry))) (now (room .entry)) ⌝ }
+    ensures { λ r. ⌜ stepTold r (now (bytes .exit)) (now (frames .exit)) (now (state .exit)) (flash (now (code .exit)) (now («data» .exit))) (now (room .exit))
+        ≡ steppedThrough (partOf «code_blocks» «data_blocks» clock (now (names .entry))) event (now (state .entry))
+        (flash (now (code .entry)) (now («data» .entry))) (now (room .entry)) ⌝ }
 {
     let part = part::crossing::part_of(code_blocks, data_blocks, clock, names);
     let v = admission::chip_admission(part, state, code.len(), data.len());
@@ -127,7 +129,9 @@ pub extern "C" fn zc_byte(
     bytes: &mut usize,
     frames: &mut usize,
 ) -> u32
-    ensures { λ r. ⌜ stepTold r (now (bytes .exit)) (now (frames .exit)) (now (state .exit)) (flash (now (code .exit)) (now («data» .exit))) (now (room .exit)) ≡ steppedThrough (partOf «code_blocks» «data_blocks» clock (now (names .entry))) (Byte b) (now (state .entry)) (flash (now (code .entry)) (now («data» .entry))) (now (room .entry)) ⌝ }
+    ensures { λ r. ⌜ stepTold r (now (bytes .exit)) (now (frames .exit)) (now (state .exit)) (flash (now (code .exit)) (now («data» .exit))) (now (room .exit))
+        ≡ steppedThrough (partOf «code_blocks» «data_blocks» clock (now (names .entry))) (Byte b) (now (state .entry))
+        (flash (now (code .entry)) (now («data» .entry))) (now (room .entry)) ⌝ }
 {
     step(
         code_blocks,
@@ -158,7 +162,9 @@ pub extern "C" fn zc_gap(
     bytes: &mut usize,
     frames: &mut usize,
 ) -> u32
-    ensures { λ r. ⌜ stepTold r (now (bytes .exit)) (now (frames .exit)) (now (state .exit)) (flash (now (code .exit)) (now («data» .exit))) (now (room .exit)) ≡ steppedThrough (partOf «code_blocks» «data_blocks» clock (now (names .entry))) Gap (now (state .entry)) (flash (now (code .entry)) (now («data» .entry))) (now (room .entry)) ⌝ }
+    ensures { λ r. ⌜ stepTold r (now (bytes .exit)) (now (frames .exit)) (now (state .exit)) (flash (now (code .exit)) (now («data» .exit))) (now (room .exit))
+        ≡ steppedThrough (partOf «code_blocks» «data_blocks» clock (now (names .entry))) Gap (now (state .entry)) (flash (now (code .entry)) (now («data» .entry)))
+        (now (room .entry)) ⌝ }
 {
     step(
         code_blocks,
@@ -189,7 +195,9 @@ pub extern "C" fn zc_power_on(
     bytes: &mut usize,
     frames: &mut usize,
 ) -> u32
-    ensures { λ r. ⌜ stepTold r (now (bytes .exit)) (now (frames .exit)) (now (state .exit)) (flash (now (code .exit)) (now («data» .exit))) (now (room .exit)) ≡ steppedThrough (partOf «code_blocks» «data_blocks» clock (now (names .entry))) PowerOn (now (state .entry)) (flash (now (code .entry)) (now («data» .entry))) (now (room .entry)) ⌝ }
+    ensures { λ r. ⌜ stepTold r (now (bytes .exit)) (now (frames .exit)) (now (state .exit)) (flash (now (code .exit)) (now («data» .exit))) (now (room .exit))
+        ≡ steppedThrough (partOf «code_blocks» «data_blocks» clock (now (names .entry))) PowerOn (now (state .entry))
+        (flash (now (code .entry)) (now («data» .entry))) (now (room .entry)) ⌝ }
 {
     step(
         code_blocks,
@@ -222,7 +230,10 @@ pub extern "C" fn zc_feed(
     bytes: &mut usize,
     frames: &mut usize,
 ) -> u32
-    ensures { λ r. ⌜ feedTold r (now (taken .exit)) (now (bytes .exit)) (now (frames .exit)) (now (state .exit)) (flash (now (code .exit)) (now («data» .exit))) (now (room .exit)) ≡ fedThrough (partOf «code_blocks» «data_blocks» clock (now (names .entry))) (now (fed .entry)) (now (state .entry)) (flash (now (code .entry)) (now («data» .entry))) (now (room .entry)) ⌝ }
+    ensures { λ r. ⌜ feedTold r (now (taken .exit)) (now (bytes .exit)) (now (frames .exit)) (now (state .exit)) (flash (now (code .exit)) (now («data» .exit)))
+        (now (room .exit))
+        ≡ fedThrough (partOf «code_blocks» «data_blocks» clock (now (names .entry))) (now (fed .entry)) (now (state .entry))
+        (flash (now (code .entry)) (now («data» .entry))) (now (room .entry)) ⌝ }
 {
     let part = part::crossing::part_of(code_blocks, data_blocks, clock, names);
     let v = admission::chip_acceptance(part, state, code.len(), data.len(), room.len());

@@ -11,7 +11,14 @@ returns c = simp (← c .before .before .before .before .before .before .part-of
 
 returns-2 : tie.Need-returns-2
 unfolding steppedThrough steppedBy
-returns-2 c = simp (← c .before .before .before .before .before .before .before .before .before .before .before .before .before .before .before .before .before .before .before .before .before .before .before .part-of .ensures, ← c .before .before .before .before .before .before .before .before .before .before .before .before .before .before .before .before .before .before .before .before .before .chip-admission .ensures, c .before .before .before .before .before .before .before .before .before .before .before .before .before .before .before .before .before .before .before .enum-told .given .1, ← c .before .before .before .before .before .before .before .before .before .before .before .before .before .before .before .before .before .chip-in .ensures, ← c .before .before .before .before .before .before .before .before .before .before .before .before .before .step .ensures, ← c .before .before .before .before .before .lay-chip .ensures, ← c .before .before .bytes-told .ensures, ← c .before .frames-told .ensures, ← c .answer-number .ensures)
+returns-2 c =
+    let part-of = c .before .before .before .before .before .before .before .before .before .before .before .before .before .before .before .before .before .before .before .before .before .before .before .part-of in
+    let chip-admission = c .before .before .before .before .before .before .before .before .before .before .before .before .before .before .before .before .before .before .before .before .before .chip-admission in
+    let enum-told = c .before .before .before .before .before .before .before .before .before .before .before .before .before .before .before .before .before .before .before .enum-told in
+    let chip-in = c .before .before .before .before .before .before .before .before .before .before .before .before .before .before .before .before .before .chip-in in
+    let step = c .before .before .before .before .before .before .before .before .before .before .before .before .before .step in
+    let lay-chip = c .before .before .before .before .before .lay-chip in
+    simp (← part-of .ensures, ← chip-admission .ensures, enum-told .given .1, ← chip-in .ensures, ← step .ensures, ← lay-chip .ensures, ← c .before .before .bytes-told .ensures, ← c .before .frames-told .ensures, ← c .answer-number .ensures)
 
 pub step-spec : {M : Type 1} → statement M
 step-spec =

@@ -11,7 +11,14 @@ returns c = simp (← c .before .before .before .before .before .before .part-of
 
 returns-2 : tie.Need-returns-2
 unfolding fedThrough fedBy
-returns-2 c = simp (← c .before .before .before .before .before .before .before .before .before .before .before .before .before .before .before .before .before .before .before .before .before .before .before .part-of .ensures, ← c .before .before .before .before .before .before .before .before .before .before .before .before .before .before .before .before .before .before .before .before .before .chip-acceptance .ensures, c .before .before .before .before .before .before .before .before .before .before .before .before .before .before .before .before .before .before .before .enum-told .given .1, ← c .before .before .before .before .before .before .before .before .before .before .before .before .before .before .before .before .before .chip-in .ensures, ← c .before .before .before .before .before .before .before .before .before .before .before .before .before .feed .ensures, ← c .before .before .before .before .before .lay-chip .ensures, ← c .before .before .bytes-told .ensures, ← c .before .frames-told .ensures, ← c .answer-number .ensures)
+returns-2 c =
+    let part-of = c .before .before .before .before .before .before .before .before .before .before .before .before .before .before .before .before .before .before .before .before .before .before .before .part-of in
+    let chip-acceptance = c .before .before .before .before .before .before .before .before .before .before .before .before .before .before .before .before .before .before .before .before .before .chip-acceptance in
+    let enum-told = c .before .before .before .before .before .before .before .before .before .before .before .before .before .before .before .before .before .before .before .enum-told in
+    let chip-in = c .before .before .before .before .before .before .before .before .before .before .before .before .before .before .before .before .before .chip-in in
+    let feed = c .before .before .before .before .before .before .before .before .before .before .before .before .before .feed in
+    let lay-chip = c .before .before .before .before .before .lay-chip in
+    simp (← part-of .ensures, ← chip-acceptance .ensures, enum-told .given .1, ← chip-in .ensures, ← feed .ensures, ← lay-chip .ensures, ← c .before .before .bytes-told .ensures, ← c .before .frames-told .ensures, ← c .answer-number .ensures)
 
 pub zc-feed-spec : {M : Type 1} → statement M
 zc-feed-spec =

@@ -9,7 +9,12 @@ use Rattle.chip_door.proofs.zc_fresh.Tie as tie
 
 returns : tie.Need-returns
 unfolding freshThrough madeBy if_then_else_
-returns c = simp (← c .before .before .before .before .before .before .before .before .before .part-of .ensures, ← c .before .before .before .before .before .before .before .before .fresh .ensures, c .before .before .before .before .before .before .answer .given .1, eq-eqb _ _ (c .before .before .before .before .if1 .taken), ← c .before .before .lay-chip .ensures)
+returns c =
+    let part-of = c .before .before .before .before .before .before .before .before .before .part-of in
+    let fresh = c .before .before .before .before .before .before .before .before .fresh in
+    let answer = c .before .before .before .before .before .before .answer in
+    let if1 = c .before .before .before .before .if1 in
+    simp (← part-of .ensures, ← fresh .ensures, answer .given .1, eq-eqb _ _ (if1 .taken), ← c .before .before .lay-chip .ensures)
 
 returns-2 : tie.Need-returns-2
 unfolding freshThrough madeBy if_then_else_
