@@ -32,7 +32,8 @@ pub record ReplayTold : Type 0 where
   pub output : List ℕ
 
 abbrev pub replayTold : ℕ → ℕ → ℕ → ℕ → List ℕ → Flash → List ℕ → List ℕ → ReplayTold
-replayTold n records bytes frames state m room output = record { refusal = n; records = records; bytes = bytes; frames = frames; state = state; memory = m; room = room; output = output }
+replayTold n records bytes frames state m room output =
+    record { refusal = n; records = records; bytes = bytes; frames = frames; state = state; memory = m; room = room; output = output }
 
 unfoldable pub replayedBy : Verdict → Part → List ℕ → List ℕ → Flash → List ℕ → List ℕ → ReplayTold
 replayedBy (Verdict.Refused r) p capture state m room output = replayTold (number r) 0 0 0 state m room output

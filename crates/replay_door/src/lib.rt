@@ -32,7 +32,10 @@ fn play(
     bytes: &mut usize,
     frames: &mut usize,
 ) -> u32
-    ensures { λ r. ⌜ replayTold r (now (played .exit)) (now (bytes .exit)) (now (frames .exit)) (now (state .exit)) (flash (now (code .exit)) (now («data» .exit))) (now (room .exit)) (now (output .exit)) ≡ replayedBy Accepted part (now (capture .entry)) (now (state .entry)) (flash (now (code .entry)) (now («data» .entry))) (now (room .entry)) (now (output .entry)) ⌝ }
+    ensures { λ r. ⌜ replayTold r (now (played .exit)) (now (bytes .exit)) (now (frames .exit)) (now (state .exit)) (flash (now (code .exit)) (now («data» .exit)))
+        (now (room .exit)) (now (output .exit))
+        ≡ replayedBy Accepted part (now (capture .entry)) (now (state .entry)) (flash (now (code .entry)) (now («data» .entry))) (now (room .entry))
+        (now (output .entry)) ⌝ }
 {
     let chip = chip_layout::chip_in(state);
     let x = replay_records::replay(part, chip, capture, code, data, room, output);
@@ -61,7 +64,10 @@ pub extern "C" fn zc_replay(
     bytes: &mut usize,
     frames: &mut usize,
 ) -> u32
-    ensures { λ r. ⌜ replayTold r (now (played .exit)) (now (bytes .exit)) (now (frames .exit)) (now (state .exit)) (flash (now (code .exit)) (now («data» .exit))) (now (room .exit)) (now (output .exit)) ≡ replayedThrough (partOf «code_blocks» «data_blocks» clock (now (names .entry))) (now (capture .entry)) (now (state .entry)) (flash (now (code .entry)) (now («data» .entry))) (now (room .entry)) (now (output .entry)) ⌝ }
+    ensures { λ r. ⌜ replayTold r (now (played .exit)) (now (bytes .exit)) (now (frames .exit)) (now (state .exit)) (flash (now (code .exit)) (now («data» .exit)))
+        (now (room .exit)) (now (output .exit))
+        ≡ replayedThrough (partOf «code_blocks» «data_blocks» clock (now (names .entry))) (now (capture .entry)) (now (state .entry))
+        (flash (now (code .entry)) (now («data» .entry))) (now (room .entry)) (now (output .entry)) ⌝ }
 {
     let part = part::crossing::part_of(code_blocks, data_blocks, clock, names);
     let v = admission::chip_acceptance(part, state, code.len(), data.len(), room.len());

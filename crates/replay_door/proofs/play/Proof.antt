@@ -7,7 +7,11 @@ use Rattle.replay_door.proofs.play.Tie as tie
 
 returns : tie.Need-returns
 unfolding replayedBy
-returns c = simp (← c .before .before .before .before .before .before .before .before .before .before .before .before .before .before .before .before .before .before .chip-in .ensures, ← c .before .before .before .before .before .before .before .before .before .before .before .before .before .replay .ensures, ← c .before .before .before .lay-chip .ensures, ← c .end-number .ensures)
+returns c =
+    let chip-in = c .before .before .before .before .before .before .before .before .before .before .before .before .before .before .before .before .before .before .chip-in in
+    let replay = c .before .before .before .before .before .before .before .before .before .before .before .before .before .replay in
+    let lay-chip = c .before .before .before .lay-chip in
+    simp (← chip-in .ensures, ← replay .ensures, ← lay-chip .ensures, ← c .end-number .ensures)
 
 pub play-spec : {M : Type 1} → statement M
 play-spec =

@@ -11,7 +11,12 @@ returns c = simp (← c .before .before .before .before .before .before .part-of
 
 returns-2 : tie.Need-returns-2
 unfolding replayedThrough
-returns-2 c = simp (← c .before .before .before .before .before .before .before .before .before .before .before .before .before .before .before .before .before .before .before .before .before .before .before .part-of .ensures, ← c .before .before .before .before .before .before .before .before .before .before .before .before .before .before .before .before .before .before .before .before .before .chip-acceptance .ensures, c .before .before .before .before .before .before .before .before .before .before .before .before .before .before .before .before .before .before .before .enum-told .given .1, ← c .before .before .before .before .before .before .before .before .before .before .play .ensures)
+returns-2 c =
+    let part-of = c .before .before .before .before .before .before .before .before .before .before .before .before .before .before .before .before .before .before .before .before .before .before .before .part-of in
+    let chip-acceptance = c .before .before .before .before .before .before .before .before .before .before .before .before .before .before .before .before .before .before .before .before .before .chip-acceptance in
+    let enum-told = c .before .before .before .before .before .before .before .before .before .before .before .before .before .before .before .before .before .before .before .enum-told in
+    let play = c .before .before .before .before .before .before .before .before .before .before .play in
+    simp (← part-of .ensures, ← chip-acceptance .ensures, enum-told .given .1, ← play .ensures)
 
 pub zc-replay-spec : {M : Type 1} → statement M
 zc-replay-spec =
