@@ -10,7 +10,7 @@ use lib.Dec.{eqb}
 use lib.ListN.{drop, drop-of-length-le, getD, length}
 use lib.Seq.{drop-cons}
 use borrow.Author.Tests.{eq-eqb, ne-eqb}
-use Rattle.chip.specs.Run.{Feeding, Spoken, answers, fedOn, feedFrom, feedOf, feeding, onward, run, spokenIn}
+use Rattle.chip.specs.Run.{Feeding, fedOn, feedFrom, feedOf, feeding, onward, run}
 use Rattle.chip.specs.Step.{Outcome, stepOf}
 use Rattle.chip.specs.declared.Answer.{Answer}
 use Rattle.chip.specs.declared.Answer.the-variants.{Refused, Replied}
@@ -24,11 +24,6 @@ pub run-append : (p : Part) (us vs : List Event) (o : Outcome) → run p (us ++ 
 unfolding run
 run-append p [] vs o = refl
 run-append p (u ∷ us) vs o = run-append p us vs (onward p o u)
-
-pub answers-append : (p : Part) (us vs : List Event) (o : Outcome) → answers p (us ++ vs) o ≡ answers p us o ++ answers p vs (run p us o)
-unfolding run answers
-answers-append p [] vs o = refl
-answers-append p (u ∷ us) vs o = ap (λ (xs : List Spoken). spokenIn (onward p o u) ∷ xs) (answers-append p us vs (onward p o u))
 
 -- How far a loop over bytes has come: t is what the bytes still to come make of o.
 pub record FedFrom (p : Part) (bs : List ℕ) (i : ℕ) (o : Outcome) (t : Feeding) : Type 0 where
