@@ -8,7 +8,7 @@ use Rattle.chip.specs.Step.{byteIn, frameDoes, freshChip, heardByte, modeByte, 
 use Rattle.chip_state.specs.Refusals.{goodAwaited, goodBegun, goodCollected, goodCore, goodPhase, goodPlaces, goodState, verdictOf}
 use Rattle.claims_replay.specs.Printed.{digitsIn, lastLine, linesIn, printed}
 use Rattle.chip_commands.specs.Commands.{allowedIn, commandDoes, readingDoes, work}
-use Rattle.commands.specs.Commands.{fitted, readCommand, readIn, table}
+use Rattle.commands.specs.Commands.{commandTable, fitted, readCommand, readIn}
 use Rattle.chip_work.specs.Work.{blankCheck, blockErase, checksum, erasedIn, forbidden, programming, rangeBytes, rateSet, securityRelease, verify}
 use Rattle.frame.specs.Collector.{fresh, hear, heard, holding}
 use Rattle.frame.specs.Frame.{complete, counted, framed, full, isFrame, payload}
@@ -51,10 +51,10 @@ unfolding byteIn frameDoes freshChip heardByte modeByte reactTo settled stepOf a
     fixedBits freshOptions goodOptions isFresh lastBlock optionBytes optionsIn raises released rises security badData dataDoes footerOf goodData isLastPage
     lengthOf nextPage pageIn pageStored programPage securityData storedReply verifyPage framesOf payloads saidOf goodAwaited goodBegun goodCollected goodCore
     goodPhase goodPlaces goodState verdictOf blankCheck blockErase checksum erasedIn forbidden programming rangeBytes rateSet securityRelease verify digitsIn
-    lastLine linesIn printed fitted readCommand readIn table fresh hear heard holding complete counted framed full isFrame payload frames framing fitting
-    judgeOf summed less lessAll sumOf allAre putAt putOf same lowFirst numberAt blockOf blockSize described endsBlock lastOf liesIn pageOf placeIn placeOf
-    rangeOf startsBlock stretch wholeBlocks acceptsRate modeOf firstOf signature bytesRecord gapRecord recordOf recordsIn recordsOf unused digitOf lineOf
-    separator answering endedBy eventsOf goesOn nextBy playBy playOf playWith played playedInto replayOf replayedFrom whileWhole _and_ _from_to_ _or_
+    lastLine linesIn printed commandTable fitted readCommand readIn fresh hear heard holding complete counted framed full isFrame payload frames framing
+    fitting judgeOf summed less lessAll sumOf allAre putAt putOf same lowFirst numberAt blockOf blockSize described endsBlock lastOf liesIn pageOf placeIn
+    placeOf rangeOf startsBlock stretch wholeBlocks acceptsRate modeOf firstOf signature bytesRecord gapRecord recordOf recordsIn recordsOf unused digitOf
+    lineOf separator answering endedBy eventsOf goesOn nextBy playBy playOf playWith played playedInto replayOf replayedFrom whileWhole _and_ _from_to_ _or_
     if_then_else_
 whole-case = refl
 
@@ -64,10 +64,10 @@ unfolding byteIn frameDoes freshChip heardByte modeByte reactTo settled stepOf a
     fixedBits freshOptions goodOptions isFresh lastBlock optionBytes optionsIn raises released rises security badData dataDoes footerOf goodData isLastPage
     lengthOf nextPage pageIn pageStored programPage securityData storedReply verifyPage framesOf payloads saidOf goodAwaited goodBegun goodCollected goodCore
     goodPhase goodPlaces goodState verdictOf blankCheck blockErase checksum erasedIn forbidden programming rangeBytes rateSet securityRelease verify digitsIn
-    lastLine linesIn printed fitted readCommand readIn table fresh hear heard holding complete counted framed full isFrame payload frames framing fitting
-    judgeOf summed less lessAll sumOf allAre putAt putOf same lowFirst numberAt blockOf blockSize described endsBlock lastOf liesIn pageOf placeIn placeOf
-    rangeOf startsBlock stretch wholeBlocks acceptsRate modeOf firstOf signature bytesRecord gapRecord recordOf recordsIn recordsOf unused digitOf lineOf
-    separator answering endedBy eventsOf goesOn nextBy playBy playOf playWith played playedInto replayOf replayedFrom whileWhole _and_ _from_to_ _or_
+    lastLine linesIn printed commandTable fitted readCommand readIn fresh hear heard holding complete counted framed full isFrame payload frames framing
+    fitting judgeOf summed less lessAll sumOf allAre putAt putOf same lowFirst numberAt blockOf blockSize described endsBlock lastOf liesIn pageOf placeIn
+    placeOf rangeOf startsBlock stretch wholeBlocks acceptsRate modeOf firstOf signature bytesRecord gapRecord recordOf recordsIn recordsOf unused digitOf
+    lineOf separator answering endedBy eventsOf goesOn nextBy playBy playOf playWith played playedInto replayOf replayedFrom whileWhole _and_ _from_to_ _or_
     if_then_else_
 empty-case = refl
 
@@ -76,10 +76,10 @@ unfolding byteIn frameDoes freshChip heardByte modeByte reactTo settled stepOf a
     fixedBits freshOptions goodOptions isFresh lastBlock optionBytes optionsIn raises released rises security badData dataDoes footerOf goodData isLastPage
     lengthOf nextPage pageIn pageStored programPage securityData storedReply verifyPage framesOf payloads saidOf goodAwaited goodBegun goodCollected goodCore
     goodPhase goodPlaces goodState verdictOf blankCheck blockErase checksum erasedIn forbidden programming rangeBytes rateSet securityRelease verify digitsIn
-    lastLine linesIn printed fitted readCommand readIn table fresh hear heard holding complete counted framed full isFrame payload frames framing fitting
-    judgeOf summed less lessAll sumOf allAre putAt putOf same lowFirst numberAt blockOf blockSize described endsBlock lastOf liesIn pageOf placeIn placeOf
-    rangeOf startsBlock stretch wholeBlocks acceptsRate modeOf firstOf signature bytesRecord gapRecord recordOf recordsIn recordsOf unused digitOf lineOf
-    separator answering endedBy eventsOf goesOn nextBy playBy playOf playWith played playedInto replayOf replayedFrom whileWhole _and_ _from_to_ _or_
+    lastLine linesIn printed commandTable fitted readCommand readIn fresh hear heard holding complete counted framed full isFrame payload frames framing
+    fitting judgeOf summed less lessAll sumOf allAre putAt putOf same lowFirst numberAt blockOf blockSize described endsBlock lastOf liesIn pageOf placeIn
+    placeOf rangeOf startsBlock stretch wholeBlocks acceptsRate modeOf firstOf signature bytesRecord gapRecord recordOf recordsIn recordsOf unused digitOf
+    lineOf separator answering endedBy eventsOf goesOn nextBy playBy playOf playWith played playedInto replayOf replayedFrom whileWhole _and_ _from_to_ _or_
     if_then_else_
 short-case = refl
 
@@ -92,9 +92,9 @@ unfolding byteIn frameDoes freshChip heardByte modeByte reactTo settled stepOf a
     fixedBits freshOptions goodOptions isFresh lastBlock optionBytes optionsIn raises released rises security badData dataDoes footerOf goodData isLastPage
     lengthOf nextPage pageIn pageStored programPage securityData storedReply verifyPage framesOf payloads saidOf goodAwaited goodBegun goodCollected goodCore
     goodPhase goodPlaces goodState verdictOf blankCheck blockErase checksum erasedIn forbidden programming rangeBytes rateSet securityRelease verify digitsIn
-    lastLine linesIn printed fitted readCommand readIn table fresh hear heard holding complete counted framed full isFrame payload frames framing fitting
-    judgeOf summed less lessAll sumOf allAre putAt putOf same lowFirst numberAt blockOf blockSize described endsBlock lastOf liesIn pageOf placeIn placeOf
-    rangeOf startsBlock stretch wholeBlocks acceptsRate modeOf firstOf signature bytesRecord gapRecord recordOf recordsIn recordsOf unused digitOf lineOf
-    separator answering endedBy eventsOf goesOn nextBy playBy playOf playWith played playedInto replayOf replayedFrom whileWhole _and_ _from_to_ _or_
+    lastLine linesIn printed commandTable fitted readCommand readIn fresh hear heard holding complete counted framed full isFrame payload frames framing
+    fitting judgeOf summed less lessAll sumOf allAre putAt putOf same lowFirst numberAt blockOf blockSize described endsBlock lastOf liesIn pageOf placeIn
+    placeOf rangeOf startsBlock stretch wholeBlocks acceptsRate modeOf firstOf signature bytesRecord gapRecord recordOf recordsIn recordsOf unused digitOf
+    lineOf separator answering endedBy eventsOf goesOn nextBy playBy playOf playWith played playedInto replayOf replayedFrom whileWhole _and_ _from_to_ _or_
     if_then_else_
 stopped-case = refl

@@ -7,9 +7,9 @@ use Prim.Native.Nat.{ℕ}
 use native.Mathlib.Omega.{arith}
 use lib.ListN.{getD}
 use denote.Ref.{now}
-use Rattle.numbers.specs.Numbers.{numberAt}
+use Rattle.numbers.specs.Numbers.{lowFirst, numberAt}
 use Rattle.chip.specs.Run.{answers}
-use Rattle.chip.specs.Step.{Outcome, byteIn, frameDoes, heardByte, reactTo, settled, stepOf}
+use Rattle.chip.specs.Step.{Outcome, byteIn, frameDoes, heardByte, modeByte, reactTo, settled, stepOf}
 use Rattle.chip_state.specs.Refusals.{goodAwaited, goodBegun, goodCollected, goodCore, goodPhase, goodPlaces, goodState, verdictOf}
 use Rattle.chip.specs.declared.Answer.{Answer}
 use Rattle.chip.specs.declared.Answer.the-variants.{Refused, Replied}
@@ -26,25 +26,28 @@ use Rattle.claims_noise.specs.Noise.{thenGap}
 use Rattle.claims_stars.specs.Table.{readyChip, thePart}
 use Rattle.claims_wrong.specs.Wrong.{Differs, MeetsDemand2, alwaysAcknowledges, deaf, eraseChip, kept, pageChip, resetChip, saying, says15hToAll, saysAlways, storesNothing, storesOnly, storesTheFirstPage}
 use Rattle.chip_commands.specs.Commands.{allowedIn, commandDoes, readingDoes, work}
-use Rattle.commands.specs.Commands.{fitted, readCommand, readIn}
-use Rattle.chip_work.specs.Work.{blockErase}
+use Rattle.commands.specs.Commands.{commandTable, fitted, readCommand, readIn}
+use Rattle.chip_work.specs.Work.{blankCheck, blockErase, checksum, erasedIn, forbidden, programming, rangeBytes, rateSet, securityRelease, verify}
 use Rattle.chip_core.specs.Hearing.{hearing}
-use Rattle.chip_pages.specs.Pages.{dataDoes, footerOf, goodData, isLastPage, lengthOf, nextPage, pageIn, pageStored, programPage, storedReply}
+use Rattle.chip_pages.specs.Pages.{badData, dataDoes, footerOf, goodData, isLastPage, lengthOf, nextPage, pageIn, pageStored, programPage, securityData, storedReply, verifyPage}
 use Rattle.chip_core.specs.declared.Awaited.{Awaited}
 use Rattle.chip_core.specs.declared.Core.{Core}
 use Rattle.chip_core.specs.declared.Phase.the-variants.{Awaiting, Ready}
-use Rattle.chip_flash.specs.Flash.{blank}
+use Rattle.chip_flash.specs.Flash.{blank, eraseOf, sumOfBytes}
 use Rattle.frame.specs.Collector.{fresh, hear, heard, holding}
 use Rattle.frame.specs.Frame.{complete, counted, framed, full, isFrame, payload}
 use Rattle.frame.specs.Judgement.{fitting, judgeOf, summed}
 use Rattle.frame.specs.Sum.{less, lessAll, sumOf}
-use Rattle.lent.specs.Lent.{allAre, putAt, putOf}
-use Rattle.chip_options.specs.Options.{fixedBits, freshOptions, goodOptions, lastBlock}
-use Rattle.part.specs.Part.{blockOf, blockSize, described, liesIn, pageOf, placeIn, placeOf}
+use Rattle.lent.specs.Lent.{allAre, putAt, putOf, same}
+use Rattle.chip_options.specs.Options.{fixedBits, freshOptions, goodOptions, isFresh, lastBlock, optionBytes, optionsIn, raises, released, rises, security}
+use Rattle.part.specs.Part.{blockOf, blockSize, described, endsBlock, lastOf, liesIn, pageOf, placeIn, placeOf, rangeOf, startsBlock, stretch, wholeBlocks}
 use Rattle.part.specs.Refusal.{firstOf}
 use Rattle.part.specs.declared.Part.{Part}
 use Rattle.chip_reply.specs.Reply.{framesOf, payloads, said, saidOf}
 use Rattle.words.specs.Words.{_and_, _from_to_, _or_, if_then_else_}
+use Rattle.frame.specs.Framing.{frames, framing}
+use Rattle.part.specs.Rate.{acceptsRate, modeOf}
+use Rattle.part.specs.Signature.{signature}
 
 -- Nothing that a deaf chip hears changes it, and it says the same to everything.
 deaf-same : (p : Part) (vs : List Event) (o : Outcome) → SameChip o (runBy deaf p vs o)
@@ -98,39 +101,54 @@ spoken o = said (o .answer)
     said (Refused r) = 0
 
 pub deaf-differs : Differs deaf
-unfolding deaf spoken stepOf settled verdictOf firstOf described _from_to_ _and_ _or_ if_then_else_ goodState goodCollected goodBegun goodCore goodOptions
-    fixedBits goodPhase lastBlock freshOptions fresh heard holding hear complete full counted isFrame reactTo byteIn hearing heardByte frameDoes commandDoes
-    judgeOf summed sumOf lessAll less placeOf liesIn placeIn blockOf pageOf blockSize saidOf framesOf framed payloads allowedIn readingDoes readCommand readIn
-    fitted work payload numberAt
+unfolding byteIn frameDoes heardByte modeByte reactTo settled stepOf allowedIn commandDoes readingDoes work hearing blank eraseOf sumOfBytes fixedBits
+    freshOptions goodOptions isFresh lastBlock optionBytes optionsIn raises released rises security badData dataDoes footerOf goodData isLastPage lengthOf
+    nextPage pageIn pageStored programPage securityData storedReply verifyPage framesOf payloads saidOf goodAwaited goodBegun goodCollected goodCore goodPhase
+    goodPlaces goodState verdictOf blankCheck blockErase checksum erasedIn forbidden programming rangeBytes rateSet securityRelease verify deaf commandTable
+    fitted readCommand readIn fresh hear heard holding complete counted framed full isFrame payload frames framing fitting judgeOf summed less lessAll sumOf
+    allAre putAt putOf same lowFirst numberAt blockOf blockSize described endsBlock lastOf liesIn pageOf placeIn placeOf rangeOf startsBlock stretch
+    wholeBlocks acceptsRate modeOf firstOf signature _and_ _from_to_ _or_ if_then_else_
 deaf-differs = record { chip = resetChip; event = Byte 0x03; apart = λ e. let z : _≡_ {A = ℕ} 0 5 = ap spoken e in omega arith }
 
 -- The status byte of a reply.
 pub says-15h-differs : Differs says15hToAll
-unfolding saysAlways saying stepOf settled verdictOf firstOf described _from_to_ _and_ _or_ if_then_else_ goodState goodCollected goodBegun goodCore
-    goodOptions fixedBits goodPhase lastBlock freshOptions fresh heard holding hear complete full counted isFrame reactTo byteIn hearing heardByte frameDoes
-    commandDoes judgeOf summed sumOf lessAll less placeOf liesIn placeIn blockOf pageOf blockSize saidOf framesOf framed payloads allowedIn readingDoes
-    readCommand readIn fitted work payload numberAt
+unfolding byteIn frameDoes heardByte modeByte reactTo settled stepOf allowedIn commandDoes readingDoes work hearing blank eraseOf sumOfBytes fixedBits
+    freshOptions goodOptions isFresh lastBlock optionBytes optionsIn raises released rises security badData dataDoes footerOf goodData isLastPage lengthOf
+    nextPage pageIn pageStored programPage securityData storedReply verifyPage framesOf payloads saidOf goodAwaited goodBegun goodCollected goodCore goodPhase
+    goodPlaces goodState verdictOf blankCheck blockErase checksum erasedIn forbidden programming rangeBytes rateSet securityRelease verify saying saysAlways
+    commandTable fitted readCommand readIn fresh hear heard holding complete counted framed full isFrame payload frames framing fitting judgeOf summed less
+    lessAll sumOf allAre putAt putOf same lowFirst numberAt blockOf blockSize described endsBlock lastOf liesIn pageOf placeIn placeOf rangeOf startsBlock
+    stretch wholeBlocks acceptsRate modeOf firstOf signature _and_ _from_to_ _or_ if_then_else_
 says-15h-differs = record { chip = resetChip; event = Byte 0x03; apart = λ e. let z : _≡_ {A = ℕ} 0x15 0x06 = ap (λ (o : Outcome). getD (o .room) 2 0) e in omega arith }
 
 pub always-acknowledges-differs : Differs alwaysAcknowledges
-unfolding saysAlways saying stepOf settled verdictOf firstOf described _from_to_ _and_ _or_ if_then_else_ goodState goodCollected goodBegun goodCore
-    goodOptions fixedBits goodPhase lastBlock freshOptions fresh heard holding hear complete full counted isFrame reactTo byteIn hearing heardByte frameDoes
-    commandDoes judgeOf summed sumOf lessAll less placeOf liesIn placeIn blockOf pageOf blockSize saidOf framesOf framed payloads allowedIn readingDoes
-    readCommand readIn fitted work blockErase payload numberAt
+unfolding byteIn frameDoes heardByte modeByte reactTo settled stepOf allowedIn commandDoes readingDoes work hearing blank eraseOf sumOfBytes fixedBits
+    freshOptions goodOptions isFresh lastBlock optionBytes optionsIn raises released rises security badData dataDoes footerOf goodData isLastPage lengthOf
+    nextPage pageIn pageStored programPage securityData storedReply verifyPage framesOf payloads saidOf goodAwaited goodBegun goodCollected goodCore goodPhase
+    goodPlaces goodState verdictOf blankCheck blockErase checksum erasedIn forbidden programming rangeBytes rateSet securityRelease verify saying saysAlways
+    commandTable fitted readCommand readIn fresh hear heard holding complete counted framed full isFrame payload frames framing fitting judgeOf summed less
+    lessAll sumOf allAre putAt putOf same lowFirst numberAt blockOf blockSize described endsBlock lastOf liesIn pageOf placeIn placeOf rangeOf startsBlock
+    stretch wholeBlocks acceptsRate modeOf firstOf signature _and_ _from_to_ _or_ if_then_else_
 always-acknowledges-differs = record { chip = eraseChip; event = Byte 0x03; apart = λ e. let z : _≡_ {A = ℕ} 0x06 0x05 = ap (λ (o : Outcome). getD (o .room) 2 0) e in omega arith }
 
 pub stores-nothing-differs : Differs storesNothing
-unfolding storesOnly kept stepOf settled verdictOf firstOf described _from_to_ _and_ _or_ if_then_else_ goodState goodCollected goodBegun goodCore goodOptions
-    fixedBits goodPhase lastBlock freshOptions fresh heard holding hear complete full counted isFrame reactTo byteIn heardByte frameDoes commandDoes judgeOf
-    summed sumOf lessAll less placeOf liesIn placeIn blockOf pageOf blockSize saidOf framesOf framed payloads dataDoes goodData payload programPage pageIn
-    pageStored blank allAre putOf putAt nextPage storedReply fitting footerOf lengthOf isLastPage goodAwaited goodPlaces hearing
+unfolding byteIn frameDoes heardByte modeByte reactTo settled stepOf allowedIn commandDoes readingDoes work hearing blank eraseOf sumOfBytes fixedBits
+    freshOptions goodOptions isFresh lastBlock optionBytes optionsIn raises released rises security badData dataDoes footerOf goodData isLastPage lengthOf
+    nextPage pageIn pageStored programPage securityData storedReply verifyPage framesOf payloads saidOf goodAwaited goodBegun goodCollected goodCore goodPhase
+    goodPlaces goodState verdictOf blankCheck blockErase checksum erasedIn forbidden programming rangeBytes rateSet securityRelease verify kept storesOnly
+    commandTable fitted readCommand readIn fresh hear heard holding complete counted framed full isFrame payload frames framing fitting judgeOf summed less
+    lessAll sumOf allAre putAt putOf same lowFirst numberAt blockOf blockSize described endsBlock lastOf liesIn pageOf placeIn placeOf rangeOf startsBlock
+    stretch wholeBlocks acceptsRate modeOf firstOf signature _and_ _from_to_ _or_ if_then_else_
 stores-nothing-differs = record { chip = pageChip 0x0400; event = Byte 0x17; apart = λ e. let z : _≡_ {A = ℕ} 0xFF 0xAA = ap (λ (o : Outcome). getD (o .memory .codeFlash) 0x0400 0) e in omega arith }
 
 pub stores-the-first-page-differs : Differs storesTheFirstPage
-unfolding storesOnly kept stepOf settled verdictOf firstOf described _from_to_ _and_ _or_ if_then_else_ goodState goodCollected goodBegun goodCore goodOptions
-    fixedBits goodPhase lastBlock freshOptions fresh heard holding hear complete full counted isFrame reactTo byteIn heardByte frameDoes commandDoes judgeOf
-    summed sumOf lessAll less placeOf liesIn placeIn blockOf pageOf blockSize saidOf framesOf framed payloads dataDoes goodData payload programPage pageIn
-    pageStored blank allAre putOf putAt nextPage storedReply fitting footerOf lengthOf isLastPage goodAwaited goodPlaces hearing
+unfolding byteIn frameDoes heardByte modeByte reactTo settled stepOf allowedIn commandDoes readingDoes work hearing blank eraseOf sumOfBytes fixedBits
+    freshOptions goodOptions isFresh lastBlock optionBytes optionsIn raises released rises security badData dataDoes footerOf goodData isLastPage lengthOf
+    nextPage pageIn pageStored programPage securityData storedReply verifyPage framesOf payloads saidOf goodAwaited goodBegun goodCollected goodCore goodPhase
+    goodPlaces goodState verdictOf blankCheck blockErase checksum erasedIn forbidden programming rangeBytes rateSet securityRelease verify kept storesOnly
+    commandTable fitted readCommand readIn fresh hear heard holding complete counted framed full isFrame payload frames framing fitting judgeOf summed less
+    lessAll sumOf allAre putAt putOf same lowFirst numberAt blockOf blockSize described endsBlock lastOf liesIn pageOf placeIn placeOf rangeOf startsBlock
+    stretch wholeBlocks acceptsRate modeOf firstOf signature _and_ _from_to_ _or_ if_then_else_
 stores-the-first-page-differs = record { chip = pageChip 0x0500; event = Byte 0x17; apart = λ e. let z : _≡_ {A = ℕ} 0xFF 0xAA = ap (λ (o : Outcome). getD (o .memory .codeFlash) 0x0500 0) e in omega arith }
 
 -- A chip that differs on an input does not meet demand 2.

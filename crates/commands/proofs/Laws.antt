@@ -9,7 +9,7 @@ use lib.Dec.{eqb}
 use lib.ListN.{getD, length, length-append, take}
 use lib.Seq.{getD-append-seam, take-append-seam, take-length}
 use borrow.Author.Tests.{eq-eqb, eqb-true}
-use Rattle.commands.specs.Commands.{Row, comOf, endOf, fitted, informationOf, payloadOf, readCommand, readIn, startOf, table}
+use Rattle.commands.specs.Commands.{Row, comOf, endOf, fitted, informationOf, payloadOf, readCommand, readIn, startOf, commandTable}
 use Rattle.commands.specs.declared.Command.{Command}
 use Rattle.commands.specs.declared.Command.the-variants.{BlankCheck, BlockErase, Checksum, Programming, RateSet, Reset, Verify}
 use Rattle.commands.specs.declared.Command.the-variants.{SecurityGet, SecurityRelease, SecuritySet, SignatureGet}
@@ -112,7 +112,7 @@ payload-most SecurityRelease = omega arith
 
 -- What is written is read back.
 pub read-back : (c : Command) → startOf c < 256 ^ 3 → endOf c < 256 ^ 3 → readCommand (payloadOf c) ≡ Meant c
-unfolding readCommand readIn table payloadOf comOf informationOf if_then_else_
+unfolding readCommand readIn commandTable payloadOf comOf informationOf if_then_else_
 read-back (RateSet rate supply) h k = meant 3 3 _ _ refl refl
 read-back Reset h k = meant 1 1 _ _ refl refl
 read-back (BlockErase s) h k = meant _ 4 _ _ (ap suc (low-long 3 s)) (ap BlockErase (start-alone 0x22 s h))
@@ -149,5 +149,5 @@ com-in f (x ∷ xs) c w e = go (com-in f xs c (w .1)) (eqb (getD f 0 0) (x .cmd)
     go on false u e = on e
 
 pub com-read : (f : List ℕ) (c : Command) → readCommand f ≡ Meant c → getD f 0 0 ≡ comOf c
-unfolding Fitting readCommand table comOf
-com-read f c e = com-in f table c (refl, (refl, (refl, (refl, (refl, (refl, (refl, (refl, (refl, (refl, (refl, refl))))))))))) e
+unfolding Fitting readCommand commandTable comOf
+com-read f c e = com-in f commandTable c (refl, (refl, (refl, (refl, (refl, (refl, (refl, (refl, (refl, (refl, (refl, refl))))))))))) e

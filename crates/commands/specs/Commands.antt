@@ -79,8 +79,8 @@ pub record Row : Type 0 where
 abbrev pub row : ℕ → ℕ → (List ℕ → Command) → Row
 row c n f = record { cmd = c; len = n; means = f }
 
-unfoldable pub table : List Row
-table =
+unfoldable pub commandTable : List Row
+commandTable =
     row 0x9A 3 (λ f. RateSet (getD f 1 0) (getD f 2 0))
     ∷ row 0x00 1 (λ f. Reset)
     ∷ row 0x22 4 (λ f. BlockErase (numberAt 3 1 f))
@@ -103,4 +103,4 @@ readIn [] f = Unknown
 readIn (x ∷ xs) f = if eqb (getD f 0 0) (x .cmd) then fitted (length f) (x .len) (x .means f) else readIn xs f
 
 unfoldable pub readCommand : List ℕ → Reading
-readCommand f = readIn table f
+readCommand f = readIn commandTable f
