@@ -16,7 +16,7 @@ use Rattle.frame.specs.Judgement.{fitting, judgeOf, summed}
 use Rattle.frame.specs.Sum.{less, lessAll, sumOf}
 use Rattle.lent.specs.Lent.{allAre, putAt, putOf, same}
 use Rattle.numbers.specs.Numbers.{lowFirst, numberAt}
-use Rattle.chip_options.specs.Options.{fixedBits, goodOptions, isFresh, lastBlock, optionBytes, optionsIn, raises, released, rises, security}
+use Rattle.chip_options.specs.Options.{fixedBits, freshOptions, goodOptions, isFresh, lastBlock, optionBytes, optionsIn, raises, released, rises, security}
 use Rattle.part.specs.Part.{blockOf, blockSize, described, endsBlock, lastOf, liesIn, pageOf, placeIn, placeOf, rangeOf, startsBlock, stretch, wholeBlocks}
 use Rattle.part.specs.Refusal.{firstOf}
 use Rattle.chip_reply.specs.Reply.{framesOf, payloads, saidOf}
@@ -28,7 +28,13 @@ use Rattle.part.specs.Signature.{signature}
 use Rattle.chip_core.specs.Hearing.{hearing}
 
 pub stars : map (λ (x : Example). x .gives) table ≡ map (λ (x : Example). x .printed) table
-unfolding
+unfolding answers heardBack byteIn frameDoes heardByte modeByte reactTo settled stepOf allowedIn commandDoes readingDoes work hearing blank eraseOf sumOfBytes
+    fixedBits freshOptions goodOptions isFresh lastBlock optionBytes optionsIn raises released rises security badData dataDoes footerOf goodData isLastPage
+    lengthOf nextPage pageIn pageStored programPage securityData storedReply verifyPage framesOf payloads saidOf goodAwaited goodBegun goodCollected goodCore
+    goodPhase goodPlaces goodState verdictOf blankCheck blockErase checksum erasedIn forbidden programming rangeBytes rateSet securityRelease verify replyBy
+    table commandTable fitted readCommand readIn fresh hear heard holding complete counted framed full isFrame payload frames framing fitting judgeOf summed
+    less lessAll sumOf allAre putAt putOf same lowFirst numberAt blockOf blockSize described endsBlock lastOf liesIn pageOf placeIn placeOf rangeOf
+    startsBlock stretch wholeBlocks acceptsRate modeOf firstOf signature _and_ _from_to_ _or_ if_then_else_
 stars = refl
 
 pub in-order : map (λ (x : Example). x .gives) order ≡ map (λ (x : Example). x .printed) order
