@@ -194,7 +194,10 @@ held-back bs b e =
         → headOf (optionsHeld bs) (getD bs 6 0) q (w .command) ++ lowFirst 8 (w .next) ++ lowFirst 8 (w .last) ++ lowFirst 8 (numberAt 8 25 bs) ++ take 260 (drop 33 bs) ≡ bs
     pieces bs w q b h e f =
         let each : (i : ℕ) → getD bs i 0 < 256 = λ i. below-at i (omega arith) b in
-        rw (head-back bs q (w .command) b (omega arith) f (ap (λ (x : Awaited). x .command) e), ap (λ (x : Awaited). lowFirst 8 (x .next)) e, ap (λ (x : Awaited). lowFirst 8 (x .last)) e, low-number 8 9 bs each (omega arith), low-number 8 17 bs each (omega arith), low-number 8 25 bs each (omega arith)) (joined bs h)
+        let head = head-back bs q (w .command) b (omega arith) f (ap (λ (x : Awaited). x .command) e) in
+        let next = ap (λ (x : Awaited). lowFirst 8 (x .next)) e in
+        let last = ap (λ (x : Awaited). lowFirst 8 (x .last)) e in
+        rw (head, next, last, low-number 8 9 bs each (omega arith), low-number 8 17 bs each (omega arith), low-number 8 25 bs each (omega arith)) (joined bs h)
 
 pub written-back : (bs : List ℕ) → Below 256 bs → isState bs ≡ true → chipBytes (chipIn bs) ≡ bs
 written-back bs b e = ap chipBytes (chip-in-is bs (state-long bs e)) ∙ held-back bs b e

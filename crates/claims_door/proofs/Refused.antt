@@ -9,7 +9,7 @@ use Rattle.chip.specs.Step.{Outcome, Reaction, reactTo, settled, stepOf}
 use Rattle.chip_state.specs.Refusals.{verdictOn}
 use Rattle.chip.specs.declared.Event.{Event}
 use Rattle.claims_door.proofs.Back.{written-back}
-use Rattle.claims_door.specs.Kept.{Kept}
+use Rattle.claims_door.specs.Kept.{StepKept}
 use Rattle.chip_layout.proofs.Laws.{admitted, chip-laid-is, state-long}
 use Rattle.chip_door.specs.Calls.{answerNumber, bytesTold, framesTold, StepTold, stepTold, steppedBy, steppedThrough}
 use Rattle.chip_layout.specs.Admission.{chipAdmission}
@@ -27,13 +27,13 @@ toldOf o state = stepTold (answerNumber (o .answer)) (bytesTold (o .answer)) (fr
 -- The chip is asked, and refuses: it hands the chip back as it was, and that is written back as the bytes it was read from.
 asked : (u : Verdict) (p : Part) (x : Reaction) (state : List ℕ) (m : Flash) (room : List ℕ) → Below 256 state → isState state ≡ true
     → (answerNumber (settled u p x (chipIn state) m room .answer) ≡ 0 → ⊥)
-    → Kept (toldOf (settled u p x (chipIn state) m room) state) state m room
+    → StepKept (toldOf (settled u p x (chipIn state) m room) state) state m room
 unfolding settled answerNumber
 asked (Refused r) p x state m room b e h = record { stateStays = chip-laid-is _ state (state-long state e) ∙ written-back state b e; flashStays = refl; roomStays = refl }
 asked Accepted p x state m room b e h = absurd (h refl)
 
 admits-kept : (u : Verdict) (p : Part) (v : Event) (state : List ℕ) (m : Flash) (room : List ℕ) → Below 256 state → (u ≡ Accepted → isState state ≡ true)
-    → (steppedBy u p v state m room .refusal ≡ 0 → ⊥) → Kept (steppedBy u p v state m room) state m room
+    → (steppedBy u p v state m room .refusal ≡ 0 → ⊥) → StepKept (steppedBy u p v state m room) state m room
 unfolding steppedBy stepOf
 admits-kept (Refused r) p v state m room b e h = record { stateStays = refl; flashStays = refl; roomStays = refl }
 admits-kept Accepted p v state m room b e h =
@@ -42,7 +42,7 @@ admits-kept Accepted p v state m room b e h =
 
 -- Every event's call, whatever part and whatever bytes are handed in.
 pub refused-keeps : (p : Part) (v : Event) (state : List ℕ) (m : Flash) (room : List ℕ) → Below 256 state → (steppedThrough p v state m room .refusal ≡ 0 → ⊥)
-    → Kept (steppedThrough p v state m room) state m room
+    → StepKept (steppedThrough p v state m room) state m room
 unfolding steppedThrough
 refused-keeps p v state m room b h =
     let x = length (m .codeFlash) in

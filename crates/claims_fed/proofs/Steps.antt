@@ -9,7 +9,7 @@ use Rattle.claims_fed.specs.Fed.{does}
 use Rattle.chip.specs.Run.{onward, spokenIn}
 use Rattle.chip.specs.Step.{Outcome, Reaction, byteIn, heardByte, reactTo, reaction, silent}
 use Rattle.claims_frame.proofs.Framing.{Agree, Same, step-agrees}
-use Rattle.claims_frame.specs.Collecting.{Collected, collecting, take-up}
+use Rattle.claims_frame.specs.Collecting.{Collected, collectsOn, take-up}
 use Rattle.claims_good.proofs.Collected.{holds}
 use Rattle.claims_good.proofs.Rooms.{leaves, reactionOf, says-reaction, utteranceOf}
 use Rattle.claims_good.specs.Good.{Stands, uttered}
@@ -44,15 +44,15 @@ heard-collects hs x k m = go (complete hs)
     go false = refl
 
 byte-collects : (f : Phase) (p : Part) (k : Core) (hs : List ℕ) (m : Flash) (b : ℕ) → AwaitsFrame f
-    → byteIn (hearing f) p k hs b m ≡ collectedBy (does f p k m) k m (collecting (headerIn f) hs (byte b))
-unfolding byteIn hearing collecting does
+    → byteIn (hearing f) p k hs b m ≡ collectedBy (does f p k m) k m (collectsOn (headerIn f) hs (byte b))
+unfolding byteIn hearing collectsOn does
 byte-collects f p k hs m b (command inSetup) = heard-collects (hear Command hs b) (does Setup p k m) k m
 byte-collects f p k hs m b (command inReady) = heard-collects (hear Command hs b) (does Ready p k m) k m
 byte-collects f p k hs m b (page w) = heard-collects (hear Data hs b) (does (Awaiting w) p k m) k m
 
 react-collects : (p : Part) (k : Core) (hs : List ℕ) (m : Flash) (v : Sound) → AwaitsFrame (k .phase)
-    → reactTo (eventOf v) p k hs m ≡ collectedBy (does (k .phase) p k m) k m (collecting (headerIn (k .phase)) hs v)
-unfolding reactTo collecting collectedBy byTaken
+    → reactTo (eventOf v) p k hs m ≡ collectedBy (does (k .phase) p k m) k m (collectsOn (headerIn (k .phase)) hs v)
+unfolding reactTo collectsOn collectedBy byTaken
 react-collects p k hs m gap a = refl
 react-collects p k hs m (byte b) a = byte-collects (k .phase) p k hs m b a
 
@@ -70,11 +70,11 @@ pub data Stepped (p : Part) (u : Outcome) (v : Sound) (w : Framing) : Type 0 whe
       → Went p u v w (does (u .chip .core .phase) p (u .chip .core) (u .memory) f) → Stepped p u v w
 
 module _ (p : Part) (u : Outcome) (v : Sound) (w : Framing) (s : Stands p u) (a : AwaitsFrame (u .chip .core .phase)) (m : Same w (heard (u .chip .collector))) where
-  agrees : Agree (framing (headerIn (u .chip .core .phase)) w v) (collecting (headerIn (u .chip .core .phase)) (heard (u .chip .collector)) v)
+  agrees : Agree (framing (headerIn (u .chip .core .phase)) w v) (collectsOn (headerIn (u .chip .core .phase)) (heard (u .chip .collector)) v)
   agrees = step-agrees (headerIn (u .chip .core .phase)) v m
 
   went : (x : Effect)
-      → reactionOf p u (eventOf v) ≡ reaction (collecting (headerIn (u .chip .core .phase)) (heard (u .chip .collector)) v .holds) x
+      → reactionOf p u (eventOf v) ≡ reaction (collectsOn (headerIn (u .chip .core .phase)) (heard (u .chip .collector)) v .holds) x
       → Went p u v w x
   unfolding utteranceOf
   went x e =
@@ -87,22 +87,22 @@ module _ (p : Part) (u : Outcome) (v : Sound) (w : Framing) (s : Stands p u) (a 
         says = says-reaction p u (eventOf v) s ∙ ap (utteranceOf p) e;
       }
 
-  reacts-so : (fs : List (List ℕ)) → collecting (headerIn (u .chip .core .phase)) (heard (u .chip .collector)) v .taken ≡ fs
+  reacts-so : (fs : List (List ℕ)) → collectsOn (headerIn (u .chip .core .phase)) (heard (u .chip .collector)) v .taken ≡ fs
       → reactionOf p u (eventOf v)
       ≡ byTaken fs (does (u .chip .core .phase) p (u .chip .core) (u .memory)) (u .chip .core) (u .memory)
-      (collecting (headerIn (u .chip .core .phase)) (heard (u .chip .collector)) v .holds)
+      (collectsOn (headerIn (u .chip .core .phase)) (heard (u .chip .collector)) v .holds)
   unfolding reactionOf collectedBy
   reacts-so fs e =
       react-collects p (u .chip .core) (heard (u .chip .collector)) (u .memory) v a
       ∙ ap
       (λ (gs : List (List ℕ)). byTaken gs (does (u .chip .core .phase) p (u .chip .core) (u .memory)) (u .chip .core) (u .memory)
-      (collecting (headerIn (u .chip .core .phase)) (heard (u .chip .collector)) v .holds))
+      (collectsOn (headerIn (u .chip .core .phase)) (heard (u .chip .collector)) v .holds))
       e
 
   pub stepped : Stepped p u v w
   unfolding byTaken
-  stepped = go (collecting (headerIn (u .chip .core .phase)) (heard (u .chip .collector)) v .taken) refl
+  stepped = go (collectsOn (headerIn (u .chip .core .phase)) (heard (u .chip .collector)) v .taken) refl
     where
-      go : (fs : List (List ℕ)) → collecting (headerIn (u .chip .core .phase)) (heard (u .chip .collector)) v .taken ≡ fs → Stepped p u v w
+      go : (fs : List (List ℕ)) → collectsOn (headerIn (u .chip .core .phase)) (heard (u .chip .collector)) v .taken ≡ fs → Stepped p u v w
       go [] e = onlyHeard (agrees .done ∙ e) (went _ (reacts-so [] e))
       go (f ∷ fs) e = frameDone f fs (agrees .done ∙ e) (went _ (reacts-so (f ∷ fs) e))

@@ -10,7 +10,7 @@ use lib.Dec.{eqb, leb}
 use lib.ListN.{getD, length, length-append}
 use lib.Seq.{append-snoc}
 use borrow.Author.Tests.{eq-eqb, eqb-true, le-leb, lt-leb}
-use Rattle.claims_frame.specs.Collecting.{Collected, collected, collecting, take-up}
+use Rattle.claims_frame.specs.Collecting.{Collected, collected, collectsOn, take-up}
 use Rattle.frame.proofs.Laws.Frame.{full-not, full-yes}
 use Rattle.frame.specs.Collector.{hear}
 use Rattle.frame.specs.Frame.{complete, counted, full, headerByte, isFrame}
@@ -52,8 +52,8 @@ more x l rest n b h e (no k) =
     rw (lt-leb n 1 (omega arith), full-not (suc (suc (length (rest ++ b ∷ [])))) l (omega arith))
     (record { stands = some x l (rest ++ b ∷ []) (n - 1) (omega arith) (omega arith); done = refl })
 
-pub step-agrees : (h : Header) (v : Sound) {w : Framing} {hs : List ℕ} → Same w hs → Agree (framing h w v) (collecting h hs v)
-unfolding framing collecting hear
+pub step-agrees : (h : Header) (v : Sound) {w : Framing} {hs : List ℕ} → Same w hs → Agree (framing h w v) (collectsOn h hs v)
+unfolding framing collectsOn hear
 step-agrees h gap s = record { stands = nothing; done = refl }
 step-agrees h (byte b) nothing = begins h b (eqb b (headerByte h))
 step-agrees h (byte b) (header x) = measured x b

@@ -15,10 +15,10 @@ pub record Collected : Type 0 where
 unfoldable pub take-up : List ℕ → Collected
 take-up hs = if complete hs then record { holds = []; taken = hs ∷ [] } else record { holds = hs; taken = [] }
 
-unfoldable pub collecting : Header → List ℕ → Sound → Collected
-collecting h hs gap = record { holds = []; taken = [] }
-collecting h hs (byte b) = take-up (hear h hs b)
+unfoldable pub collectsOn : Header → List ℕ → Sound → Collected
+collectsOn h hs gap = record { holds = []; taken = [] }
+collectsOn h hs (byte b) = take-up (hear h hs b)
 
 unfoldable pub collected : Header → List ℕ → List Sound → List (List ℕ)
 collected h hs [] = []
-collected h hs (v ∷ vs) = collecting h hs v .taken ++ collected h (collecting h hs v .holds) vs
+collected h hs (v ∷ vs) = collectsOn h hs v .taken ++ collected h (collectsOn h hs v .holds) vs

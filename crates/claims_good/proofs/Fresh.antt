@@ -16,6 +16,7 @@ use Rattle.part.specs.Part.{Arrays, blockSize, described, size}
 use Rattle.claims_good.specs.Good.{Stands}
 use Rattle.claims_stars.specs.Table.{thePart}
 use Rattle.chip_core.specs.Effect.{Flash, flash}
+use Rattle.chip_core.specs.Hearing.{hearing}
 use Rattle.chip_core.specs.declared.Core.{Core}
 use Rattle.frame.proofs.Laws.Sum.{Below, more, none}
 use Rattle.frame.specs.Collector.{fresh}
@@ -40,7 +41,7 @@ new-stands p k m room d n g c e r =
             part = d;
             codeLong = c;
             dataLong = e;
-            state = and-both (none-good (k .phase) _ _) (is-core g);
+            state = and-both (none-good (hearing (k .phase)) _ _) (is-core g);
             roomy = r;
           });
       places = length-replicate {A = ℕ} 260 0;

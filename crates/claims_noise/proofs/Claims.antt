@@ -18,6 +18,8 @@ use Rattle.claims_noise.proofs.Noise.{NoiseLeaves, as-if, leftCore, lef
 use Rattle.claims_noise.specs.Claims.{AsIf, Noise, NoiseAtCommand, NoiseAtData, NoiseBranches, commandOver, leftBy, runBy}
 use Rattle.claims_fed.specs.Awaits.{AwaitsCommand, command, inReady, inSetup, page}
 use Rattle.claims_noise.specs.Noise.{dataCompleted, empty, noFrame, thenGap}
+use Rattle.chip_core.specs.Hearing.{hearing}
+use Rattle.chip_core.specs.declared.Hearing.the-variants.{HearsCommands}
 use Rattle.chip_core.specs.Effect.{Flash}
 use Rattle.chip_pages.specs.Pages.{ready}
 use Rattle.chip_core.specs.declared.Awaited.{Awaited}
@@ -64,7 +66,7 @@ over-memory o = refl
 
 -- The state in which the command is over stands too.
 pub over-stands : (p : Part) (o : Outcome) → Stands p o → o .chip .collector .len ≡ 0 → Stands p (commandOver o)
-unfolding commandOver goodState
+unfolding commandOver goodState hearing
 over-stands p o s n =
     let a = accepts (s .accepted) in
     record {
@@ -73,7 +75,7 @@ over-stands p o s n =
             part = a .part;
             codeLong = ap (λ (m : Flash). length (m .codeFlash)) (over-memory o) ∙ a .codeLong;
             dataLong = ap (λ (m : Flash). length (m .dataFlash)) (over-memory o) ∙ a .dataLong;
-            state = and-both (rw n (none-good Ready _ _)) (is-core (made-ready (core-is p (o .chip .core) (and-right _ _ (a .state)))));
+            state = and-both (rw n (none-good HearsCommands _ _)) (is-core (made-ready (core-is p (o .chip .core) (and-right _ _ (a .state)))));
             roomy = a .roomy;
           });
       places = s .places;

@@ -68,8 +68,8 @@ abbrev pub storesTheFirstPage : Machine
 storesTheFirstPage = storesOnly (λ w. eqb (w .next % 1024) 0)
 
 -- A chip and an event on which another chip differs from the definition; flash and room are those of the examples.
-abbrev pub chipIn : Phase → List ℕ → Chip
-chipIn f heard = record { core = record { options = freshOptions thePart; rate = 0x00; phase = f }; collector = holding fresh heard }
+abbrev pub chipThatHeard : Phase → List ℕ → Chip
+chipThatHeard f heard = record { core = record { options = freshOptions thePart; rate = 0x00; phase = f }; collector = holding fresh heard }
 
 pub record Differs (M : Machine) : Type 0 where
   pub chip : Chip
@@ -78,10 +78,10 @@ pub record Differs (M : Machine) : Type 0 where
 
 -- A Reset before its last byte; "Erase .. 0401h" before its last byte; a page at 0400h and one at 0500h before its footer, 17h.
 abbrev pub resetChip : Chip
-resetChip = chipIn Ready (0x01 ∷ 0x01 ∷ 0x00 ∷ 0xFF ∷ [])
+resetChip = chipThatHeard Ready (0x01 ∷ 0x01 ∷ 0x00 ∷ 0xFF ∷ [])
 
 abbrev pub eraseChip : Chip
-eraseChip = chipIn Ready (0x01 ∷ 0x04 ∷ 0x22 ∷ 0x01 ∷ 0x04 ∷ 0x00 ∷ 0xD5 ∷ [])
+eraseChip = chipThatHeard Ready (0x01 ∷ 0x04 ∷ 0x22 ∷ 0x01 ∷ 0x04 ∷ 0x00 ∷ 0xD5 ∷ [])
 
 abbrev pub pageChip : ℕ → Chip
-pageChip at = chipIn (Awaiting (record { command = 0x40; next = at; last = 0x07FF })) (0x02 ∷ 0x00 ∷ replicate 256 0xAA ++ 0x00 ∷ [])
+pageChip at = chipThatHeard (Awaiting (record { command = 0x40; next = at; last = 0x07FF })) (0x02 ∷ 0x00 ∷ replicate 256 0xAA ++ 0x00 ∷ [])
