@@ -21,6 +21,7 @@ use Rattle.numbers.specs.Numbers.{lowFirst, numberAt}
 use Rattle.lent.proofs.Laws.{Written, written-full, written-put, written-start}
 use Rattle.lent.specs.Lent.{left, putOf}
 use Rattle.lent.specs.declared.Room.{Room}
+use Rattle.chip_options.proofs.Laws.{option-bytes}
 use Rattle.chip_options.specs.declared.Options.{Options}
 use Rattle.part.proofs.Laws.{passed}
 use Rattle.part.specs.declared.Part.{Part}
@@ -31,7 +32,7 @@ use Rattle.words.specs.Words.{if_then_else_}
 
 head-long : (o : Options) (rate phase cmd : ℕ) → length (headOf o rate phase cmd) ≡ 9
 unfolding headOf
-head-long o rate phase cmd = refl
+head-long o rate phase cmd = rw (option-bytes o)
 
 -- The pieces of a state, put one after the other, are the state.
 pub layout-is : (c : Chip) (w : Awaited) (q : ℕ) (first next last count r k l m n o : List ℕ) (a b d e f : Room) → left a k ≡ putOf r 0 first → left b l ≡ putOf k 9 next

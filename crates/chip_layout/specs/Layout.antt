@@ -1,7 +1,7 @@
 -- How a chip's state crosses the door as bytes: one layout of 293 bytes. Numbers cross as the crate `numbers` says, a part as `part` says.
 use mathlib.Core.Bool.{Bool}
 use mathlib.Core.List.{List, [], _++_, _∷_}
-use Prim.Native.Nat.{_%_, _/_, ℕ}
+use Prim.Native.Nat.{ℕ}
 use lib.Dec.{eqb}
 use lib.ListN.{drop, getD, length, take}
 use Rattle.chip_state.specs.declared.Chip.{Chip}
@@ -13,6 +13,7 @@ use Rattle.frame.specs.Collector.{fresh}
 use Rattle.frame.specs.declared.collector.Collector.{Collector}
 use Rattle.numbers.specs.Numbers.{lowFirst, numberAt}
 use Rattle.lent.specs.Lent.{allAre}
+use Rattle.chip_options.specs.Options.{optionBytes, optionsIn}
 use Rattle.chip_options.specs.declared.Options.{Options}
 use Rattle.words.specs.Words.{_and_, _from_to_, _or_, if_then_else_}
 
@@ -29,9 +30,9 @@ awaitedOf Setup = record { command = 0x00; next = 0; last = 0 }
 awaitedOf Ready = record { command = 0x00; next = 0; last = 0 }
 awaitedOf (Awaiting w) = w
 
--- Bytes 0 to 8: flags, last boot block, window start and end (two bytes each), rate, phase, and the command that awaits data.
+-- Bytes 0 to 8: the options' six, as A1h gives them; rate, phase, and the command that awaits data.
 unfoldable pub headOf : Options → ℕ → ℕ → ℕ → List ℕ
-headOf o rate phase cmd = o .flags ∷ o .boot ∷ o .start % 256 ∷ o .start / 256 % 256 ∷ o .end % 256 ∷ o .end / 256 % 256 ∷ rate ∷ phase ∷ cmd ∷ []
+headOf o rate phase cmd = optionBytes o ++ rate ∷ phase ∷ cmd ∷ []
 
 -- Then next address, last address and the count of what is collected, eight bytes each (from 9, 17 and 25 on), and from 33 on the collector's 260 bytes.
 unfoldable pub chipBytes : Chip → List ℕ
@@ -57,14 +58,11 @@ phaseIn n w = if eqb n 1 then ModeByte else if eqb n 2 then Setup else if eqb n 
 unfoldable pub awaitedHeld : List ℕ → Awaited
 awaitedHeld bs = record { command = getD bs 8 0; next = numberAt 8 9 bs; last = numberAt 8 17 bs }
 
-unfoldable pub optionsHeld : List ℕ → Options
-optionsHeld bs = record { flags = getD bs 0 0; boot = getD bs 1 0; start = numberAt 2 2 bs; end = numberAt 2 4 bs }
-
 unfoldable pub collectorIn : List ℕ → Collector
 collectorIn bs = record { bytes = take 260 (drop 33 bs); len = numberAt 8 25 bs }
 
 abbrev pub coreIn : List ℕ → Core
-coreIn bs = record { options = optionsHeld bs; rate = getD bs 6 0; phase = phaseIn (getD bs 7 0) (awaitedHeld bs) }
+coreIn bs = record { options = optionsIn bs; rate = getD bs 6 0; phase = phaseIn (getD bs 7 0) (awaitedHeld bs) }
 
 -- Bytes of another number are no state: they are read as a chip that awaits a mode byte and has no options.
 abbrev pub noChip : Chip

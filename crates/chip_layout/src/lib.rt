@@ -5,7 +5,7 @@ ghost use lib.ListN.{drop, length, take};
 ghost use Rattle.numbers.specs.Numbers.{numberAt};
 ghost use Rattle.lent.specs.Lent.{allAre};
 ghost use Rattle.chip_layout.specs.Layout.{chipLaid, awaitedHeld, awaitedOf, chipIn, collectorIn, coreIn};
-ghost use Rattle.chip_layout.specs.Layout.{optionsHeld, headOf, isState, chipBytes, phaseIn, phaseNumber, stateSize};
+ghost use Rattle.chip_layout.specs.Layout.{headOf, isState, chipBytes, phaseIn, phaseNumber, stateSize};
 use chip_core::Awaited;
 use chip_core::Core;
 use chip_core::Phase;
@@ -16,13 +16,6 @@ use frame::collector::Collector;
 pub mod admission;
 
 // The bytes of a state are known to be there: they are read without a test for each.
-fn number2(bytes: &[u8], at: usize) -> u32
-    requires { ⌜ at + 2 ≤ length (now bytes) ⌝ }
-    ensures { λ r. ⌜ r ≡ numberAt 2 at (now (bytes .entry)) ⌝ }
-{
-    numbers::two(bytes[at], bytes[at + 1]) as u32
-}
-
 fn number4(bytes: &[u8], at: usize) -> u32
     requires { ⌜ at + 4 ≤ length (now bytes) ⌝ }
     ensures { λ r. ⌜ r ≡ numberAt 4 at (now (bytes .entry)) ⌝ }
@@ -94,20 +87,6 @@ fn awaited_held(state: &[u8]) -> Awaited
     }
 }
 
-fn options_held(state: &[u8]) -> Options
-    requires { ⌜ length (now state) ≡ stateSize ⌝ }
-    ensures { λ r. ⌜ r ≡ optionsHeld (now (state .entry)) ⌝ }
-{
-    let start = number2(state, 2);
-    let end = number2(state, 4);
-    Options {
-        flags: state[0],
-        boot: state[1],
-        start,
-        end,
-    }
-}
-
 fn collector_in(state: &[u8]) -> Collector
     requires { ⌜ length (now state) ≡ stateSize ⌝ }
     ensures { λ r. ⌜ r ≡ collectorIn (now (state .entry)) ⌝ }
@@ -122,7 +101,7 @@ fn core_in(state: &[u8]) -> Core
     requires { ⌜ length (now state) ≡ stateSize ⌝ }
     ensures { λ r. ⌜ r ≡ coreIn (now (state .entry)) ⌝ }
 {
-    let options = options_held(state);
+    let options = Options::read(state);
     let awaited = awaited_held(state);
     let phase = phase_in(state[7], awaited);
     Core {

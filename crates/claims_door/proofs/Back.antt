@@ -12,7 +12,7 @@ use borrow.Author.Tests.{eqb-true, leb-true, ne-eqb}
 use Rattle.chip_state.specs.declared.Chip.{Chip}
 use Rattle.claims_door.specs.Held.{Held}
 use Rattle.chip_layout.proofs.Laws.{chip-in-is, state-long}
-use Rattle.chip_layout.specs.Layout.{awaitedHeld, awaitedOf, chipIn, collectorIn, coreIn, headOf, isState, chipBytes, optionsHeld, phaseIn, phaseNumber}
+use Rattle.chip_layout.specs.Layout.{awaitedHeld, awaitedOf, chipIn, collectorIn, coreIn, headOf, isState, chipBytes, phaseIn, phaseNumber}
 use Rattle.chip_core.specs.declared.Awaited.{Awaited}
 use Rattle.chip_core.specs.declared.Phase.{Phase}
 use Rattle.chip_core.specs.declared.Phase.the-variants.{Awaiting, ModeByte, Ready, Setup}
@@ -20,6 +20,7 @@ use Rattle.frame.proofs.Laws.Sum.{Below, below-at}
 use Rattle.numbers.proofs.Laws.{low-number}
 use Rattle.numbers.specs.Numbers.{lowFirst, numberAt}
 use Rattle.lent.specs.Lent.{allAre}
+use Rattle.chip_options.specs.Options.{optionBytes, optionsIn}
 use Rattle.chip_options.specs.declared.Options.{Options}
 use Rattle.words.proofs.Laws.{and-left, and-right, or-right}
 use Rattle.words.specs.Words.{_and_, _from_to_, _or_, if_then_else_}
@@ -63,7 +64,7 @@ heldIn bs = record { core = coreIn bs; collector = collectorIn bs }
 back : (flags boot start end rate : ℕ) (f : Phase) (bytes : List ℕ) (len : ℕ) → start < 256 ^ 2 → end < 256 ^ 2 → awaitedOf f .next < 256 ^ 8
     → awaitedOf f .last < 256 ^ 8 → len < 256 ^ 8 → length bytes ≡ 260
     → heldIn (chipBytes (made flags boot start end rate f bytes len)) ≡ made flags boot start end rate f bytes len
-unfolding chipBytes headOf lowFirst numberAt optionsHeld awaitedHeld collectorIn phaseIn if_then_else_ together
+unfolding chipBytes headOf optionBytes lowFirst numberAt optionsIn awaitedHeld collectorIn phaseIn if_then_else_ together
 back flags boot start end rate ModeByte bytes len s e n l c p =
     same flags boot rate (together-is 2 start s) (together-is 2 end e) (refl {a = ModeByte}) (take-all 260 bytes (omega arith)) (together-is 8 len c)
 back flags boot start end rate Setup bytes len s e n l c p =
@@ -76,7 +77,7 @@ back flags boot start end rate (Awaiting w) bytes len s e n l c p =
 -- What is written is a state.
 state : (o : Options) (rate : ℕ) (f : Phase) (bytes : List ℕ) (len : ℕ) → length bytes ≡ 260
     → isState (chipBytes (record { core = record { options = o; rate = rate; phase = f }; collector = record { bytes = bytes; len = len } })) ≡ true
-unfolding isState chipBytes headOf lowFirst allAre _and_ _or_ _from_to_
+unfolding isState chipBytes headOf optionBytes lowFirst allAre _and_ _or_ _from_to_
 state o rate ModeByte bytes len p = rw p
 state o rate Setup bytes len p = rw p
 state o rate Ready bytes len p = rw p
@@ -154,8 +155,8 @@ second-byte a b h k =
     let y : b % 256 ≡ b = omega arith in
     ap (λ (n : ℕ). n % 256) x ∙ y
 
-head-back : (bs : List ℕ) (q cmd : ℕ) → Below 256 bs → 9 ≤ length bs → q ≡ getD bs 7 0 → cmd ≡ getD bs 8 0 → headOf (optionsHeld bs) (getD bs 6 0) q cmd ≡ take 9 bs
-unfolding headOf optionsHeld numberAt bytesAt
+head-back : (bs : List ℕ) (q cmd : ℕ) → Below 256 bs → 9 ≤ length bs → q ≡ getD bs 7 0 → cmd ≡ getD bs 8 0 → headOf (optionsIn bs) (getD bs 6 0) q cmd ≡ take 9 bs
+unfolding headOf optionBytes optionsIn lowFirst numberAt bytesAt
 head-back bs q cmd b h e f =
     let x : getD bs 2 0 < 256 = below-at 2 (omega arith) b in
     let y : getD bs 3 0 < 256 = below-at 3 (omega arith) b in
@@ -191,7 +192,7 @@ held-back bs b e =
     or-right {t} {u} f e = sym (ap (λ (x : Bool). x or u) f) ∙ e
 
     pieces : (bs : List ℕ) (w : Awaited) (q : ℕ) → Below 256 bs → length bs ≡ 293 → w ≡ awaitedHeld bs → q ≡ getD bs 7 0
-        → headOf (optionsHeld bs) (getD bs 6 0) q (w .command) ++ lowFirst 8 (w .next) ++ lowFirst 8 (w .last) ++ lowFirst 8 (numberAt 8 25 bs) ++ take 260 (drop 33 bs) ≡ bs
+        → headOf (optionsIn bs) (getD bs 6 0) q (w .command) ++ lowFirst 8 (w .next) ++ lowFirst 8 (w .last) ++ lowFirst 8 (numberAt 8 25 bs) ++ take 260 (drop 33 bs) ≡ bs
     pieces bs w q b h e f =
         let each : (i : ℕ) → getD bs i 0 < 256 = λ i. below-at i (omega arith) b in
         let head = head-back bs q (w .command) b (omega arith) f (ap (λ (x : Awaited). x .command) e) in

@@ -5,7 +5,7 @@ use Rattle.chip_layout.proofs.core_in.Statement.{statement}
 use Rattle.chip_layout.proofs.core_in.Tie as tie
 
 returns : tie.Need-returns
-returns c = simp (← c .before .before .before .before .options-held .ensures, ← c .before .before .before .awaited-held .ensures, ← c .before .phase-in .ensures)
+returns c = simp (← c .before .before .before .before .read .ensures, ← c .before .before .before .awaited-held .ensures, ← c .before .phase-in .ensures)
 
 pub core-in-spec : {M : Type 1} → statement M
 core-in-spec =
