@@ -270,9 +270,15 @@ step-barred p c v m room r a = rw a
 pub same-event : (o : Outcome) (p : Part) (c : Chip) (v w : Event) (m : Flash) (room : List ℕ) → o ≡ stepOf p c w m room → v ≡ w → o ≡ stepOf p c v m room
 same-event o p c v w m room e f = e ∙ ap (λ (q : Event). stepOf p c q m room) (sym f)
 
-pub at-byte : (p : Part) (k : Core) (hs : List ℕ) (b : ℕ) (m : Flash) → byteIn (hearing (k .phase)) p k hs b m ≡ reactTo (Byte b) p k hs m
+at-byte : (p : Part) (k : Core) (hs : List ℕ) (b : ℕ) (m : Flash) → byteIn (hearing (k .phase)) p k hs b m ≡ reactTo (Byte b) p k hs m
 unfolding reactTo
 at-byte p k hs b m = refl
+
+pub byte-accepted : (o : Outcome) (p : Part) (c : Chip) (b : ℕ) (m : Flash) (room : List ℕ)
+    → verdictOn p c (length (m .codeFlash)) (length (m .dataFlash)) (length room) ≡ Accepted
+    → o ≡ settled Accepted p (byteIn (hearing (c .core .phase)) p (c .core) (heard (c .collector)) b m) c m room → o ≡ stepOf p c (Byte b) m room
+byte-accepted o p c b m room a g =
+    step-accepted o (byteIn (hearing (c .core .phase)) p (c .core) (heard (c .collector)) b m) p c (Byte b) (Byte b) m room a refl (at-byte p (c .core) (heard (c .collector)) b m) g
 
 pub at-gap : (p : Part) (k : Core) (hs : List ℕ) (m : Flash) → reaction [] (silent k m) ≡ reactTo Gap p k hs m
 unfolding reactTo

@@ -6,21 +6,21 @@ use mathlib.Core.Path.{_∙_, _≡_, ap, refl, subst, sym}
 use Prim.Native.Nat.{_+_, _-_, _<_, _≤_, suc, zero, ℕ}
 use native.Mathlib.Numerals.{add-one}
 use native.Mathlib.Omega.{arith}
-use lib.Dec.{eqb, leb, ltb}
+use lib.Dec.{leb, ltb}
 use lib.ListN.{drop, getD, length, take}
 use lib.Seq.{drop-cons}
 use borrow.Author.Tests.{le-leb, le-ltb, leb-true, lt-leb, lt-ltb, ltb-false, ltb-true}
 use Rattle.chip.proofs.Feeding.{FedFrom, fed-turn}
 use Rattle.chip_state.proofs.Laws.{accepts, none-collected, one-more-accepted, state-collected}
-use Rattle.chip.proofs.Settling.{at-byte, hears-settles, same-event, step-accepted}
+use Rattle.chip.proofs.Settling.{byte-accepted, hears-settles, same-event}
 use Rattle.chip.specs.Run.{Feeding, before, feedFrom}
-use Rattle.chip.specs.Step.{Outcome, byteIn, stepOf}
+use Rattle.chip.specs.Step.{Outcome, stepOf}
 use Rattle.chip_state.specs.Refusals.{goodCollected, goodState, verdictOn}
 use Rattle.chip_state.specs.declared.Chip.{Chip}
 use Rattle.chip.specs.declared.Event.{Event}
 use Rattle.chip.specs.declared.Event.the-variants.{Byte}
 use Rattle.chip.specs.declared.events.Way.the-variants.{Hears}
-use Rattle.chip.specs.inner.Ways.{completesAt, lackingOf, plainOf, stretchOf, wayOf, wayOn}
+use Rattle.chip.specs.inner.Ways.{completesAt, lackingOf, wayOf, wayOn}
 use Rattle.chip_core.specs.Effect.{Flash}
 use Rattle.chip_core.specs.Hearing.{hearing}
 use Rattle.chip_core.specs.declared.Hearing.{Hearing}
@@ -34,7 +34,7 @@ use Rattle.frame.specs.declared.Header.the-variants.{Command, Data}
 use Rattle.frame.specs.declared.collector.Collector.{Collector}
 use Rattle.part.specs.declared.Part.{Part}
 use Rattle.part.specs.declared.refusal.Verdict.{Verdict}
-use Rattle.part.specs.declared.refusal.Verdict.the-variants.{Accepted, Refused}
+use Rattle.part.specs.declared.refusal.Verdict.the-variants.{Accepted}
 use Rattle.words.specs.Words.{_and_, if_then_else_}
 
 -- How many bytes: no more than there are, and the frame is not complete after them.
@@ -52,32 +52,6 @@ lacks count len rest n e h = go (leb 2 count) refl (ltb rest (counted len + 3 - 
     go false t u v e = absurd (omega arith)
     go true t true v e = record { begun = leb-true _ _ t; short = omega (arith, ltb-true rest (counted len + 3 - count) v); there = omega arith }
     go true t false v e = record { begun = leb-true _ _ t; short = omega arith; there = omega (arith, ltb-false rest (counted len + 3 - count) v) }
-
-pub stretch-accepted : (v : Verdict) (n k : ℕ) → k ≡ stretchOf v n → 0 < k → (v ≡ Accepted) × (k ≡ n)
-unfolding stretchOf
-stretch-accepted Accepted n k e h = (refl, e)
-stretch-accepted (Refused r) n k e h = absurd (omega arith)
-
--- What a stretch that is not empty may rely on.
-pub record Plain (p : Part) (c : Chip) (code flash room rest n : ℕ) : Type 0 where
-  pub accepted : verdictOn p c code flash room ≡ Accepted
-  pub lacks : Lacks (c .collector .len) (getD (c .collector .bytes) 1 0) rest n
-
-pub plain-is : (p : Part) (c : Chip) (code flash room rest n : ℕ) → n ≡ plainOf p c code flash room rest → 0 < n → Plain p c code flash room rest n
-unfolding plainOf if_then_else_
-plain-is p c code flash room rest n e h = go (eqb n′ 0) e
-  where
-    n′ : ℕ
-    n′ = lackingOf (c .collector .len) (getD (c .collector .bytes) 1 0) rest
-
-    v : Verdict
-    v = verdictOn p c code flash room
-
-    go : (t : Bool) → n ≡ (if t then 0 else stretchOf v n′) → Plain p c code flash room rest n
-    go true e = absurd (omega arith)
-    go false e =
-        let x = stretch-accepted v n′ n e h in
-        record { accepted = x .0; lacks = lacks (c .collector .len) (getD (c .collector .bytes) 1 0) rest n (x .1) h }
 
 -- The verdict depends on what is collected only by whether the state is good.
 abbrev verdictAt : Part → Chip → Flash → List ℕ → Verdict
@@ -110,7 +84,7 @@ module _ (p : Part) (c : Chip) (m : Flash) (room : List ℕ) (places : length (c
       (state-collected p (c .core) (c .collector .len) (getD (c .collector .bytes) 0 0) (getD (c .collector .bytes) 1 0) (hearing (c .core .phase)) good refl) in
       let lacking : complete (heard (c .collector)) ≡ false = complete-within (c .collector) places (omega arith) ∙ full-not _ _ (omega arith) in
       let adds : added (c .collector) (b ∷ []) ≡ byteOf (c .collector) (w .header) b = added-byte (c .collector) (w .header) b (λ z. omega arith) places (omega arith) lacking in
-      step-accepted (before (after c b) m room) (byteIn (hearing (c .core .phase)) p (c .core) (heard (c .collector)) b m) p c (Byte b) (Byte b) m room accepted refl (at-byte p (c .core) (heard (c .collector)) b m)
+      byte-accepted (before (after c b) m room) p c b m room accepted
       (hears-settles p (c .collector) (added (c .collector) (b ∷ [])) (c .core) (w .header) b m room places a (w .way) adds)
 
   added-at : (i b : ℕ) → i < 2 → getD (added (c .collector) (b ∷ []) .bytes) i 0 ≡ getD (c .collector .bytes) i 0
@@ -172,14 +146,15 @@ the-part i k = omega arith
 
 -- A turn of the loop that takes a stretch.
 pub fed-stretch : {p : Part} {bs : List ℕ} {i : ℕ} {o : Outcome} {t : Feeding} (k : ℕ) (d : Collector) → FedFrom p bs i o t → length (o .chip .collector .bytes) ≡ 260
-    → counted (getD (o .chip .collector .bytes) 1 0) ≤ 256 → k ≡ plainOf p (o .chip) (length (o .memory .codeFlash)) (length (o .memory .dataFlash)) (length (o .room)) (length bs - i)
-    → 0 < k → i < length bs → d ≡ added (o .chip .collector) (take (i + k - i) (drop i bs))
+    → counted (getD (o .chip .collector .bytes) 1 0) ≤ 256 → verdictAt p (o .chip) (o .memory) (o .room) ≡ Accepted
+    → k ≡ lackingOf (o .chip .collector .len) (getD (o .chip .collector .bytes) 1 0) (length bs - i) → 0 < k → i < length bs
+    → d ≡ added (o .chip .collector) (take (i + k - i) (drop i bs))
     → FedFrom p bs (i + k) (before (record { core = o .chip .core; collector = d }) (o .memory) (o .room)) t
-fed-stretch {p} {bs} {i} {o} {t} k d f l s e h q g =
-    let x = plain-is p (o .chip) (length (o .memory .codeFlash)) (length (o .memory .dataFlash)) (length (o .room)) (length bs - i) k e h in
+fed-stretch {p} {bs} {i} {o} {t} k d f l s a e h q g =
+    let x = lacks (o .chip .collector .len) (getD (o .chip .collector .bytes) 1 0) (length bs - i) k e h in
     subst (λ (z : Collector). FedFrom p bs (i + k) (before (record { core = o .chip .core; collector = z }) (o .memory) (o .room)) t)
     (sym (g ∙ ap (λ (j : ℕ). added (o .chip .collector) (take j (drop i bs))) (the-part i k)))
-    (stretch-fed p bs k i (o .chip) (o .memory) (o .room) t (any-answer f q) l s (x .accepted) (x .lacks .begun) (x .lacks .short) (omega (arith, x .lacks .there)))
+    (stretch-fed p bs k i (o .chip) (o .memory) (o .room) t (any-answer f q) l s a (x .begun) (x .short) (omega (arith, x .there)))
 
 -- How many bytes are lacking, by the code's tests; x is what LEN counts.
 pub lacking-early : (count len rest : ℕ) → count < 2 → 0 ≡ lackingOf count len rest

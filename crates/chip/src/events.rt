@@ -2,12 +2,15 @@
 // Document 01, "Frames" ("Collecting"), "Phases" and "Refusal numbers".
 ghost use mathlib.Core.Path.{_≡_};
 ghost use Prim.Native.Nat.{_≤_, _<_, _+_};
-ghost use lib.ListN.{getD, length};
+ghost use lib.ListN.{length};
 ghost use Rattle.chip_core.specs.Effect.{flash, effect};
 ghost use Rattle.chip_core.specs.Hearing.{hearing};
+ghost use Rattle.chip_state.specs.Refusals.{verdictOn};
 ghost use Rattle.frame.specs.Frame.{counted};
+ghost use Rattle.part.specs.declared.refusal.Verdict.the-variants.{Accepted};
+ghost use Rattle.chip.specs.declared.Event.the-variants.{Byte};
 ghost use Rattle.chip.specs.Run.{before, fed, feedOf};
-ghost use Rattle.chip.specs.inner.Ways.{completesAt, lackingOf, plainOf, wayOn, wayOf};
+ghost use Rattle.chip.specs.inner.Ways.{completesAt, lackingOf, wayOn, wayOf};
 ghost use Rattle.chip.specs.Step.{modeByte, poweredOn, frameDoes, outcome, stepOf, freshOf};
 use super::Answer;
 use super::Event;
@@ -104,104 +107,64 @@ fn powered_on(core: Core) -> Core
     }
 }
 
-// One event by the long way: whatever it is, and whatever the state.
-fn long_step(
+// A byte in a state that is accepted, by its way.
+fn byte_step(
     part: Part,
     chip: Chip,
-    event: Event,
+    b: u8,
     code: &mut [u8],
     data: &mut [u8],
     room: &mut [u8],
 ) -> Step
+    requires { ⌜ verdictOn part chip (length (now code)) (length (now «data»)) (length (now room)) ≡ Accepted ⌝ }
     ensures { λ r. ⌜ outcome r (flash (now (code .exit)) (now («data» .exit))) (now (room .exit))
-        ≡ stepOf part chip event (flash (now (code .entry)) (now («data» .entry))) (now (room .entry)) ⌝ }
+        ≡ stepOf part chip (Byte b) (flash (now (code .entry)) (now («data» .entry))) (now (room .entry)) ⌝ }
 {
     let core = chip.core;
     let collector = chip.collector;
-    let count = collector.len;
-    let len = collector.bytes[1];
-    let handed = Handed {
-        count,
-        head: collector.bytes[0],
-        len,
-        code: code.len(),
-        data: data.len(),
-        room: room.len(),
-    };
-    let v = chip_state::verdict(part, core, handed);
-    match v {
-        Verdict::Refused(refusal) => Step {
-            answer: Answer::Refused(refusal),
-            chip,
+    let phase = core.phase;
+    let w = way_in(phase, collector.len, collector.bytes[1]);
+    match w {
+        Way::Mode => Step {
+            answer: Answer::Replied {
+                bytes: 0,
+                frames: 0,
+            },
+            chip: Chip {
+                core: mode_byte(core, b),
+                collector,
+            },
         },
-        Verdict::Accepted => match event {
-            Event::Gap => Step {
+        Way::Hears(header) => Step {
+            answer: Answer::Replied {
+                bytes: 0,
+                frames: 0,
+            },
+            chip: Chip {
+                core,
+                collector: collector.byte(header, b),
+            },
+        },
+        Way::Completes(header) => {
+            let next = collector.byte(header, b);
+            let bytes = next.bytes;
+            let n = next.len;
+            let done = frame_does(part, core, &bytes[0..n], code, data);
+            let after = done.core;
+            let options = after.options;
+            let reply = done.reply;
+            let sent = chip_reply::send(part, options, reply, room);
+            Step {
                 answer: Answer::Replied {
-                    bytes: 0,
-                    frames: 0,
+                    bytes: sent.bytes,
+                    frames: sent.frames,
                 },
                 chip: Chip {
-                    core,
+                    core: after,
                     collector: collector.gap(),
                 },
-            },
-            Event::PowerOn => Step {
-                answer: Answer::Replied {
-                    bytes: 0,
-                    frames: 0,
-                },
-                chip: Chip {
-                    core: powered_on(core),
-                    collector: collector.power_on(),
-                },
-            },
-            Event::Byte(b) => {
-                let phase = core.phase;
-                let w = way_in(phase, count, len);
-                match w {
-                    Way::Mode => Step {
-                        answer: Answer::Replied {
-                            bytes: 0,
-                            frames: 0,
-                        },
-                        chip: Chip {
-                            core: mode_byte(core, b),
-                            collector,
-                        },
-                    },
-                    Way::Hears(header) => Step {
-                        answer: Answer::Replied {
-                            bytes: 0,
-                            frames: 0,
-                        },
-                        chip: Chip {
-                            core,
-                            collector: collector.byte(header, b),
-                        },
-                    },
-                    Way::Completes(header) => {
-                        let next = collector.byte(header, b);
-                        let bytes = next.bytes;
-                        let n = next.len;
-                        let done = frame_does(part, core, &bytes[0..n], code, data);
-                        let after = done.core;
-                        let options = after.options;
-                        let reply = done.reply;
-                        let sent = chip_reply::send(part, options, reply, room);
-                        Step {
-                            answer: Answer::Replied {
-                                bytes: sent.bytes,
-                                frames: sent.frames,
-                            },
-                            chip: Chip {
-                                core: after,
-                                collector: collector.gap(),
-                            },
-                        }
-                    }
-                }
             }
-        },
+        }
     }
 }
 
@@ -251,8 +214,8 @@ fn lacking(count: usize, len: u8, rest: usize) -> usize
     n
 }
 
-// One event, with both areas of flash and the reply room lent. Refused, it changes nothing. A gap, and a byte that is only added to what is collected, are
-// settled here and look at no phase: the chip is then copied once in and once out. What the long way takes is copied for it there, and not before.
+// One event, with both areas of flash and the reply room lent. Refused, it changes nothing. A gap, power-on, and a byte that is only added to what is
+// collected, are settled here: the chip is then copied once in and once out. What any other byte takes is copied for it there, and not before.
 pub fn step(
     part: Part,
     chip: Chip,
@@ -298,9 +261,16 @@ pub fn step(
                 };
             }
             Event::PowerOn => {
-                let whole = chip;
-                let s = long_step(part, whole, event, code, data, room);
-                return s;
+                return Step {
+                    answer: Answer::Replied {
+                        bytes: 0,
+                        frames: 0,
+                    },
+                    chip: Chip {
+                        core: powered_on(core),
+                        collector: collector.power_on(),
+                    },
+                };
             }
             Event::Byte(b) => {
                 if 0 < lacking(at, len, 1) {
@@ -318,42 +288,15 @@ pub fn step(
                     };
                 }
                 let whole = chip;
-                let s = long_step(part, whole, event, code, data, room);
+                let s = byte_step(part, whole, b, code, data, room);
                 return s;
             }
         },
     }
 }
 
-// How many of the bytes still to come are only added to what is collected. The refusals are asked once for all of them.
-fn plain(part: Part, chip: Chip, code: usize, data: usize, room: usize, rest: usize) -> usize
-    ensures { λ r. ⌜ (r ≡ plainOf part chip code «data» room rest) × (counted (getD (chip .collector .bytes) 1 0) ≤ 256) × (length (chip .collector .bytes) ≡ 260) ⌝ }
-{
-    let collector = chip.collector;
-    let count = collector.len;
-    let len = collector.bytes[1];
-    let n = lacking(count, len, rest);
-    if n == 0 {
-        return 0;
-    }
-    let core = chip.core;
-    let handed = Handed {
-        count,
-        head: collector.bytes[0],
-        len,
-        code,
-        data,
-        room,
-    };
-    let v = chip_state::verdict(part, core, handed);
-    match v {
-        Verdict::Accepted => n,
-        Verdict::Refused(refusal) => 0,
-    }
-}
-
 // Bytes one after the other, each a step, up to the first that is answered: its reply is in the room, and the rest of the bytes is the caller's to hand in
-// again. A byte that is refused is not taken.
+// again. A byte that is refused is not taken. The bytes that are only added to what is collected are taken at once, under one verdict.
 pub fn feed(
     part: Part,
     chip: Chip,
@@ -375,52 +318,67 @@ pub fn feed(
     let mut i = 0;
     while i < bytes.len() {
         let next = last.chip;
-        let k = plain(
-            part,
-            next,
-            code.len(),
-            data.len(),
-            room.len(),
-            bytes.len() - i,
-        );
-        if 0 < k {
-            let end = i + k;
-            let core = next.core;
-            let old = next.collector;
-            let collector = old.add_all(&bytes[i..end]);
-            i = end;
-            last = Step {
-                answer: Answer::Replied {
-                    bytes: 0,
-                    frames: 0,
-                },
-                chip: Chip { core, collector },
-            };
-        } else {
-            let b = bytes[i];
-            i = i + 1;
-            last = long_step(part, next, Event::Byte(b), code, data, room);
-            let answer = last.answer;
-            let chip = last.chip;
-            match answer {
-                Answer::Replied {
-                    bytes: n,
-                    frames: f,
-                } => {
-                    if 0 < f {
-                        return Fed {
-                            taken: i,
-                            answer,
-                            chip,
-                        };
-                    }
-                }
-                Answer::Refused(refusal) => {
-                    return Fed {
-                        taken: i - 1,
-                        answer,
-                        chip,
+        let core = next.core;
+        let old = next.collector;
+        let at = old.len;
+        let len = old.bytes[1];
+        let handed = Handed {
+            count: at,
+            head: old.bytes[0],
+            len,
+            code: code.len(),
+            data: data.len(),
+            room: room.len(),
+        };
+        let v = chip_state::verdict(part, core, handed);
+        match v {
+            Verdict::Refused(refusal) => {
+                return Fed {
+                    taken: i,
+                    answer: Answer::Refused(refusal),
+                    chip: next,
+                };
+            }
+            Verdict::Accepted => {
+                let k = lacking(at, len, bytes.len() - i);
+                if 0 < k {
+                    let end = i + k;
+                    let collector = old.add_all(&bytes[i..end]);
+                    i = end;
+                    last = Step {
+                        answer: Answer::Replied {
+                            bytes: 0,
+                            frames: 0,
+                        },
+                        chip: Chip { core, collector },
                     };
+                } else {
+                    let b = bytes[i];
+                    i = i + 1;
+                    last = byte_step(part, next, b, code, data, room);
+                    let answer = last.answer;
+                    let chip = last.chip;
+                    match answer {
+                        Answer::Replied {
+                            bytes: n,
+                            frames: f,
+                        } => {
+                            if 0 < f {
+                                return Fed {
+                                    taken: i,
+                                    answer,
+                                    chip,
+                                };
+                            }
+                        }
+                        Answer::Refused(refusal) => {
+                            return Fed {
+                                taken: i - 1,
+                                answer,
+                                chip,
+                            };
+                        }
+                    }
                 }
             }
         }

@@ -1,10 +1,7 @@
 -- The ways of a byte, by the count and the LEN byte of what is collected, as the code decides them; and how many bytes to come are only added.
 use mathlib.Core.Bool.{Bool}
 use Prim.Native.Nat.{_+_, _-_, ℕ}
-use lib.Dec.{eqb, leb, ltb}
-use lib.ListN.{getD}
-use Rattle.chip_state.specs.Refusals.{verdictOn}
-use Rattle.chip_state.specs.declared.Chip.{Chip}
+use lib.Dec.{leb, ltb}
 use Rattle.chip.specs.declared.events.Way.{Way}
 use Rattle.chip.specs.declared.events.Way.the-variants.{Completes, Hears, Mode}
 use Rattle.chip_core.specs.declared.Hearing.{Hearing}
@@ -12,9 +9,6 @@ use Rattle.chip_core.specs.declared.Hearing.the-variants.{HearsCommands, HearsD
 use Rattle.frame.specs.Frame.{counted}
 use Rattle.frame.specs.declared.Header.{Header}
 use Rattle.frame.specs.declared.Header.the-variants.{Command, Data}
-use Rattle.part.specs.declared.Part.{Part}
-use Rattle.part.specs.declared.refusal.Verdict.{Verdict}
-use Rattle.part.specs.declared.refusal.Verdict.the-variants.{Accepted, Refused}
 use Rattle.words.specs.Words.{_and_, if_then_else_}
 
 -- The byte after these is the last of its frame.
@@ -34,13 +28,3 @@ unfoldable pub lackingOf : ℕ → ℕ → ℕ → ℕ
 lackingOf count len rest =
     if leb 2 count then (if ltb rest (counted len + 3 - count) then rest else counted len + 3 - count)
     else 0
-
--- Where the state is accepted, they are a stretch.
-unfoldable pub stretchOf : Verdict → ℕ → ℕ
-stretchOf Accepted n = n
-stretchOf (Refused r) n = 0
-
-unfoldable pub plainOf : Part → Chip → ℕ → ℕ → ℕ → ℕ → ℕ
-plainOf p c code «data» room rest =
-    let n = lackingOf (c .collector .len) (getD (c .collector .bytes) 1 0) rest in
-    if eqb n 0 then 0 else stretchOf (verdictOn p c code «data» room) n

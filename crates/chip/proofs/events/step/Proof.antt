@@ -1,12 +1,12 @@
--- `chip::events::step` meets its contract: refusals first; a gap and a byte that is only added are settled here, the rest is the long way's.
+-- `chip::events::step` meets its contract: refusals first; a gap, power-on and a byte that is only added are settled here, any other byte by its way.
 -- Assumes nothing.
 use mathlib.Core.Path.{_∙_, _≡_, sym}
 use lib.ListN.{length}
 use borrow.Author.Needs.{needs}
 use Rattle.chip_state.proofs.Laws.{accepts}
-use Rattle.chip.proofs.Settling.{at-gap, emptied, same-event, step-accepted, step-barred}
+use Rattle.chip.proofs.Settling.{at-gap, at-power-on, emptied, same-event, step-accepted, step-barred}
 use Rattle.chip.proofs.Stretching.{byte-adds}
-use Rattle.chip.specs.declared.Event.the-variants.{Gap}
+use Rattle.chip.specs.declared.Event.the-variants.{Gap, PowerOn}
 use Rattle.frame.proofs.Laws.Collector.{adds-collector}
 use Rattle.chip.proofs.events.step.Statement.{statement}
 use Rattle.chip.proofs.events.step.Tie as tie
@@ -19,8 +19,20 @@ returns c = step-barred _ _ _ _ _ _ (sym (c .before .before .before .verdict .en
 
 returns-2 : tie.Need-returns-2
 returns-2 c =
-    step-accepted _ _ _ _ _ Gap _ _ (sym (c .before .before .before .before .before .verdict .ensures) ∙ c .before .before .before .enum-told .given .1) (c .before .enum-told2 .given .1) (at-gap _ _ _ _)
-    (emptied _ _ _ _ _ _ _ (c .gap .ensures) ((accepts (sym (c .before .before .before .before .before .verdict .ensures) ∙ c .before .before .before .enum-told .given .1)) .roomy))
+    let verdict = c .before .before .before .before .before .verdict in
+    let enum-told = c .before .before .before .enum-told in
+    let enum-told2 = c .before .enum-told2 in
+    let accepted = sym (verdict .ensures) ∙ enum-told .given .1 in
+    step-accepted _ _ _ _ _ Gap _ _ accepted (enum-told2 .given .1) (at-gap _ _ _ _) (emptied _ _ _ _ _ _ _ (c .gap .ensures) (accepts accepted .roomy))
+
+returns-3 : tie.Need-returns-3
+returns-3 c =
+    let verdict = c .before .before .before .before .before .before .verdict in
+    let enum-told = c .before .before .before .before .enum-told in
+    let enum-told3 = c .before .before .enum-told3 in
+    let powered-on = c .before .powered-on in
+    let accepted = sym (verdict .ensures) ∙ enum-told .given .1 in
+    step-accepted _ _ _ _ _ PowerOn _ _ accepted (enum-told3 .given .1) (at-power-on _ _ _ _ _ (powered-on .ensures)) (emptied _ _ _ _ _ _ _ (c .power-on .ensures) (accepts accepted .roomy))
 
 returns-4 : tie.Need-returns-4
 returns-4 c =
@@ -29,10 +41,20 @@ returns-4 c =
     let enum-told = c .before .before .before .before .before .before .before .enum-told in
     let event = c .before .before .before .before .before .event in
     let lacking = c .before .before .before .lacking in
-    byte-adds _ _ _ _ _ _ _ _ (long start) (lacking .ensures .1) (sym (verdict .ensures) ∙ enum-told .given .1) (lacking .ensures .0) (c .before .before .if1 .taken) (event .given .1) (adds-collector _ _ _ _ (c .add .ensures))
+    let if1 = c .before .before .if1 in
+    byte-adds _ _ _ _ _ _ _ _ (long start) (lacking .ensures .1) (sym (verdict .ensures) ∙ enum-told .given .1) (lacking .ensures .0) (if1 .taken) (event .given .1) (adds-collector _ _ _ _ (c .add .ensures))
+
+byte-step-requires : tie.Need-byte-step-requires
+byte-step-requires c κs =
+    let verdict = c .before .before .before .before .before .before .before .before .before .before .verdict in
+    let enum-told = c .before .before .before .before .before .before .before .before .enum-told in
+    sym (verdict .ensures) ∙ enum-told .given .1
 
 returns-5 : tie.Need-returns-5
-returns-5 c = same-event _ _ _ _ _ _ _ (c .before .before .before .before .before .before .long-step2 .ensures) (c .before .before .before .before .before .before .before .before .before .before .before .before .before .event .given .1)
+returns-5 c =
+    let event = c .before .before .before .before .before .before .before .before .before .before .before .before .before .event in
+    let byte-step = c .before .before .before .before .before .before .byte-step in
+    same-event _ _ _ _ _ _ _ (byte-step .ensures) (event .given .1)
 
 pub step-spec : {M : Type 1} → statement M
 step-spec =
@@ -49,15 +71,13 @@ step-spec =
     returns-2
     (λ c. search needs)
     (λ c κs. search needs)
-    (λ c. search needs)
-    (λ c. search needs)
-    (λ c. search needs)
-    (λ c. search needs)
+    (λ c κs. search needs)
+    returns-3
     (λ c. search needs)
     (λ c κs. search needs)
     (λ c κs. search needs)
     returns-4
-    (λ c κs. search needs)
+    byte-step-requires
     (λ c. search needs)
     (λ c. search needs)
     (λ c. search needs)
