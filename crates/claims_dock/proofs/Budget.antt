@@ -9,14 +9,14 @@ use native.Mathlib.Omega.{arith}
 use lib.Dec.{eqb, ltb}
 use lib.ListN.{length}
 use borrow.Author.Tests.{ltb-true}
+use Rattle.commands.specs.Commands.{comOf}
 use Rattle.dock_answer.specs.Answer.{readAnswer}
 use Rattle.dock_answer.specs.declared.Decoded.{Decoded}
 use Rattle.dock_answer.specs.declared.Decoded.the-variants.{Garbled, Said}
 use Rattle.claims_dock.specs.Examples.{at}
 use Rattle.dock_flow.proofs.Laws.{not-last}
 use Rattle.dock_flow.specs.Flow.{Heard, afterAnswer, afterHeard, afterSetup, afterStatus, afterWork, answered, blockFrom, failing, fails, firstStage, inBlock, leads, next, retried, saysNotBlank, setupFrom, silence}
-use Rattle.dock_flow.specs.Frames.{queryAt}
-use Rattle.dock_flow.specs.Frames.{lastPage, queryAt}
+use Rattle.dock_flow.specs.Frames.{lastPage, queryAt, queryWith}
 use Rattle.dock_flow.specs.declared.Turned.{Turned}
 use Rattle.dock_job.proofs.Laws.{block-yes, page-is, page-yes, pages-some, place-is, verified-is}
 use Rattle.dock_job.specs.Job.{blocksOf, bound, isOver, pagesOf, perBlock, setup}
@@ -44,7 +44,7 @@ workNeeds n (VerifyPage p) = n - p
 
 unfoldable pub leftIn : Job → Setup → List Setup → ℕ
 leftIn j s [] = 0
-leftIn j s (x ∷ xs) = if eqb (queryAt j (SetUp s) .command) (queryAt j (SetUp x) .command) then length (x ∷ xs) else leftIn j s xs
+leftIn j s (x ∷ xs) = if eqb (comOf (queryAt j (SetUp s) .command)) (comOf (queryAt j (SetUp x) .command)) then length (x ∷ xs) else leftIn j s xs
 
 unfoldable pub needs : Job → Stage → ℕ
 needs j (SetUp s) = leftIn j s (setup j) + perBlock j * blocksOf j
@@ -55,7 +55,7 @@ one-more : (q a b : ℕ) → a ≡ b + 1 → q * a ≡ q * b + q
 one-more q a b e = rw e (omega arith)
 
 setup-some : (j : Job) (s : Setup) → 1 ≤ leftIn j s (setup j)
-unfolding queryAt leftIn setup if_then_else_
+unfolding queryWith comOf leftIn setup if_then_else_
 setup-some j BaudRate = omega arith
 setup-some j ResetChip = omega arith
 setup-some j SiliconSignature = omega arith
@@ -105,7 +105,7 @@ the-rest j k = go (ltb k (blocksOf j)) refl
     go false e = record { good = refl; few = omega arith }
 
 setup-kept : (j : Job) (used : ℕ) (s : Setup) → used ≤ j .retries → Kept j used (SetUp s) (leads (afterSetup j s (setup j)) 0)
-unfolding queryAt afterSetup setupFrom setup leftIn if_then_else_ needs goodStage
+unfolding queryWith comOf afterSetup setupFrom setup leftIn if_then_else_ needs goodStage
 setup-kept j used BaudRate u = free j used (SetUp BaudRate) (SetUp ResetChip) u refl (omega arith)
 setup-kept j used ResetChip u = free j used (SetUp ResetChip) (SetUp SiliconSignature) u refl (omega arith)
 setup-kept j used SiliconSignature u =
@@ -158,7 +158,7 @@ next-kept j used (InBlock k w) u g o = work-kept j used k u (place-is j k w g .i
 next-kept j used (Over e) u g o = absurd (true≢false o)
 
 failing-good : (j : Job) (c : Cause) (s : ℕ) (st : Stage) → goodStage j st ≡ true → goodFailure j (failing c s (queryAt j st)) ≡ true
-unfolding goodFailure goodNamedBlock goodNamedPage queryAt goodWork _and_
+unfolding goodFailure goodNamedBlock goodNamedPage queryWith comOf goodWork _and_
 failing-good j c s (SetUp BaudRate) g = refl
 failing-good j c s (SetUp ResetChip) g = refl
 failing-good j c s (SetUp SiliconSignature) g = refl
@@ -203,7 +203,7 @@ retried-kept j used st s u g o = go (ltb used (j .retries)) refl
 -- 22h comes only after 32h.
 erasing-kept : (j : Job) (used : ℕ) (st : Stage) (s : ℕ) → used ≤ j .retries → goodStage j st ≡ true → saysNotBlank j st s ≡ true
     → Kept j used st (leads (inBlock Erase st) 0)
-unfolding saysNotBlank inBlock queryAt goodWork workNeeds
+unfolding saysNotBlank inBlock queryWith comOf goodWork workNeeds
 erasing-kept j used (SetUp BaudRate) s u g n = absurd (false≢true (and-left _ _ n))
 erasing-kept j used (SetUp ResetChip) s u g n = absurd (false≢true (and-left _ _ n))
 erasing-kept j used (SetUp SiliconSignature) s u g n = absurd (false≢true (and-left _ _ n))
@@ -240,7 +240,7 @@ heard-kept j used st silence u g o = fails-kept j used st TimedOut 0x00 u g o
 
 -- At the start what is needed, and a block's frames for each retry allowed, are the bound.
 pub start-needs : (j : Job) → needs j (firstStage j) + perBlock j * j .retries ≡ bound j
-unfolding queryAt needs setupFrom setup leftIn if_then_else_ bound
+unfolding queryWith comOf needs setupFrom setup leftIn if_then_else_ bound
 start-needs j = omega arith
 
 pub start-good : (j : Job) → goodStage j (firstStage j) ≡ true

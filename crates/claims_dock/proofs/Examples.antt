@@ -6,7 +6,7 @@ use lib.ListN.{length}
 use Rattle.dock_answer.specs.Answer.{carriedBy, deciding, exactly, matching, rateMatches, readAnswer, readable, shape, signatureMatches, statuses}
 use Rattle.claims_dock.specs.Examples.{Frame, Place, RefusalRow, frames, places, refusals, theImage, theJob, worst}
 use Rattle.dock_flow.specs.Flow.{afterAnswer, afterHeard, afterSetup, afterStatus, afterWork, blockFrom, exchanges, flow, framesIn, inBlock, next, placeAfter, retried, saysNotBlank, setupFrom, spentIn}
-use Rattle.dock_flow.specs.Frames.{frameAt, lastPage, pageFooter, queryAt, setupFrame, storedForm, workFrame}
+use Rattle.dock_flow.specs.Frames.{firstOfBlock, frameAt, lastOfBlock, lastPage, pageFooter, queryWith, storedForm, workFrame}
 use Rattle.frame.specs.Frame.{counted, framed, isFrame}
 use Rattle.frame.specs.Judgement.{judgeOf, summed}
 use Rattle.frame.specs.Sum.{less, lessAll, sumOf}
@@ -22,31 +22,33 @@ use Rattle.part.specs.Rate.{acceptsRate, modeOf}
 use Rattle.part.specs.Refusal.{firstOf}
 use Rattle.part.specs.Signature.{signature}
 use Rattle.words.specs.Words.{_and_, _from_to_, _or_, if_then_else_}
+use Rattle.commands.specs.Commands.{comOf, informationOf, payloadOf}
 
 pub frames-printed : map (λ (x : Frame). x .gives) frames ≡ map (λ (x : Frame). x .printed) frames
-unfolding frames flow exchanges placeAfter framesIn spentIn afterHeard afterAnswer afterStatus retried next afterSetup setupFrom setup afterWork blockFrom
-    inBlock saysNotBlank queryAt storedForm lastPage frameAt setupFrame workFrame pageFooter readAnswer readable exactly carriedBy shape statuses deciding
-    matching rateMatches signatureMatches same signature lowFirst lastOf blockSize rangeOf wholeBlocks liesIn startsBlock endsBlock stretch blockOf modeOf
-    readOf framed counted isFrame judgeOf summed sumOf lessAll less blocksIn areaIn isOver bound _and_ _or_ if_then_else_
+unfolding frames comOf informationOf payloadOf firstOfBlock frameAt lastOfBlock lastPage pageFooter queryWith storedForm workFrame areaIn framed less lessAll
+    sumOf lowFirst blockOf blockSize endsBlock liesIn rangeOf startsBlock stretch wholeBlocks _and_ _from_to_ _or_ if_then_else_
 frames-printed = refl
 
 pub places-expected : map (λ (x : Place). x .stands) places ≡ map (λ (x : Place). x .expected) places
-unfolding places flow exchanges placeAfter framesIn spentIn afterHeard afterAnswer afterStatus retried next afterSetup setupFrom setup afterWork blockFrom
-    inBlock saysNotBlank queryAt storedForm lastPage frameAt setupFrame workFrame pageFooter readAnswer readable exactly carriedBy shape statuses deciding
-    matching rateMatches signatureMatches same signature lowFirst lastOf blockSize rangeOf wholeBlocks liesIn startsBlock endsBlock stretch blockOf modeOf
-    readOf framed counted isFrame judgeOf summed sumOf lessAll less blocksIn areaIn isOver bound _and_ _or_ if_then_else_
+unfolding places comOf informationOf payloadOf carriedBy deciding exactly matching rateMatches readAnswer readable shape signatureMatches statuses afterAnswer
+    afterHeard afterSetup afterStatus afterWork blockFrom exchanges flow framesIn inBlock next placeAfter retried saysNotBlank setupFrom spentIn firstOfBlock
+    frameAt lastOfBlock lastPage pageFooter queryWith storedForm workFrame areaIn blocksIn isOver setup counted framed isFrame judgeOf summed less lessAll
+    sumOf readOf same lowFirst blockOf blockSize endsBlock lastOf liesIn rangeOf startsBlock stretch wholeBlocks modeOf signature _and_ _from_to_ _or_
+    if_then_else_
 places-expected = refl
 
 -- "at most 3 + 12(B + R) frames": 39 for two blocks and one retry, and that many are sent.
 pub bound-reached : (length (flow theJob theImage worst .sent) ≡ 39) × (flow theJob theImage worst .spent ≡ 1) × (flow theJob theImage worst .place ≡ Over Finished) × (bound theJob ≡ 39)
-unfolding worst flow exchanges placeAfter framesIn spentIn afterHeard afterAnswer afterStatus retried next afterSetup setupFrom setup afterWork blockFrom
-    inBlock saysNotBlank queryAt storedForm lastPage frameAt setupFrame workFrame pageFooter readAnswer readable exactly carriedBy shape statuses deciding
-    matching rateMatches signatureMatches same signature lowFirst lastOf blockSize rangeOf wholeBlocks liesIn startsBlock endsBlock stretch blockOf modeOf
-    readOf framed counted isFrame judgeOf summed sumOf lessAll less blocksIn areaIn isOver bound _and_ _or_ if_then_else_
+unfolding worst comOf informationOf payloadOf carriedBy deciding exactly matching rateMatches readAnswer readable shape signatureMatches statuses afterAnswer
+    afterHeard afterSetup afterStatus afterWork blockFrom exchanges flow framesIn inBlock next placeAfter retried saysNotBlank setupFrom spentIn firstOfBlock
+    frameAt lastOfBlock lastPage pageFooter queryWith storedForm workFrame areaIn blocksIn bound isOver setup due spent counted framed isFrame judgeOf summed
+    less lessAll sumOf readOf same lowFirst blockOf blockSize endsBlock lastOf liesIn rangeOf startsBlock stretch wholeBlocks modeOf signature _and_ _from_to_
+    _or_ if_then_else_
 bound-reached = (refl, refl, refl, refl)
 
 pub refusals-expected : map (λ (x : RefusalRow). x .gives) refusals ≡ map (λ (x : RefusalRow). x .expected) refusals
-unfolding refusals callVerdict firstOf badJob isBad goodBlock goodPage goodNamedBlock goodNamedPage goodFailure goodEnding goodWork goodStage goodDock due
-    spent badState shortRoom outOfTurn bound setup isOver blocksIn areaIn acceptsRate described _from_to_ blockSize rangeOf wholeBlocks liesIn startsBlock
-    endsBlock stretch blockOf _and_ _or_ if_then_else_
+unfolding frames refusals comOf informationOf payloadOf firstOfBlock frameAt lastOfBlock lastPage pageFooter queryWith storedForm workFrame areaIn blocksIn
+    bound isOver setup badJob badState callVerdict due goodBlock goodDock goodEnding goodFailure goodNamedBlock goodNamedPage goodPage goodStage goodWork
+    isBad outOfTurn shortRoom spent framed less lessAll sumOf lowFirst blockOf blockSize described endsBlock liesIn rangeOf startsBlock stretch wholeBlocks
+    acceptsRate firstOf _and_ _from_to_ _or_ if_then_else_
 refusals-expected = refl

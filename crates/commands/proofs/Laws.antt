@@ -92,6 +92,19 @@ same-three : {a b c d : ℕ} (x y : ℕ) → a ≡ b → c ≡ d → x ≡ y →
 same-three {a} {b} {c} {d} x y e g h = same-two (λ (m n : ℕ). BlankCheck m n x) e g ∙ ap (BlankCheck b d) h
 
 -- How long a payload is: LEN of the longest is 8.
+-- COM of those that the dock's setup sends.
+pub com-rate : (rate supply : ℕ) → comOf (RateSet rate supply) ≡ 0x9A
+unfolding comOf
+com-rate rate supply = refl
+
+pub com-reset : comOf Reset ≡ 0x00
+unfolding comOf
+com-reset = refl
+
+pub com-signature : comOf SignatureGet ≡ 0xC0
+unfolding comOf
+com-signature = refl
+
 pub payload-some : (c : Command) → 1 ≤ length (payloadOf c)
 unfolding payloadOf
 payload-some c = omega arith

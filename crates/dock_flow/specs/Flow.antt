@@ -4,6 +4,7 @@ use mathlib.Core.Bool.{Bool}
 use mathlib.Core.List.{List, [], _∷_}
 use Prim.Native.Nat.{_+_, ℕ}
 use lib.Dec.{eqb, ltb}
+use Rattle.commands.specs.Commands.{comOf}
 use Rattle.dock_answer.specs.Answer.{readAnswer}
 use Rattle.dock_answer.specs.declared.Decoded.{Decoded}
 use Rattle.dock_answer.specs.declared.Decoded.the-variants.{Garbled, Said}
@@ -38,7 +39,7 @@ firstStage j = setupFrom j (setup j)
 
 unfoldable pub afterSetup : Job → Setup → List Setup → Stage
 afterSetup j s [] = blockFrom j 0
-afterSetup j s (x ∷ xs) = if eqb (queryAt j (SetUp s) .command) (queryAt j (SetUp x) .command) then setupFrom j xs else afterSetup j s xs
+afterSetup j s (x ∷ xs) = if eqb (comOf (queryAt j (SetUp s) .command)) (comOf (queryAt j (SetUp x) .command)) then setupFrom j xs else afterSetup j s xs
 
 -- What follows in a block: "32h with 00h; 22h if that said 1Bh; 40h and four pages; 13h and four pages."
 unfoldable pub afterWork : Job → ℕ → Work → Stage
@@ -57,7 +58,7 @@ next j (Over e) = Over e
 
 -- "22h if that said 1Bh": of 32h this status is expected too.
 unfoldable pub saysNotBlank : Job → Stage → ℕ → Bool
-saysNotBlank j st s = eqb (queryAt j st .command) 0x32 and eqb s 0x1B
+saysNotBlank j st s = eqb (comOf (queryAt j st .command)) 0x32 and eqb s 0x1B
 
 -- Another frame of the stage's block; a setup command stays the one that it is.
 unfoldable pub inBlock : Work → Stage → Stage
@@ -71,7 +72,7 @@ leads st n = record { stage = st; spent = n }
 
 -- "naming cause .., frame (command, and page if one), status and block, or none in setup"
 abbrev pub failing : Cause → ℕ → Query → Failure
-failing c s q = record { cause = c; command = q .command; page = q .page; status = s; block = q .block }
+failing c s q = record { cause = c; command = comOf (q .command); page = q .page; status = s; block = q .block }
 
 abbrev pub fails : Job → Cause → ℕ → Stage → Turned
 fails j c s st = leads (Over (Failed (failing c s (queryAt j st)))) 0

@@ -4,12 +4,13 @@ ghost use mathlib.Core.Bool.{true};
 ghost use Prim.Native.Nat.{_+_, _*_, _≤_};
 ghost use lib.ListN.{length};
 ghost use Rattle.part.specs.Rate.{acceptsRate};
-ghost use Rattle.frame.specs.Frame.{commandFrame, dataFrame};
+ghost use Rattle.frame.specs.Frame.{dataFrame};
 ghost use Rattle.dock_job.specs.Job.{lengthOf, sizeOf};
-ghost use Rattle.part.specs.Part.{addressBytes, pageSize};
-ghost use Rattle.dock_job.specs.Refusals.{goodBlock, goodPage, goodWork, goodStage};
-ghost use Rattle.dock_flow.specs.Frames.{lastPage, storedForm, queryOf, queryAt, firstOfBlock, blockRange, pageBytes, pageFooter, setupFrame, workFrame};
+ghost use Rattle.part.specs.Part.{pageSize};
+ghost use Rattle.dock_job.specs.Refusals.{goodBlock, goodNamedPage, goodPage, goodStage};
+ghost use Rattle.dock_flow.specs.Frames.{lastPage, storedForm, queryOf, queryWith, firstOfBlock, lastOfBlock, pageBytes, pageFooter, frameOf, workFrame};
 ghost use Rattle.dock_flow.specs.Frames.{frameAt, placed, placing, handing, sendOf};
+use commands::Command;
 use dock_answer::Form;
 use dock_job::Dock;
 use dock_job::Job;
@@ -21,12 +22,13 @@ use dock_job::refusals;
 use dock_job::refusals::Call;
 use frame::Footer;
 use frame::wire;
+use frame::wire::Wrote;
 use part::refusal::Refusal;
 use part::refusal::Verdict;
 
 // The command of a stage's frame, the page and the block that a failure names, and what the answer looks like.
 pub struct Query {
-    pub command: u8,
+    pub command: Command,
     pub page: Named,
     pub block: Named,
     pub form: Form,
@@ -53,7 +55,19 @@ fn stored_form(job: Job, page: u32) -> Form
     Form::OfPage
 }
 
-fn query_of(command: u8, page: Named, block: Named, form: Form) -> Query
+fn first_of_block(job: Job, block: u32) -> usize
+    ensures { λ r. ⌜ (r ≡ firstOfBlock job block) × (r ≤ 0x2000000000000) ⌝ }
+{
+    (job.start as usize) + (block as usize) * job.block_size()
+}
+
+fn last_of_block(job: Job, block: u32) -> usize
+    ensures { λ r. ⌜ r ≡ lastOfBlock job block ⌝ }
+{
+    first_of_block(job, block) + (job.block_size() - 1)
+}
+
+fn query_of(command: Command, page: Named, block: Named, form: Form) -> Query
     ensures { λ r. ⌜ r ≡ queryOf command page block form ⌝ }
 {
     Query {
@@ -64,62 +78,69 @@ fn query_of(command: u8, page: Named, block: Named, form: Form) -> Query
     }
 }
 
-pub(crate) fn query_at(job: Job, stage: Stage) -> Query
-    ensures { λ r. ⌜ r ≡ queryAt job stage ⌝ }
+// Rate and supply are beside the job, since those of one that is not accepted may be no bytes.
+pub(crate) fn query_with(rate: u8, supply: u8, job: Job, stage: Stage) -> Query
+    ensures { λ r. ⌜ r ≡ queryWith rate supply job stage ⌝ }
 {
     let none = Named::Unnamed;
     match stage {
         Stage::SetUp(s) => match s {
-            Setup::BaudRate => query_of(0x9A, none, none, Form::WithRate),
-            Setup::ResetChip => query_of(0x00, none, none, Form::OneStatus),
-            Setup::SiliconSignature => query_of(0xC0, none, none, Form::WithSignature),
+            Setup::BaudRate => {
+                query_of(
+                    Command::RateSet { rate, supply },
+                    none,
+                    none,
+                    Form::WithRate,
+                )
+            }
+            Setup::ResetChip => query_of(Command::Reset, none, none, Form::OneStatus),
+            Setup::SiliconSignature => {
+                query_of(Command::SignatureGet, none, none, Form::WithSignature)
+            }
         },
         Stage::InBlock { block, work } => {
             let k = Named::It(block);
+            let start = first_of_block(job, block);
+            let end = last_of_block(job, block);
             match work {
-                Work::Blank => query_of(0x32, none, k, Form::OneStatus),
-                Work::Erase => query_of(0x22, none, k, Form::OneStatus),
-                Work::Program => query_of(0x40, none, k, Form::OneStatus),
-                Work::ProgramPage(page) => {
-                    query_of(0x40, Named::It(page), k, stored_form(job, page))
+                Work::Blank => query_of(
+                    Command::BlankCheck {
+                        start,
+                        end,
+                        d01: 0x00,
+                    },
+                    none,
+                    k,
+                    Form::OneStatus,
+                ),
+                Work::Erase => query_of(Command::BlockErase { start }, none, k, Form::OneStatus),
+                Work::Program => {
+                    query_of(
+                        Command::Programming { start, end },
+                        none,
+                        k,
+                        Form::OneStatus,
+                    )
                 }
-                Work::VerifyBlock => query_of(0x13, none, k, Form::OneStatus),
-                Work::VerifyPage(page) => query_of(0x13, Named::It(page), k, Form::OfPage),
+                Work::ProgramPage(page) => query_of(
+                    Command::Programming { start, end },
+                    Named::It(page),
+                    k,
+                    stored_form(job, page),
+                ),
+                Work::VerifyBlock => {
+                    query_of(Command::Verify { start, end }, none, k, Form::OneStatus)
+                }
+                Work::VerifyPage(page) => query_of(
+                    Command::Verify { start, end },
+                    Named::It(page),
+                    k,
+                    Form::OfPage,
+                ),
             }
         }
-        Stage::Over(e) => query_of(0x00, none, none, Form::OneStatus),
+        Stage::Over(e) => query_of(Command::Reset, none, none, Form::OneStatus),
     }
-}
-
-fn address(n: usize) -> [u8; 3]
-    ensures { λ r. ⌜ r ≡ addressBytes n ⌝ }
-{
-    [
-        (n % 256) as u8,
-        (n / 256 % 256) as u8,
-        (n / 65536 % 256) as u8,
-    ]
-}
-
-fn first_of_block(job: Job, block: u32) -> usize
-    ensures { λ r. ⌜ (r ≡ firstOfBlock job block) × (r ≤ 0x2000000000000) ⌝ }
-{
-    (job.start as usize) + (block as usize) * job.block_size()
-}
-
-fn block_range(job: Job, block: u32) -> [u8; 6]
-    ensures { λ r. ⌜ r ≡ blockRange job block ⌝ }
-{
-    let first = first_of_block(job, block);
-    let last = first + (job.block_size() - 1);
-    [
-        (first % 256) as u8,
-        (first / 256 % 256) as u8,
-        (first / 65536 % 256) as u8,
-        (last % 256) as u8,
-        (last / 256 % 256) as u8,
-        (last / 65536 % 256) as u8,
-    ]
 }
 
 fn page_footer(job: Job, page: u32) -> Footer
@@ -131,26 +152,15 @@ fn page_footer(job: Job, page: u32) -> Footer
     Footer::More
 }
 
-fn send_command(room: &mut [u8], command: u8, information: &[u8]) -> usize
-    requires { ⌜ (260 ≤ length (now room)) × (length (now information) ≤ 255) ⌝ }
-    ensures { λ r. ⌜ placed r (now (room .exit)) ≡ placing (commandFrame command (now (information .entry))) (now (room .entry)) ⌝ }
+fn send_command(room: &mut [u8], command: Command) -> usize
+    requires { ⌜ 260 ≤ length (now room) ⌝ }
+    ensures { λ r. ⌜ placed r (now (room .exit)) ≡ placing (frameOf command) (now (room .entry)) ⌝ }
 {
-    wire::write_command(room, command, information);
-    information.len() + 5
-}
-
-fn send_setup(job: Job, s: Setup, room: &mut [u8]) -> usize
-    requires { ⌜ (acceptsRate (job .part) (job .rate) (job .supply) ≡ true) × (260 ≤ length (now room)) ⌝ }
-    ensures { λ r. ⌜ placed r (now (room .exit)) ≡ placing (setupFrame job s) (now (room .entry)) ⌝ }
-{
-    let none = [0u8; 0];
-    match s {
-        Setup::BaudRate => {
-            let information = [job.rate as u8, job.supply as u8];
-            send_command(room, 0x9A, &information)
-        }
-        Setup::ResetChip => send_command(room, 0x00, &none),
-        Setup::SiliconSignature => send_command(room, 0xC0, &none),
+    let wrote = commands::write(room, command);
+    match wrote {
+        Wrote::Long(n) => n,
+        Wrote::UnfitPayload => 0,
+        Wrote::NoRoom => 0,
     }
 }
 
@@ -173,32 +183,20 @@ fn send_page(job: Job, image: &[u8], block: u32, page: u32, room: &mut [u8]) -> 
     260
 }
 
-fn send_work(job: Job, image: &[u8], block: u32, work: Work, room: &mut [u8]) -> usize
-    requires { ⌜ (goodBlock job block ≡ true) × (goodWork job work ≡ true) × (length (now image) ≡ lengthOf job) × (260 ≤ length (now room)) ⌝ }
-    ensures { λ r. ⌜ placed r (now (room .exit)) ≡ placing (workFrame job (now (image .entry)) block work) (now (room .entry)) ⌝ }
+fn send_work(
+    job: Job,
+    image: &[u8],
+    block: u32,
+    page: Named,
+    command: Command,
+    room: &mut [u8],
+) -> usize
+    requires { ⌜ (goodBlock job block ≡ true) × (goodNamedPage job page ≡ true) × (length (now image) ≡ lengthOf job) × (260 ≤ length (now room)) ⌝ }
+    ensures { λ r. ⌜ placed r (now (room .exit)) ≡ placing (workFrame job (now (image .entry)) block page command) (now (room .entry)) ⌝ }
 {
-    let range = block_range(job, block);
-    match work {
-        Work::Blank => {
-            let information = [
-                range[0],
-                range[1],
-                range[2],
-                range[3],
-                range[4],
-                range[5],
-                0x00,
-            ];
-            send_command(room, 0x32, &information)
-        }
-        Work::Erase => {
-            let information = address(first_of_block(job, block));
-            send_command(room, 0x22, &information)
-        }
-        Work::Program => send_command(room, 0x40, &range),
-        Work::ProgramPage(page) => send_page(job, image, block, page, room),
-        Work::VerifyBlock => send_command(room, 0x13, &range),
-        Work::VerifyPage(page) => send_page(job, image, block, page, room),
+    match page {
+        Named::It(number) => send_page(job, image, block, number, room),
+        Named::Unnamed => send_command(room, command),
     }
 }
 
@@ -207,9 +205,12 @@ fn put(job: Job, image: &[u8], stage: Stage, room: &mut [u8]) -> usize
         × (length (now image) ≡ lengthOf job) × (260 ≤ length (now room)) ⌝ }
     ensures { λ r. ⌜ placed r (now (room .exit)) ≡ placing (frameAt job (now (image .entry)) stage) (now (room .entry)) ⌝ }
 {
+    let query = query_with(job.rate as u8, job.supply as u8, job, stage);
+    let command = query.command;
+    let page = query.page;
     match stage {
-        Stage::SetUp(s) => send_setup(job, s, room),
-        Stage::InBlock { block, work } => send_work(job, image, block, work, room),
+        Stage::SetUp(s) => send_command(room, command),
+        Stage::InBlock { block, work } => send_work(job, image, block, page, command, room),
         Stage::Over(e) => 0,
     }
 }

@@ -106,8 +106,9 @@ fn next(job: Job, stage: Stage) -> Stage
 fn says_not_blank(job: Job, stage: Stage, status: u8) -> bool
     ensures { λ r. ⌜ r ≡ saysNotBlank job stage status ⌝ }
 {
-    let query = frames::query_at(job, stage);
-    if query.command == 0x32 {
+    let query = frames::query_with(0, 0, job, stage);
+    let command = query.command;
+    if commands::com(command) == 0x32 {
         return status == 0x1B;
     }
     false
@@ -127,12 +128,13 @@ fn in_block(to: Work, stage: Stage) -> Stage
 fn fails(job: Job, cause: Cause, status: u8, stage: Stage) -> Turned
     ensures { λ r. ⌜ r ≡ fails job cause status stage ⌝ }
 {
-    let query = frames::query_at(job, stage);
+    let query = frames::query_with(0, 0, job, stage);
+    let command = query.command;
     let page = query.page;
     let block = query.block;
     let failure = Failure {
         cause,
-        command: query.command,
+        command: commands::com(command),
         page,
         status,
         block,
@@ -199,7 +201,7 @@ fn after_reading(job: Job, used: u32, stage: Stage, decoded: Decoded) -> Turned
 pub fn after_answer(job: Job, used: u32, stage: Stage, bytes: &[u8]) -> Turned
     ensures { λ r. ⌜ r ≡ afterHeard job used stage (answered (now (bytes .entry))) ⌝ }
 {
-    let query = frames::query_at(job, stage);
+    let query = frames::query_with(0, 0, job, stage);
     let part = job.part;
     let form = query.form;
     let decoded = dock_answer::read(part, job.supply, form, bytes);

@@ -10,9 +10,10 @@ use native.Mathlib.Omega.{arith}
 use lib.Dec.{leb}
 use borrow.Author.Tests.{eq-eqb, eqb-true, le-leb, le-ltb, leb-false, leb-true, lt-leb, lt-ltb, ltb-false, ltb-true}
 use Rattle.dock_job.specs.Job.{areaOf, blocksIn, blocksOf, bound, isOver, jobRange, lengthOf, pagesOf, perBlock, setup, sizeOf}
-use Rattle.dock_job.specs.Refusals.{badJob, badState, callVerdict, due, goodBlock, goodDock, goodPage, goodStage, goodWork, isBad, outOfTurn, shortRoom, spent}
+use Rattle.dock_job.specs.Refusals.{badJob, badState, callVerdict, due, goodBlock, goodDock, goodNamedPage, goodPage, goodStage, goodWork, isBad, outOfTurn, shortRoom, spent}
 use Rattle.dock_job.specs.declared.Dock.{Dock}
 use Rattle.dock_job.specs.declared.Job.{Job}
+use Rattle.dock_job.specs.declared.Named.the-variants.{It, Unnamed}
 use Rattle.dock_job.specs.declared.Setup.the-variants.{BaudRate, ResetChip, SiliconSignature}
 use Rattle.dock_job.specs.declared.Stage.the-variants.{InBlock}
 use Rattle.dock_job.specs.declared.Work.{Work}
@@ -140,6 +141,18 @@ stored-is j p e = e
 pub verified-is : (j : Job) (p : ℕ) → goodWork j (VerifyPage p) ≡ true → goodPage j p ≡ true
 unfolding goodWork
 verified-is j p e = e
+
+pub named-page-is : (j : Job) (p : ℕ) → goodNamedPage j (It p) ≡ true → goodPage j p ≡ true
+unfolding goodNamedPage
+named-page-is j p e = e
+
+pub named-page-yes : (j : Job) (p : ℕ) → goodPage j p ≡ true → goodNamedPage j (It p) ≡ true
+unfolding goodNamedPage
+named-page-yes j p e = e
+
+pub no-page-named : (j : Job) → goodNamedPage j Unnamed ≡ true
+unfolding goodNamedPage
+no-page-named j = refl
 
 pub record GoodPlace (j : Job) (k : ℕ) (w : Work) : Type 0 where
   pub in-job : goodBlock j k ≡ true

@@ -4,6 +4,7 @@ use mathlib.Core.Path.{ap}
 use Prim.Native.Nat.{_*_, _+_, _<_, _^_, _≤_, ℕ}
 use native.Mathlib.Omega.{arith}
 use borrow.Author.Needs.{needs}
+use Rattle.dock_flow.specs.Frames.{firstOfBlock}
 use Rattle.dock_job.specs.Job.{areaOf}
 use Rattle.part.proofs.Laws.{blockSize-small, product-small}
 use Rattle.dock_flow.proofs.frames.first_of_block.Statement.{statement}
@@ -21,6 +22,7 @@ add-result : tie.Need-add-result
 add-result c = let s : c .before .before .args .job .start < 2 ^ 32 = search needs in omega (arith, small c)
 
 returns : tie.Need-returns
+unfolding firstOfBlock
 returns c =
     (ap (λ (n : ℕ). c .before .before .args .job .start + c .before .before .args .block * n) (c .block-size .ensures), (let s : c .before .before .args .job .start < 2 ^ 32 = search needs in omega (arith, small c)))
 

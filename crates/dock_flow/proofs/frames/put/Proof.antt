@@ -1,29 +1,40 @@
--- `dock_flow::frames::put` meets its contract: the stage's frame.
+-- `dock_flow::frames::put` meets its contract: the stage's frame, by what is asked with it; rate and supply are bytes.
 -- Assumes nothing.
 use mathlib.Core.Path.{_∙_, ap, sym}
+use native.Mathlib.Omega.{arith}
 use borrow.Author.Needs.{needs}
+use Rattle.dock_flow.proofs.LawsFrames.{block-frame, page-good, setup-frame}
 use Rattle.dock_flow.specs.Frames.{frameAt}
-use Rattle.dock_job.proofs.Laws.{GoodPlace, place-is}
+use Rattle.dock_job.proofs.Laws.{place-is}
 use Rattle.dock_job.specs.Refusals.{goodStage}
+use Rattle.part.proofs.Laws.{rate-is}
 use Rattle.dock_flow.proofs.frames.put.Statement.{statement}
 use Rattle.dock_flow.proofs.frames.put.Tie as tie
 
-placed-well : (c : tie.After-send-work-arg) → GoodPlace (c .before .before .before .before .before .before .args .job) (c .before .before .stage2 .given .0 .0) (c .before .before .stage2 .given .0 .1 .0)
-placed-well c =
-    let args = c .before .before .before .before .before .before .args in
-    let pre = c .before .before .before .before .before .before .pre in
-    place-is (args .job) (c .before .before .stage2 .given .0 .0) (c .before .before .stage2 .given .0 .1 .0) (ap (goodStage (args .job)) (sym (c .before .before .stage2 .given .1)) ∙ pre .1)
+cast-query-with : tie.Need-cast-query-with
+cast-query-with c = omega (arith, rate-is _ _ _ (c .before .before .before .pre .0))
+
+cast-query-with-2 : tie.Need-cast-query-with-2
+cast-query-with-2 c = omega (arith, rate-is _ _ _ (c .before .before .before .before .pre .0))
 
 send-work-requires : tie.Need-send-work-requires
-send-work-requires c κs = (placed-well c .in-job, placed-well c .in-block, search needs, search needs)
+send-work-requires c κs =
+    let args = c .before .before .before .before .before .before .before .before .before .args in
+    let pre = c .before .before .before .before .before .before .before .before .before .pre in
+    let stage = c .before .before .stage2 .given in
+    let asked = c .before .before .before .before .query-with .ensures in
+    let good = place-is (args .job) (stage .0 .0) (stage .0 .1 .0) (ap (goodStage (args .job)) (sym (stage .1)) ∙ pre .1) in
+    (good .in-job, page-good _ _ _ _ _ asked (stage .1) (good .in-block), search needs, search needs)
 
 returns : tie.Need-returns
-unfolding frameAt
-returns c = simp (c .before .before .before .before .before .stage .given .1, ← c .before .before .send-setup .ensures)
+returns c =
+    c .before .before .send-command .ensures
+    ∙ setup-frame _ _ _ _ _ _ (c .before .before .before .before .before .before .before .query-with .ensures) (c .before .before .before .before .before .stage .given .1)
 
 returns-2 : tie.Need-returns-2
-unfolding frameAt
-returns-2 c = simp (c .before .before .before .before .before .stage2 .given .1, ← c .before .before .send-work .ensures)
+returns-2 c =
+    c .before .before .send-work .ensures
+    ∙ block-frame _ _ _ _ _ _ _ (c .before .before .before .before .before .before .before .query-with .ensures) (c .before .before .before .before .before .stage2 .given .1)
 
 returns-3 : tie.Need-returns-3
 unfolding frameAt
@@ -33,6 +44,9 @@ pub put-spec : {M : Type 1} → statement M
 put-spec =
     tie.close
     (tie.spec
+    cast-query-with
+    cast-query-with-2
+    (λ c κs. search needs)
     (λ c. search needs)
     (λ c κs. search needs)
     (λ c. search needs)
