@@ -19,7 +19,11 @@ returns-3 c = simp (c .before .before .before .before .stage .given .1, c .befor
 
 returns-4 : tie.Need-returns-4
 unfolding queryWith
-returns-4 c = simp (c .before .before .before .before .before .before .stage2 .given .1, ← c .before .before .before .before .first-of-block .ensures .0, ← c .before .before .before .last-of-block .ensures, c .before .enum-told4 .given .1, ← c .query-of4 .ensures)
+returns-4 c =
+    let stage2 = c .before .before .before .before .before .before .stage2 in
+    let first-of-block = c .before .before .before .before .first-of-block in
+    let last-of-block = c .before .before .before .last-of-block in
+    simp (stage2 .given .1, ← first-of-block .ensures .0, ← last-of-block .ensures, c .before .enum-told4 .given .1, ← c .query-of4 .ensures)
 
 returns-5 : tie.Need-returns-5
 unfolding queryWith
@@ -27,19 +31,36 @@ returns-5 c = simp (c .before .before .before .before .before .before .stage2 .g
 
 returns-6 : tie.Need-returns-6
 unfolding queryWith
-returns-6 c = simp (c .before .before .before .before .before .before .stage2 .given .1, ← c .before .before .before .before .first-of-block .ensures .0, ← c .before .before .before .last-of-block .ensures, c .before .enum-told6 .given .1, ← c .query-of6 .ensures)
+returns-6 c =
+    let stage2 = c .before .before .before .before .before .before .stage2 in
+    let first-of-block = c .before .before .before .before .first-of-block in
+    let last-of-block = c .before .before .before .last-of-block in
+    simp (stage2 .given .1, ← first-of-block .ensures .0, ← last-of-block .ensures, c .before .enum-told6 .given .1, ← c .query-of6 .ensures)
 
 returns-7 : tie.Need-returns-7
 unfolding queryWith
-returns-7 c = simp (c .before .before .before .before .before .before .before .before .stage2 .given .1, ← c .before .before .before .before .before .before .first-of-block .ensures .0, ← c .before .before .before .before .before .last-of-block .ensures, c .before .before .before .work .given .1, ← c .before .stored-form .ensures, ← c .query-of7 .ensures)
+returns-7 c =
+    let stage2 = c .before .before .before .before .before .before .before .before .stage2 in
+    let first-of-block = c .before .before .before .before .before .before .first-of-block in
+    let last-of-block = c .before .before .before .before .before .last-of-block in
+    let work = c .before .before .before .work in
+    simp (stage2 .given .1, ← first-of-block .ensures .0, ← last-of-block .ensures, work .given .1, ← c .before .stored-form .ensures, ← c .query-of7 .ensures)
 
 returns-8 : tie.Need-returns-8
 unfolding queryWith
-returns-8 c = simp (c .before .before .before .before .before .before .stage2 .given .1, ← c .before .before .before .before .first-of-block .ensures .0, ← c .before .before .before .last-of-block .ensures, c .before .enum-told7 .given .1, ← c .query-of8 .ensures)
+returns-8 c =
+    let stage2 = c .before .before .before .before .before .before .stage2 in
+    let first-of-block = c .before .before .before .before .first-of-block in
+    let last-of-block = c .before .before .before .last-of-block in
+    simp (stage2 .given .1, ← first-of-block .ensures .0, ← last-of-block .ensures, c .before .enum-told7 .given .1, ← c .query-of8 .ensures)
 
 returns-9 : tie.Need-returns-9
 unfolding queryWith
-returns-9 c = simp (c .before .before .before .before .before .before .before .stage2 .given .1, ← c .before .before .before .before .before .first-of-block .ensures .0, ← c .before .before .before .before .last-of-block .ensures, c .before .before .work2 .given .1, ← c .query-of9 .ensures)
+returns-9 c =
+    let stage2 = c .before .before .before .before .before .before .before .stage2 in
+    let first-of-block = c .before .before .before .before .before .first-of-block in
+    let last-of-block = c .before .before .before .before .last-of-block in
+    simp (stage2 .given .1, ← first-of-block .ensures .0, ← last-of-block .ensures, c .before .before .work2 .given .1, ← c .query-of9 .ensures)
 
 returns-10 : tie.Need-returns-10
 unfolding queryWith
