@@ -1,9 +1,9 @@
 -- What the dock writes is what the chip reads: of the frame of every command that an accepted call hands out, the payload is read as that very command.
 -- Assumes nothing.
-use mathlib.Core.Bool.{Bool, false, true, true≢false}
+use mathlib.Core.Bool.{false, true, true≢false}
 use mathlib.Core.List.{List}
 use mathlib.Core.Path.{_∙_, _≡_, ap, refl}
-use Prim.Native.Nat.{_+_, _-_, _<_, _^_, _≤_, ℕ}
+use Prim.Native.Nat.{_-_, _<_, _^_, ℕ}
 use native.Mathlib.Omega.{arith}
 use lib.ListN.{length}
 use Rattle.commands.proofs.Laws.{read-back}
@@ -12,11 +12,11 @@ use Rattle.commands.specs.declared.Command.{Command}
 use Rattle.commands.specs.declared.Reading.the-variants.{Meant}
 use Rattle.dock_flow.specs.Frames.{firstOfBlock, frameAt, frameOf, lastOfBlock, queryAt, queryWith, workFrame}
 use Rattle.dock_job.proofs.Laws.{accepts, asked-is, block-is, place-is}
-use Rattle.dock_job.specs.Job.{areaIn, blocksIn, blocksOf, isOver, jobRange}
+use Rattle.dock_job.specs.Job.{blocksIn, blocksOf, isOver, jobRange}
 use Rattle.dock_job.specs.Refusals.{callVerdict, goodStage}
 use Rattle.dock_job.specs.declared.Dock.{Dock}
 use Rattle.dock_job.specs.declared.Job.{Job}
-use Rattle.dock_job.specs.declared.Named.the-variants.{It, Unnamed}
+use Rattle.dock_job.specs.declared.Named.the-variants.{Unnamed}
 use Rattle.dock_job.specs.declared.Setup.the-variants.{BaudRate, ResetChip, SiliconSignature}
 use Rattle.dock_job.specs.declared.Stage.{Stage}
 use Rattle.dock_job.specs.declared.Stage.the-variants.{InBlock, Over, SetUp}
