@@ -2,7 +2,7 @@
 -- Assumes nothing.
 use mathlib.Core.Bool.{Bool, false, true}
 use mathlib.Core.List.{List, [], _++_, _∷_}
-use mathlib.Core.Path.{_∙_, _≡_, ap, refl, sym}
+use mathlib.Core.Path.{_∙_, _≡_, refl, sym}
 use Prim.Native.Nat.{_+_, _<_, _≤_, ℕ}
 use native.Mathlib.Numerals.{add-one}
 use native.Mathlib.Omega.{arith}
@@ -70,19 +70,12 @@ pub fed-turn : {p : Part} {bs : List ℕ} {i n k : ℕ} {o x : Outcome} {t : Fee
 fed-turn {p} {bs} {i} {n} {k} {o} {x} {t} f e h a z = record { rest = sym (on-silent (x .answer) i n k x _ a z) ∙ fed-byte p bs i o x t f e h }
 
 pub fed-said : {p : Part} {bs : List ℕ} {i n k : ℕ} {o x : Outcome} {t : Feeding} → FedFrom p bs i o t → x ≡ stepOf p (o .chip) (Byte (getD bs i 0)) (o .memory) (o .room)
-    → i < length bs → x .answer ≡ Replied n k → 0 < k → feeding (i + 1) (record { answer = Replied n k; chip = x .chip; memory = x .memory; room = x .room }) ≡ t
-fed-said {p} {bs} {i} {n} {k} {o} {x} {t} f e h a z =
-    ap (λ (q : Answer). feeding (i + 1) (record { answer = q; chip = x .chip; memory = x .memory; room = x .room })) (sym a)
-    ∙ on-said (x .answer) i n k x _ a z
-    ∙ fed-byte p bs i o x t f e h
+    → i < length bs → x .answer ≡ Replied n k → 0 < k → feeding (i + 1) x ≡ t
+fed-said {p} {bs} {i} {n} {k} {o} {x} {t} f e h a z = on-said (x .answer) i n k x _ a z ∙ fed-byte p bs i o x t f e h
 
-pub fed-refused : {p : Part} {bs : List ℕ} {i : ℕ} {r : Refusal} {o x : Outcome} {t : Feeding} (j : ℕ) → FedFrom p bs i o t
-    → x ≡ stepOf p (o .chip) (Byte (getD bs i 0)) (o .memory) (o .room) → i < length bs → x .answer ≡ Refused r → j ≡ i
-    → feeding j (record { answer = Refused r; chip = x .chip; memory = x .memory; room = x .room }) ≡ t
-fed-refused {p} {bs} {i} {r} {o} {x} {t} j f e h a z =
-    rw z (ap (λ (q : Answer). feeding i (record { answer = q; chip = x .chip; memory = x .memory; room = x .room })) (sym a)
-    ∙ on-refused (x .answer) i r x _ a
-    ∙ fed-byte p bs i o x t f e h)
+pub fed-refused : {p : Part} {bs : List ℕ} {i : ℕ} {r : Refusal} {o x : Outcome} {t : Feeding} → FedFrom p bs i o t
+    → x ≡ stepOf p (o .chip) (Byte (getD bs i 0)) (o .memory) (o .room) → i < length bs → x .answer ≡ Refused r → feeding i x ≡ t
+fed-refused {p} {bs} {i} {r} {o} {x} {t} f e h a = on-refused (x .answer) i r x _ a ∙ fed-byte p bs i o x t f e h
 
 pub fed-end : {p : Part} {bs : List ℕ} {i : ℕ} {o : Outcome} {t : Feeding} → FedFrom p bs i o t → length bs ≤ i → feeding i o ≡ t
 unfolding feedFrom

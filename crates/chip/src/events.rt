@@ -10,7 +10,7 @@ ghost use Rattle.frame.specs.Frame.{counted};
 ghost use Rattle.part.specs.declared.refusal.Verdict.the-variants.{Accepted};
 ghost use Rattle.chip.specs.declared.Event.the-variants.{Byte};
 ghost use Rattle.chip.specs.Run.{before, fed, feedOf};
-ghost use Rattle.chip.specs.inner.Ways.{completesAt, lackingOf, wayOn, wayOf};
+ghost use Rattle.chip.specs.inner.Ways.{answered, completesAt, lackingOf, wayOn, wayOf};
 ghost use Rattle.chip.specs.Step.{modeByte, poweredOn, frameDoes, outcome, stepOf, freshOf};
 use super::Answer;
 use super::Event;
@@ -22,6 +22,7 @@ use chip_core::Hearing;
 use chip_core::Phase;
 use chip_options::Options;
 use chip_reply::Reply;
+use chip_reply::Sent;
 use chip_state::Chip;
 use chip_state::Handed;
 use frame::Header;
@@ -107,6 +108,12 @@ fn powered_on(core: Core) -> Core
     }
 }
 
+// What a byte came to that is not refused: what was sent, and the chip after it.
+struct Stepped {
+    sent: Sent,
+    chip: Chip,
+}
+
 // A byte in a state that is accepted, by its way.
 fn byte_step(
     part: Part,
@@ -115,9 +122,9 @@ fn byte_step(
     code: &mut [u8],
     data: &mut [u8],
     room: &mut [u8],
-) -> Step
+) -> Stepped
     requires { ⌜ verdictOn part chip (length (now code)) (length (now «data»)) (length (now room)) ≡ Accepted ⌝ }
-    ensures { λ r. ⌜ outcome r (flash (now (code .exit)) (now («data» .exit))) (now (room .exit))
+    ensures { λ r. ⌜ outcome (answered r) (flash (now (code .exit)) (now («data» .exit))) (now (room .exit))
         ≡ stepOf part chip (Byte b) (flash (now (code .entry)) (now («data» .entry))) (now (room .entry)) ⌝ }
 {
     let core = chip.core;
@@ -125,8 +132,8 @@ fn byte_step(
     let phase = core.phase;
     let w = way_in(phase, collector.len, collector.bytes[1]);
     match w {
-        Way::Mode => Step {
-            answer: Answer::Replied {
+        Way::Mode => Stepped {
+            sent: Sent {
                 bytes: 0,
                 frames: 0,
             },
@@ -135,8 +142,8 @@ fn byte_step(
                 collector,
             },
         },
-        Way::Hears(header) => Step {
-            answer: Answer::Replied {
+        Way::Hears(header) => Stepped {
+            sent: Sent {
                 bytes: 0,
                 frames: 0,
             },
@@ -154,11 +161,8 @@ fn byte_step(
             let options = after.options;
             let reply = done.reply;
             let sent = chip_reply::send(part, options, reply, room);
-            Step {
-                answer: Answer::Replied {
-                    bytes: sent.bytes,
-                    frames: sent.frames,
-                },
+            Stepped {
+                sent,
                 chip: Chip {
                     core: after,
                     collector: collector.gap(),
@@ -288,8 +292,16 @@ pub fn step(
                     };
                 }
                 let whole = chip;
-                let s = byte_step(part, whole, b, code, data, room);
-                return s;
+                let stepped = byte_step(part, whole, b, code, data, room);
+                let sent = stepped.sent;
+                let next = stepped.chip;
+                return Step {
+                    answer: Answer::Replied {
+                        bytes: sent.bytes,
+                        frames: sent.frames,
+                    },
+                    chip: next,
+                };
             }
         },
     }
@@ -355,30 +367,21 @@ pub fn feed(
                 } else {
                     let b = bytes[i];
                     i = i + 1;
-                    last = byte_step(part, next, b, code, data, room);
-                    let answer = last.answer;
-                    let chip = last.chip;
-                    match answer {
-                        Answer::Replied {
-                            bytes: n,
-                            frames: f,
-                        } => {
-                            if 0 < f {
-                                return Fed {
-                                    taken: i,
-                                    answer,
-                                    chip,
-                                };
-                            }
-                        }
-                        Answer::Refused(refusal) => {
-                            return Fed {
-                                taken: i - 1,
-                                answer,
-                                chip,
-                            };
-                        }
+                    let stepped = byte_step(part, next, b, code, data, room);
+                    let sent = stepped.sent;
+                    let chip = stepped.chip;
+                    let answer = Answer::Replied {
+                        bytes: sent.bytes,
+                        frames: sent.frames,
+                    };
+                    if 0 < sent.frames {
+                        return Fed {
+                            taken: i,
+                            answer,
+                            chip,
+                        };
                     }
+                    last = Step { answer, chip };
                 }
             }
         }

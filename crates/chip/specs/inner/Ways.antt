@@ -2,6 +2,9 @@
 use mathlib.Core.Bool.{Bool}
 use Prim.Native.Nat.{_+_, _-_, ℕ}
 use lib.Dec.{leb, ltb}
+use Rattle.chip.specs.Step.{replied}
+use Rattle.chip.specs.declared.Step.{Step}
+use Rattle.chip.specs.declared.events.Stepped.{Stepped}
 use Rattle.chip.specs.declared.events.Way.{Way}
 use Rattle.chip.specs.declared.events.Way.the-variants.{Completes, Hears, Mode}
 use Rattle.chip_core.specs.declared.Hearing.{Hearing}
@@ -28,3 +31,7 @@ unfoldable pub lackingOf : ℕ → ℕ → ℕ → ℕ
 lackingOf count len rest =
     if leb 2 count then (if ltb rest (counted len + 3 - count) then rest else counted len + 3 - count)
     else 0
+
+-- What a byte came to, as a step.
+abbrev pub answered : Stepped → Step
+answered s = record { answer = replied (s .sent); chip = s .chip }

@@ -2,7 +2,7 @@
 -- answered or refused. A turn takes one verdict, and under it a stretch of bytes that are only added, or one byte by its way.
 -- Assumes nothing.
 use mathlib.Core.Path.{_∙_, _≡_, refl, sym}
-use Prim.Native.Nat.{_+_, _-_, _≤_}
+use Prim.Native.Nat.{_-_, _≤_}
 use native.Mathlib.Omega.{arith}
 use lib.ListN.{length}
 use borrow.Author.Needs.{needs}
@@ -47,7 +47,7 @@ returns c =
     let loop-test = c .before .before .before .before .before .before .before .before .before .loop-test in
     let verdict = c .before .before .before .verdict in
     let v = c .before .v in
-    fed-refused _ (loop .inv .5) (step-barred _ _ _ _ _ _ (sym (verdict .ensures) ∙ v .given .1)) (loop-test .taken) refl refl
+    fed-refused (loop .inv .5) (step-barred _ _ _ _ _ _ (sym (verdict .ensures) ∙ v .given .1)) (loop-test .taken) refl
 
 -- A stretch lies in the bytes.
 known : (c : tie.Then1 Inv-loop μ-loop)
@@ -97,84 +97,55 @@ byte-step-requires c κs =
 same-length-4 : tie.Need-same-length-4 Inv-loop μ-loop
 same-length-4 c =
     let far = c .before .before .before .before .before .before .before .before .before .before .before .before .before .before .before .before .before .before .before .before in
-    let loop = far .before .before .before .before .before .before .before .loop in
-    let byte-step = c .before .before .before .before .before .before .before .before .before .before .before .byte-step in
+    let loop = far .before .before .before .before .before .before .loop in
+    let byte-step = c .before .before .before .before .before .before .before .before .before .before .byte-step in
     byte-step .kept .1 .1 .1 .0 ∙ loop .inv .1
 
 same-length-5 : tie.Need-same-length-5 Inv-loop μ-loop
 same-length-5 c =
     let far = c .before .before .before .before .before .before .before .before .before .before .before .before .before .before .before .before .before .before .before .before in
-    let loop = far .before .before .before .before .before .before .before .loop in
-    let byte-step = c .before .before .before .before .before .before .before .before .before .before .before .byte-step in
+    let loop = far .before .before .before .before .before .before .loop in
+    let byte-step = c .before .before .before .before .before .before .before .before .before .before .byte-step in
     byte-step .kept .1 .1 .1 .1 .0 ∙ loop .inv .2
 
 same-length-6 : tie.Need-same-length-6 Inv-loop μ-loop
 same-length-6 c =
     let far = c .before .before .before .before .before .before .before .before .before .before .before .before .before .before .before .before .before .before .before .before in
-    let loop = far .before .before .before .before .before .before .before .loop in
-    let byte-step = c .before .before .before .before .before .before .before .before .before .before .before .byte-step in
+    let loop = far .before .before .before .before .before .before .loop in
+    let byte-step = c .before .before .before .before .before .before .before .before .before .before .byte-step in
     byte-step .kept .1 .1 .1 .1 .1 .0 ∙ loop .inv .3
 
 returns-2 : tie.Need-returns-2 Inv-loop μ-loop
 returns-2 c =
     let far = c .before .before .before .before .before .before .before .before .before .before .before .before .before .before .before .before .before .before .before .before in
-    let loop = far .before .before .before .before .before .before .before .loop in
-    let loop-test = far .before .before .before .before .before .before .loop-test in
-    let byte-step = c .before .before .before .before .before .before .before .before .before .before .before .byte-step in
-    fed-said (loop .inv .5) (byte-step .ensures) (loop-test .taken) (c .before .before .answer .given .1) (c .if2 .taken)
+    let loop = far .before .before .before .before .before .before .loop in
+    let loop-test = far .before .before .before .before .before .loop-test in
+    let byte-step = c .before .before .before .before .before .before .before .before .before .before .byte-step in
+    fed-said (loop .inv .5) (byte-step .ensures) (loop-test .taken) refl (c .if2 .taken)
 
 loop-less-2 : tie.Need-loop-less-2 Inv-loop μ-loop
 loop-less-2 c =
     let far = c .before .before .before .before .before .before .before .before .before .before .before .before .before .before .before .before .before .before .before .before in
-    let loop-test = far .before .before .before .before .before .before .loop-test in
+    let loop-test = far .before .before .before .before .before .loop-test in
     omega (arith, loop-test .taken)
 
 loop-again-2 : tie.Need-loop-again-2 Inv-loop μ-loop
 loop-again-2 c =
     let far = c .before .before .before .before .before .before .before .before .before .before .before .before .before .before .before .before .before .before .before .before in
-    let loop = far .before .before .before .before .before .before .before .loop in
-    let loop-test = far .before .before .before .before .before .before .loop-test in
-    let stepped = c .before .before .before .before .before .before .before .before .before .before .before in
-    let byte-step = c .before .before .before .before .before .before .before .before .before .before .before .byte-step in (
+    let loop = far .before .before .before .before .before .before .loop in
+    let loop-test = far .before .before .before .before .before .loop-test in
+    let stepped = c .before .before .before .before .before .before .before .before .before .before in
+    let byte-step = c .before .before .before .before .before .before .before .before .before .before .byte-step in (
       omega (arith, loop-test .taken),
       byte-step .kept .1 .1 .1 .0 ∙ loop .inv .1,
       byte-step .kept .1 .1 .1 .1 .0 ∙ loop .inv .2,
       byte-step .kept .1 .1 .1 .1 .1 .0 ∙ loop .inv .3,
       next-long stepped,
-      fed-turn (loop .inv .5) (byte-step .ensures) (loop-test .taken) (c .before .before .answer .given .1) (c .if2 .left),
+      fed-turn (loop .inv .5) (byte-step .ensures) (loop-test .taken) refl (c .if2 .left),
     )
 
-same-length-7 : tie.Need-same-length-7 Inv-loop μ-loop
-same-length-7 c =
-    let far = c .before .before .before .before .before .before .before .before .before .before .before .before .before .before .before .before .before .before .before .before in
-    let loop = far .before .before .before .before .before .before .loop in
-    let byte-step = c .before .before .before .before .before .before .before .before .before .before .byte-step in
-    byte-step .kept .1 .1 .1 .0 ∙ loop .inv .1
-
-same-length-8 : tie.Need-same-length-8 Inv-loop μ-loop
-same-length-8 c =
-    let far = c .before .before .before .before .before .before .before .before .before .before .before .before .before .before .before .before .before .before .before .before in
-    let loop = far .before .before .before .before .before .before .loop in
-    let byte-step = c .before .before .before .before .before .before .before .before .before .before .byte-step in
-    byte-step .kept .1 .1 .1 .1 .0 ∙ loop .inv .2
-
-same-length-9 : tie.Need-same-length-9 Inv-loop μ-loop
-same-length-9 c =
-    let far = c .before .before .before .before .before .before .before .before .before .before .before .before .before .before .before .before .before .before .before .before in
-    let loop = far .before .before .before .before .before .before .loop in
-    let byte-step = c .before .before .before .before .before .before .before .before .before .before .byte-step in
-    byte-step .kept .1 .1 .1 .1 .1 .0 ∙ loop .inv .3
-
 returns-3 : tie.Need-returns-3 Inv-loop μ-loop
-returns-3 c =
-    let far = c .before .before .before .before .before .before .before .before .before .before .before .before .before .before .before .before .before .before .before .before in
-    let loop = far .before .before .before .before .before .before .loop in
-    let loop-test = far .before .before .before .before .before .loop-test in
-    let byte-step = c .before .before .before .before .before .before .before .before .before .before .byte-step in
-    fed-refused (loop .i + 1 - 1) (loop .inv .5) (byte-step .ensures) (loop-test .taken) (c .before .answer2 .given .1) (omega arith)
-
-returns-4 : tie.Need-returns-4 Inv-loop μ-loop
-returns-4 c = fed-end (c .before .before .loop .inv .5) (c .before .loop-test .left)
+returns-3 c = fed-end (c .before .before .loop .inv .5) (c .before .loop-test .left)
 
 pub feed-spec : {M : Type 1} → statement M
 feed-spec =
@@ -204,7 +175,6 @@ feed-spec =
     (λ c. omega arith)
     (λ c. omega arith)
     byte-step-requires
-    (λ c. search needs)
     same-length-4
     same-length-5
     same-length-6
@@ -212,12 +182,6 @@ feed-spec =
     loop-less-2
     loop-again-2
     (λ c. search needs)
-    (λ c. omega arith)
-    same-length-7
-    same-length-8
-    same-length-9
-    returns-3
     (λ c. search needs)
     (λ c. search needs)
-    (λ c. search needs)
-    returns-4)
+    returns-3)

@@ -52,8 +52,8 @@ byte-step-requires c κs =
 
 returns-5 : tie.Need-returns-5
 returns-5 c =
-    let event = c .before .before .before .before .before .before .before .before .before .before .before .before .before .event in
-    let byte-step = c .before .before .before .before .before .before .byte-step in
+    let event = c .before .before .before .before .before .before .before .before .before .before .before .before .before .before .before .event in
+    let byte-step = c .before .before .before .before .before .before .before .before .byte-step in
     same-event _ _ _ _ _ _ _ (byte-step .ensures) (event .given .1)
 
 pub step-spec : {M : Type 1} → statement M
