@@ -8,8 +8,8 @@ use lib.Dec.{eqb}
 use lib.ListN.{length}
 use Rattle.claims_door.proofs.Back.{together, together-is}
 use Rattle.claims_door.specs.Docked.{HeldDock}
-use Rattle.dock_door.specs.Layout.{bit, causeIn, causeNumber, dockIn, dockSize, endingIn, flat, flatEnding, flatIn, flatOf, flatWork, isDock, isNamed, layoutOf, layoutWith, named, namedIn, setupIn, stageIn, workIn}
-use Rattle.dock_door.specs.declared.Flat.{Flat}
+use Rattle.dock_layout.specs.Layout.{bit, causeIn, causeNumber, dockIn, dockSize, endingIn, flat, flatEnding, flatIn, flatOf, flatWork, isDock, isNamed, dockBytes, bytesWith, named, namedIn, setupIn, stageIn, workIn}
+use Rattle.dock_layout.specs.declared.Flat.{Flat}
 use Rattle.dock_job.specs.declared.Cause.{Cause}
 use Rattle.dock_job.specs.declared.Cause.the-variants.{Mismatch, TimedOut, UnexpectedStatus, Unreadable}
 use Rattle.dock_job.specs.declared.Dock.{Dock}
@@ -31,8 +31,8 @@ unfolding namedIn isNamed named if_then_else_
 named-back (It n) h = ap It (together-is 4 n h)
 named-back Unnamed h = refl
 
-flat-back : (f : Flat) (awaited retries frames : ℕ) → named (f .block) < 256 ^ 4 → named (f .page) < 256 ^ 4 → flatIn (layoutWith f awaited retries frames) ≡ f
-unfolding flatIn layoutWith lowFirst numberAt together
+flat-back : (f : Flat) (awaited retries frames : ℕ) → named (f .block) < 256 ^ 4 → named (f .page) < 256 ^ 4 → flatIn (bytesWith f awaited retries frames) ≡ f
+unfolding flatIn bytesWith lowFirst numberAt together
 flat-back f awaited retries frames h i =
     ap (λ (b : Named). flat (f .stage) b (namedIn (isNamed (f .page)) (together 4 (named (f .page)))) (f .cause) (f .command) (f .status)) (named-back (f .block) h)
     ∙ ap (λ (p : Named). flat (f .stage) (f .block) p (f .cause) (f .command) (f .status)) (named-back (f .page) i)
@@ -69,8 +69,8 @@ abbrev held : Stage → Bool → ℕ → ℕ → Dock
 held s awaited retries frames = record { stage = s; awaited = awaited; retries = retries; frames = frames }
 
 back : (f : Flat) (awaited : Bool) (retries frames : ℕ) → named (f .block) < 256 ^ 4 → named (f .page) < 256 ^ 4 → retries < 256 ^ 4 → frames < 256 ^ 4
-    → dockIn (layoutWith f (bit awaited) retries frames) ≡ held (stageIn f) awaited retries frames
-unfolding dockIn layoutWith lowFirst numberAt together
+    → dockIn (bytesWith f (bit awaited) retries frames) ≡ held (stageIn f) awaited retries frames
+unfolding dockIn bytesWith lowFirst numberAt together
 back f awaited retries frames h i j k =
     ap (λ (g : Flat). held (stageIn g) (eqb (bit awaited) 1) (together 4 retries) (together 4 frames)) (flat-back f (bit awaited) retries frames h i)
     ∙ ap (λ (b : Bool). held (stageIn f) b (together 4 retries) (together 4 frames)) (bit-back awaited)
@@ -78,23 +78,23 @@ back f awaited retries frames h i j k =
     ∙ ap (λ (n : ℕ). held (stageIn f) awaited retries n) (together-is 4 frames k)
 
 -- A dock that is written is read back the same.
-pub dock-read-back : (d : Dock) → HeldDock d → dockIn (layoutOf d) ≡ d
-unfolding layoutOf
+pub dock-read-back : (d : Dock) → HeldDock d → dockIn (dockBytes d) ≡ d
+unfolding dockBytes
 dock-read-back d h =
     back (flatOf (d .stage)) (d .awaited) (d .retries) (d .frames) (h .block) (h .page) (h .retries) (h .frames)
     ∙ ap (λ (s : Stage). held s (d .awaited) (d .retries) (d .frames)) (stage-back (d .stage))
 
-long : (f : Flat) (awaited retries frames : ℕ) → length (layoutWith f awaited retries frames) ≡ dockSize
-unfolding layoutWith lowFirst
+long : (f : Flat) (awaited retries frames : ℕ) → length (bytesWith f awaited retries frames) ≡ dockSize
+unfolding bytesWith lowFirst
 long f awaited retries frames = refl
 
 -- What is written is a state.
-pub dock-written-state : (d : Dock) → HeldDock d → isDock (layoutOf d) ≡ true
-unfolding isDock layoutOf
+pub dock-written-state : (d : Dock) → HeldDock d → isDock (dockBytes d) ≡ true
+unfolding isDock dockBytes
 dock-written-state d h =
-    and-both (rw long) (rw (dock-read-back d h) (same-self (layoutOf d)))
+    and-both (rw long) (rw (dock-read-back d h) (same-self (dockBytes d)))
 
 -- Bytes that are a state are written back the same.
-pub dock-written-back : (bs : List ℕ) → isDock bs ≡ true → layoutOf (dockIn bs) ≡ bs
+pub dock-written-back : (bs : List ℕ) → isDock bs ≡ true → dockBytes (dockIn bs) ≡ bs
 unfolding isDock
-dock-written-back bs e = same-is (layoutOf (dockIn bs)) bs (and-right _ _ e)
+dock-written-back bs e = same-is (dockBytes (dockIn bs)) bs (and-right _ _ e)

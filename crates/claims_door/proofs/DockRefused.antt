@@ -2,7 +2,7 @@
 -- Assumes nothing.
 use mathlib.Core.Bool.{Bool, false, true}
 use mathlib.Core.List.{List}
-use mathlib.Core.Path.{_≡_, refl}
+use mathlib.Core.Path.{_∙_, _≡_, refl}
 use Prim.Native.Nat.{ℕ}
 use lib.Dec.{eqb}
 use lib.ListN.{length}
@@ -12,9 +12,9 @@ use Rattle.dock.specs.Calls.{Asking, askOf, asked, hearOf, moved, standing, sta
 use Rattle.dock.specs.declared.Stepped.{Stepped}
 use Rattle.dock_door.proofs.Laws.{admitted}
 use Rattle.dock_door.specs.Calls.{AskTold, admission, askThrough, askTold, askedBy, figuresOf, hearThrough, heardBy, startThrough, startTold, startedBy, toldOf}
-use Rattle.dock_door.specs.Layout.{dockIn, dockSize, isDock, layoutOf}
+use Rattle.dock_layout.specs.Layout.{dockIn, dockLaid, dockSize, isDock}
+use Rattle.dock_layout.proofs.Laws.{dock-laid-is, dock-long}
 use Rattle.dock_flow.specs.Flow.{Heard, afterHeard}
-use Rattle.dock_flow.specs.Frames.{handed, placing, sendOf}
 use Rattle.dock_flow.specs.Frames.{Placed, frameAt, handed, placing, sendOf}
 use Rattle.dock_flow.specs.declared.Turned.{Turned}
 use Rattle.dock_job.specs.Refusals.{callVerdict}
@@ -29,15 +29,18 @@ use Rattle.part.specs.declared.refusal.Verdict.{Verdict}
 use Rattle.part.specs.declared.refusal.Verdict.the-variants.{Accepted, Refused}
 use Rattle.words.specs.Words.{if_then_else_}
 
-abbrev askAnswered : Asking → AskTold
-askAnswered a = askTold (figuresOf (a .report) .refusal) (figuresOf (a .report) .bytes) (layoutOf (a .dock)) (a .room)
+laid-back : (state : List ℕ) → isDock state ≡ true → dockLaid (dockIn state) state ≡ state
+laid-back state e = dock-laid-is _ state (dock-long state e) ∙ dock-written-back state e
+
+abbrev askAnswered : Asking → List ℕ → AskTold
+askAnswered a state = askTold (figuresOf (a .report) .refusal) (figuresOf (a .report) .bytes) (dockLaid (a .dock) state) (a .room)
 
 -- The dock is asked, and refuses: it hands the dock back as it was, and that is written back as the bytes it was read from.
 asks-kept : (u : Verdict) (f : Placed) (state room : List ℕ) → isDock state ≡ true
     → (figuresOf (asked (handed u f room) (handed u f room .answer) (dockIn state) .report) .refusal ≡ 0 → ⊥)
-    → AskKept (askAnswered (asked (handed u f room) (handed u f room .answer) (dockIn state))) state room
+    → AskKept (askAnswered (asked (handed u f room) (handed u f room .answer) (dockIn state)) state) state room
 unfolding asked handed figuresOf
-asks-kept (Refused r) f state room e h = record { stateStays = dock-written-back state e; roomStays = refl }
+asks-kept (Refused r) f state room e h = record { stateStays = laid-back state e; roomStays = refl }
 asks-kept Accepted f state room e h = absurd (h refl)
 
 asked-kept : (u : Verdict) (j : Job) (image state room : List ℕ) → (u ≡ Accepted → isDock state ≡ true) → (askedBy u j image state room .refusal ≡ 0 → ⊥)
@@ -59,9 +62,9 @@ unrefused (InBlock k w) d = refl
 unrefused (Over e) d = refl
 
 tells-kept : (u : Verdict) (t : Turned) (state : List ℕ) → isDock state ≡ true → (figuresOf (turning u (dockIn state) t .report) .refusal ≡ 0 → ⊥)
-    → layoutOf (turning u (dockIn state) t .dock) ≡ state
+    → dockLaid (turning u (dockIn state) t .dock) state ≡ state
 unfolding turning
-tells-kept (Refused r) t state e h = dock-written-back state e
+tells-kept (Refused r) t state e h = laid-back state e
 tells-kept Accepted t state e h = absurd (h (unrefused (t .stage) (moved (dockIn state) t)))
 
 heard-kept : (u : Verdict) (j : Job) (image state : List ℕ) (x : Heard) → (u ≡ Accepted → isDock state ≡ true) → (heardBy u j image state x .refusal ≡ 0 → ⊥)
@@ -77,8 +80,8 @@ unfolding hearThrough
 refused-hearing-keeps j image state x h = heard-kept (admission j (length image) state) j image state x (λ e. admitted j (length image) state e) h
 
 fits-kept : (t : Bool) (s : Stepped) (state : List ℕ)
-    → ((if t then startTold 0 (layoutOf (s .dock)) else startTold (number BadState) state) .refusal ≡ 0 → ⊥)
-    → (if t then startTold 0 (layoutOf (s .dock)) else startTold (number BadState) state) .state ≡ state
+    → ((if t then startTold 0 (dockLaid (s .dock) state) else startTold (number BadState) state) .refusal ≡ 0 → ⊥)
+    → (if t then startTold 0 (dockLaid (s .dock) state) else startTold (number BadState) state) .state ≡ state
 unfolding if_then_else_
 fits-kept true s state h = absurd (h refl)
 fits-kept false s state h = refl

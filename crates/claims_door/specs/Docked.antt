@@ -3,7 +3,7 @@ use mathlib.Core.List.{List}
 use mathlib.Core.Path.{_≡_}
 use Prim.Native.Nat.{_<_, _^_, ℕ}
 use Rattle.dock_door.specs.Calls.{AskTold}
-use Rattle.dock_door.specs.Layout.{flatOf, named}
+use Rattle.dock_layout.specs.Layout.{flatOf, named}
 use Rattle.dock_job.specs.declared.Dock.{Dock}
 
 pub record HeldDock (d : Dock) : Type 0 where

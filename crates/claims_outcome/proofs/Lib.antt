@@ -17,6 +17,7 @@ pub mod DockAnswer
 pub mod DockDoor
 pub mod DockFlow
 pub mod DockJob
+pub mod DockLayout
 pub mod Frame
 pub mod Lent
 pub mod Numbers

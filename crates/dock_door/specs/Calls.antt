@@ -10,8 +10,8 @@ use Rattle.dock.specs.declared.Report.{Report}
 use Rattle.dock.specs.declared.Report.the-variants.{Due, Ended, Put}
 use Rattle.dock.specs.declared.Report.the-variants as Report
 use Rattle.dock.specs.declared.Stepped.{Stepped}
-use Rattle.dock_door.specs.Layout.{causeNumber, dockIn, dockSize, isDock, layoutOf}
-use Rattle.dock_door.specs.declared.calls.Figures.{Figures}
+use Rattle.dock_layout.specs.Layout.{causeNumber, dockIn, dockLaid, dockSize, isDock}
+use Rattle.dock_door.specs.declared.Figures.{Figures}
 use Rattle.dock_flow.specs.Flow.{Heard, answered, silence}
 use Rattle.dock_job.specs.Refusals.{callVerdict}
 use Rattle.dock_job.specs.declared.Ending.{Ending}
@@ -45,14 +45,14 @@ endingNumber (Failed f) = 1 + causeNumber (f .cause)
 
 -- What a report is in numbers: the refusal's; the bytes of the frame that was put; how the job ended ("finished" 1, failed 2 to 5 by its cause), and the frames
 -- and retries used where it has ended. Each is 0 where there is none.
-abbrev pub figures : ℕ → ℕ → ℕ → ℕ → ℕ → Figures
-figures refusal bytes ended frames retries = record { refusal = refusal; bytes = bytes; ended = ended; frames = frames; retries = retries }
+abbrev pub figuresWith : ℕ → ℕ → ℕ → ℕ → ℕ → Figures
+figuresWith refusal bytes ended frames retries = record { refusal = refusal; bytes = bytes; ended = ended; frames = frames; retries = retries }
 
 unfoldable pub figuresOf : Report → Figures
-figuresOf Due = figures 0 0 0 0 0
-figuresOf (Put n) = figures 0 n 0 0 0
-figuresOf (Ended a) = figures 0 0 (endingNumber (a .ending)) (a .frames) (a .retries)
-figuresOf (Report.Refused r) = figures (number r) 0 0 0 0
+figuresOf Due = figuresWith 0 0 0 0 0
+figuresOf (Put n) = figuresWith 0 n 0 0 0
+figuresOf (Ended a) = figuresWith 0 0 (endingNumber (a .ending)) (a .frames) (a .retries)
+figuresOf (Report.Refused r) = figuresWith (number r) 0 0 0 0
 
 -- To start: 9 for lent bytes that no state fits in.
 pub record StartTold : Type 0 where
@@ -64,7 +64,7 @@ startTold n state = record { refusal = n; state = state }
 
 unfoldable pub startedBy : Verdict → Stepped → List ℕ → StartTold
 startedBy (Verdict.Refused r) s state = startTold (number r) state
-startedBy Accepted s state = if eqb (length state) dockSize then startTold 0 (layoutOf (s .dock)) else startTold (number BadState) state
+startedBy Accepted s state = if eqb (length state) dockSize then startTold 0 (dockLaid (s .dock) state) else startTold (number BadState) state
 
 unfoldable pub startThrough : Job → List ℕ → List ℕ → StartTold
 startThrough j image state = startedBy (callVerdict j (length image) Begins) (startOf j image) state
@@ -84,7 +84,7 @@ askedBy (Verdict.Refused r) j image state room = askTold (number r) 0 state room
 askedBy Accepted j image state room =
     let a = askOf j image (dockIn state) room in
     let f = figuresOf (a .report) in
-    askTold (f .refusal) (f .bytes) (layoutOf (a .dock)) (a .room)
+    askTold (f .refusal) (f .bytes) (dockLaid (a .dock) state) (a .room)
 
 unfoldable pub askThrough : Job → List ℕ → List ℕ → List ℕ → AskTold
 askThrough j image state room = askedBy (admission j (length image) state) j image state room
@@ -104,12 +104,12 @@ pub record HearTold : Type 0 where
 abbrev pub hearTold : ℕ → ℕ → ℕ → ℕ → List ℕ → HearTold
 hearTold n ended frames retries state = record { refusal = n; ended = ended; frames = frames; retries = retries; state = state }
 
-unfoldable pub toldOf : Stepped → HearTold
-toldOf s = let f = figuresOf (s .report) in hearTold (f .refusal) (f .ended) (f .frames) (f .retries) (layoutOf (s .dock))
+unfoldable pub toldOf : Stepped → List ℕ → HearTold
+toldOf s state = let f = figuresOf (s .report) in hearTold (f .refusal) (f .ended) (f .frames) (f .retries) (dockLaid (s .dock) state)
 
 unfoldable pub heardBy : Verdict → Job → List ℕ → List ℕ → Heard → HearTold
 heardBy (Verdict.Refused r) j image state h = hearTold (number r) 0 0 0 state
-heardBy Accepted j image state h = toldOf (hearOf j image (dockIn state) h)
+heardBy Accepted j image state h = toldOf (hearOf j image (dockIn state) h) state
 
 unfoldable pub hearThrough : Job → List ℕ → List ℕ → Heard → HearTold
 hearThrough j image state h = heardBy (admission j (length image) state) j image state h

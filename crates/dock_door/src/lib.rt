@@ -1,307 +1,345 @@
-// How a dock's state crosses the door as bytes: one layout, read and written here alone. The calls for C and Rust stand in `calls`.
+// The dock's calls for C and Rust. Each takes a job as eight numbers, sixteen bytes and the image, and a dock's state as 23 lent bytes, and answers a refusal
+// number, 0 where it was not refused; what else it tells goes into lent numbers. Document 01, "The dock's flow" and "Refusal numbers".
 ghost use mathlib.Core.Path.{_≡_};
-ghost use lib.ListN.{length};
-ghost use Rattle.dock_door.specs.Layout.{bit, causeIn, causeNumber, dockIn, dockSize, endingIn, flatEnding, flatIn, flatOf, flatWork, isDock, isNamed};
-ghost use Rattle.dock_door.specs.Layout.{layoutOf, layoutWith, named, namedIn, plain, setupIn, setupNumber, stageIn, workIn};
-use dock_job::Cause;
+ghost use Rattle.dock_flow.specs.Flow.{answered, silence};
+ghost use Rattle.dock_door.specs.Calls.{admission, askThrough, askTold, endingNumber, figuresOf, figuresWith, hearThrough, hearTold, heardAs, jobOf};
+ghost use Rattle.dock_door.specs.Calls.{startThrough, startTold, toldOf};
+ghost use Rattle.dock.specs.Calls.{hearOf};
+use dock::Report;
+use dock::Stepped;
+use dock::calls;
 use dock_job::Dock;
 use dock_job::Ending;
-use dock_job::Failure;
-use dock_job::Named;
-use dock_job::Setup;
-use dock_job::Stage;
-use dock_job::Work;
+use dock_job::Job;
+use dock_job::refusals;
+use dock_job::refusals::Call;
+use part::refusal::Refusal;
+use part::refusal::Verdict;
 
-pub mod calls;
-
-// A stage in numbers: which it is, the block and the page that it names, and of a failure the cause, the command and the status.
-pub struct Flat {
-    pub stage: u8,
-    pub block: Named,
-    pub page: Named,
-    pub cause: u8,
-    pub command: u8,
-    pub status: u8,
+// A report in numbers.
+pub struct Figures {
+    pub refusal: u32,
+    pub bytes: usize,
+    pub ended: u32,
+    pub frames: u32,
+    pub retries: u32,
 }
 
-fn cause_number(cause: Cause) -> u8
-    ensures { λ r. ⌜ r ≡ causeNumber cause ⌝ }
+fn job_of(
+    code_blocks: u32,
+    data_blocks: u32,
+    clock: u32,
+    names: &[u8],
+    start: u32,
+    end: u32,
+    rate: u32,
+    supply: u32,
+    retries: u32,
+) -> Job
+    ensures { λ r. ⌜ r ≡ jobOf «code_blocks» «data_blocks» clock (now (names .entry)) start end rate supply retries ⌝ }
 {
-    match cause {
-        Cause::UnexpectedStatus => 1,
-        Cause::Mismatch => 2,
-        Cause::Unreadable => 3,
-        Cause::TimedOut => 4,
-    }
-}
-
-fn cause_in(n: u8) -> Cause
-    ensures { λ r. ⌜ r ≡ causeIn n ⌝ }
-{
-    if n == 1 {
-        return Cause::UnexpectedStatus;
-    }
-    if n == 2 {
-        return Cause::Mismatch;
-    }
-    if n == 3 {
-        return Cause::Unreadable;
-    }
-    Cause::TimedOut
-}
-
-fn setup_number(setup: Setup) -> u8
-    ensures { λ r. ⌜ r ≡ setupNumber setup ⌝ }
-{
-    match setup {
-        Setup::BaudRate => 1,
-        Setup::ResetChip => 2,
-        Setup::SiliconSignature => 3,
+    let part = part::crossing::part_of(code_blocks, data_blocks, clock, names);
+    Job {
+        part,
+        start,
+        end,
+        rate,
+        supply,
+        retries,
     }
 }
 
-fn plain(stage: u8, block: Named, page: Named) -> Flat
-    ensures { λ r. ⌜ r ≡ plain stage block page ⌝ }
+// What bars a call before the dock is asked: the job, then bytes that are no state, in the paper's order.
+fn admit(job: Job, image: usize, state: &[u8]) -> Verdict
+    ensures { λ r. ⌜ r ≡ admission job image (now (state .entry)) ⌝ }
 {
-    Flat {
-        stage,
-        block,
-        page,
-        cause: 0,
-        command: 0x00,
-        status: 0x00,
-    }
-}
-
-fn flat_work(block: u32, work: Work) -> Flat
-    ensures { λ r. ⌜ r ≡ flatWork block work ⌝ }
-{
-    match work {
-        Work::Blank => plain(4, Named::It(block), Named::Unnamed),
-        Work::Erase => plain(5, Named::It(block), Named::Unnamed),
-        Work::Program => plain(6, Named::It(block), Named::Unnamed),
-        Work::ProgramPage(page) => plain(7, Named::It(block), Named::It(page)),
-        Work::VerifyBlock => plain(8, Named::It(block), Named::Unnamed),
-        Work::VerifyPage(page) => plain(9, Named::It(block), Named::It(page)),
-    }
-}
-
-fn flat_ending(ending: Ending) -> Flat
-    ensures { λ r. ⌜ r ≡ flatEnding ending ⌝ }
-{
-    match ending {
-        Ending::Finished => plain(10, Named::Unnamed, Named::Unnamed),
-        Ending::Failed(failure) => {
-            let block = failure.block;
-            let page = failure.page;
-            let cause = failure.cause;
-            Flat {
-                stage: 11,
-                block,
-                page,
-                cause: cause_number(cause),
-                command: failure.command,
-                status: failure.status,
+    let v = refusals::verdict(job, image, Call::Begins);
+    match v {
+        Verdict::Refused(refusal) => Verdict::Refused(refusal),
+        Verdict::Accepted => {
+            if dock_layout::is_dock(state) {
+                return Verdict::Accepted;
             }
+            Verdict::Refused(Refusal::BadState)
         }
     }
 }
 
-fn flat_of(stage: Stage) -> Flat
-    ensures { λ r. ⌜ r ≡ flatOf stage ⌝ }
+fn ending_number(ending: Ending) -> u32
+    ensures { λ r. ⌜ r ≡ endingNumber ending ⌝ }
 {
-    match stage {
-        Stage::SetUp(setup) => plain(setup_number(setup), Named::Unnamed, Named::Unnamed),
-        Stage::InBlock { block, work } => flat_work(block, work),
-        Stage::Over(ending) => flat_ending(ending),
+    match ending {
+        Ending::Finished => 1,
+        Ending::Failed(failure) => {
+            let cause = failure.cause;
+            1 + (dock_layout::cause_number(cause) as u32)
+        }
     }
 }
 
-fn is_named(given: Named) -> u8
-    ensures { λ r. ⌜ r ≡ isNamed given ⌝ }
+fn figures_with(refusal: u32, bytes: usize, ended: u32, frames: u32, retries: u32) -> Figures
+    ensures { λ r. ⌜ r ≡ figuresWith refusal bytes ended frames retries ⌝ }
 {
-    match given {
-        Named::It(n) => 1,
-        Named::Unnamed => 0,
+    Figures {
+        refusal,
+        bytes,
+        ended,
+        frames,
+        retries,
     }
 }
 
-fn named(given: Named) -> u32
-    ensures { λ r. ⌜ r ≡ named given ⌝ }
+fn figures_of(report: Report) -> Figures
+    ensures { λ r. ⌜ r ≡ figuresOf report ⌝ }
 {
-    match given {
-        Named::It(n) => n,
-        Named::Unnamed => 0,
+    match report {
+        Report::Due => figures_with(0, 0, 0, 0, 0),
+        Report::Put(n) => figures_with(0, n, 0, 0, 0),
+        Report::Ended(account) => {
+            let ending = account.ending;
+            figures_with(0, 0, ending_number(ending), account.frames, account.retries)
+        }
+        Report::Refused(refusal) => figures_with(refusal.number() as u32, 0, 0, 0, 0),
     }
 }
 
-fn bit(b: bool) -> u8
-    ensures { λ r. ⌜ r ≡ bit b ⌝ }
+// What hearing left, into the lent state and numbers.
+fn tell(
+    s: Stepped,
+    state: &mut [u8],
+    ended: &mut u32,
+    frames_told: &mut u32,
+    retries_told: &mut u32,
+) -> u32
+    ensures { λ r. ⌜ hearTold r (now (ended .exit)) (now («frames_told» .exit)) (now («retries_told» .exit)) (now (state .exit)) ≡ toldOf s (now (state .entry)) ⌝ }
 {
-    if b {
-        return 1;
+    let report = s.report;
+    let figures = figures_of(report);
+    dock_layout::lay_dock(s.dock, state);
+    *ended = figures.ended;
+    *frames_told = figures.frames;
+    *retries_told = figures.retries;
+    figures.refusal
+}
+
+fn hear_of(job: Job, image: &[u8], dock: Dock, came: bool, answer: &[u8]) -> Stepped
+    ensures { λ r. ⌜ r ≡ hearOf job (now (image .entry)) dock (heardAs came (now (answer .entry))) ⌝ }
+{
+    if came {
+        return calls::answer(job, image, dock, answer);
     }
-    0
+    calls::timeout(job, image, dock)
 }
 
-fn layout_with(flat: Flat, awaited: u8, retries: u32, frames: u32) -> [u8; 23]
-    ensures { λ r. ⌜ r ≡ layoutWith flat awaited retries frames ⌝ }
+// The whole answer to the frame that was handed out, where one came.
+fn hear(
+    job: Job,
+    image: &[u8],
+    state: &mut [u8],
+    came: bool,
+    answer: &[u8],
+    ended: &mut u32,
+    frames_told: &mut u32,
+    retries_told: &mut u32,
+) -> u32
+    ensures { λ r. ⌜ hearTold r (now (ended .exit)) (now («frames_told» .exit)) (now («retries_told» .exit)) (now (state .exit))
+        ≡ hearThrough job (now (image .entry)) (now (state .entry)) (heardAs came (now (answer .entry))) ⌝ }
 {
-    let r = numbers::low4(retries);
-    let f = numbers::low4(frames);
-    let block = flat.block;
-    let b = numbers::low4(named(block));
-    let page = flat.page;
-    let p = numbers::low4(named(page));
-    [
-        flat.stage,
-        awaited,
-        r[0],
-        r[1],
-        r[2],
-        r[3],
-        f[0],
-        f[1],
-        f[2],
-        f[3],
-        is_named(block),
-        b[0],
-        b[1],
-        b[2],
-        b[3],
-        is_named(page),
-        p[0],
-        p[1],
-        p[2],
-        p[3],
-        flat.cause,
-        flat.command,
-        flat.status,
-    ]
-}
-
-fn layout_of(dock: Dock) -> [u8; 23]
-    ensures { λ r. ⌜ r ≡ layoutOf dock ⌝ }
-{
-    let stage = dock.stage;
-    layout_with(flat_of(stage), bit(dock.awaited), dock.retries, dock.frames)
-}
-
-fn named_in(given: u8, n: u32) -> Named
-    ensures { λ r. ⌜ r ≡ namedIn given n ⌝ }
-{
-    if given == 1 {
-        return Named::It(n);
-    }
-    Named::Unnamed
-}
-
-fn flat_in(state: &[u8]) -> Flat
-    ensures { λ r. ⌜ r ≡ flatIn (now (state .entry)) ⌝ }
-{
-    Flat {
-        stage: lent::byte_at(state, 0),
-        block: named_in(lent::byte_at(state, 10), numbers::number4(state, 11)),
-        page: named_in(lent::byte_at(state, 15), numbers::number4(state, 16)),
-        cause: lent::byte_at(state, 20),
-        command: lent::byte_at(state, 21),
-        status: lent::byte_at(state, 22),
+    let v = admit(job, image.len(), state);
+    match v {
+        Verdict::Refused(refusal) => {
+            *ended = 0;
+            *frames_told = 0;
+            *retries_told = 0;
+            refusal.number() as u32
+        }
+        Verdict::Accepted => {
+            let s = hear_of(job, image, dock_layout::dock_in(state), came, answer);
+            tell(s, state, ended, frames_told, retries_told)
+        }
     }
 }
 
-fn setup_in(n: u8) -> Setup
-    ensures { λ r. ⌜ r ≡ setupIn n ⌝ }
+// A dock before its first frame, into the lent state.
+#[no_mangle]
+pub extern "C" fn zc_start(
+    code_blocks: u32,
+    data_blocks: u32,
+    clock: u32,
+    names: &[u8],
+    start: u32,
+    end: u32,
+    rate: u32,
+    supply: u32,
+    retries: u32,
+    image: &[u8],
+    state: &mut [u8],
+) -> u32
+    ensures { λ r. ⌜ startTold r (now (state .exit))
+        ≡ startThrough (jobOf «code_blocks» «data_blocks» clock (now (names .entry)) start end rate supply retries)
+        (now (image .entry)) (now (state .entry)) ⌝ }
 {
-    if n == 1 {
-        return Setup::BaudRate;
-    }
-    if n == 2 {
-        return Setup::ResetChip;
-    }
-    Setup::SiliconSignature
-}
-
-fn work_in(n: u8, page: u32) -> Work
-    ensures { λ r. ⌜ r ≡ workIn n page ⌝ }
-{
-    if n == 4 {
-        return Work::Blank;
-    }
-    if n == 5 {
-        return Work::Erase;
-    }
-    if n == 6 {
-        return Work::Program;
-    }
-    if n == 7 {
-        return Work::ProgramPage(page);
-    }
-    if n == 8 {
-        return Work::VerifyBlock;
-    }
-    Work::VerifyPage(page)
-}
-
-fn ending_in(flat: Flat) -> Ending
-    ensures { λ r. ⌜ r ≡ endingIn flat ⌝ }
-{
-    if flat.stage == 10 {
-        return Ending::Finished;
-    }
-    let page = flat.page;
-    let block = flat.block;
-    Ending::Failed(Failure {
-        cause: cause_in(flat.cause),
-        command: flat.command,
-        page,
-        status: flat.status,
-        block,
-    })
-}
-
-fn stage_in(flat: Flat) -> Stage
-    ensures { λ r. ⌜ r ≡ stageIn flat ⌝ }
-{
-    if flat.stage < 4 {
-        return Stage::SetUp(setup_in(flat.stage));
-    }
-    if flat.stage < 10 {
-        let block = flat.block;
-        let page = flat.page;
-        return Stage::InBlock {
-            block: named(block),
-            work: work_in(flat.stage, named(page)),
-        };
-    }
-    Stage::Over(ending_in(flat))
-}
-
-fn dock_in(state: &[u8]) -> Dock
-    ensures { λ r. ⌜ r ≡ dockIn (now (state .entry)) ⌝ }
-{
-    Dock {
-        stage: stage_in(flat_in(state)),
-        awaited: lent::byte_at(state, 1) == 1,
-        retries: numbers::number4(state, 2),
-        frames: numbers::number4(state, 6),
+    let job = job_of(
+        code_blocks,
+        data_blocks,
+        clock,
+        names,
+        start,
+        end,
+        rate,
+        supply,
+        retries,
+    );
+    let v = refusals::verdict(job, image.len(), Call::Begins);
+    match v {
+        Verdict::Refused(refusal) => refusal.number() as u32,
+        Verdict::Accepted => {
+            if state.len() == 23 {
+                let s = calls::start(job, image);
+                dock_layout::lay_dock(s.dock, state);
+                return 0;
+            }
+            9
+        }
     }
 }
 
-fn is_dock(state: &[u8]) -> bool
-    ensures { λ r. ⌜ r ≡ isDock (now (state .entry)) ⌝ }
+// The next frame, put at the start of the room: so many bytes.
+#[no_mangle]
+pub extern "C" fn zc_ask(
+    code_blocks: u32,
+    data_blocks: u32,
+    clock: u32,
+    names: &[u8],
+    start: u32,
+    end: u32,
+    rate: u32,
+    supply: u32,
+    retries: u32,
+    image: &[u8],
+    state: &mut [u8],
+    room: &mut [u8],
+    bytes: &mut usize,
+) -> u32
+    ensures { λ r. ⌜ askTold r (now (bytes .exit)) (now (state .exit)) (now (room .exit))
+        ≡ askThrough (jobOf «code_blocks» «data_blocks» clock (now (names .entry)) start end rate supply retries)
+        (now (image .entry)) (now (state .entry)) (now (room .entry)) ⌝ }
 {
-    if state.len() == 23 {
-        let back = layout_of(dock_in(state));
-        return lent::is_same(&back, state);
+    let job = job_of(
+        code_blocks,
+        data_blocks,
+        clock,
+        names,
+        start,
+        end,
+        rate,
+        supply,
+        retries,
+    );
+    let v = admit(job, image.len(), state);
+    match v {
+        Verdict::Refused(refusal) => {
+            *bytes = 0;
+            refusal.number() as u32
+        }
+        Verdict::Accepted => {
+            let s = calls::ask(job, image, dock_layout::dock_in(state), room);
+            let report = s.report;
+            let figures = figures_of(report);
+            dock_layout::lay_dock(s.dock, state);
+            *bytes = figures.bytes;
+            figures.refusal
+        }
     }
-    false
 }
 
-// The dock's state into the lent bytes.
-fn lay(dock: Dock, state: &mut [u8])
-    requires { ⌜ length (now state) ≡ dockSize ⌝ }
-    ensures { λ r. ⌜ now (state .exit) ≡ layoutOf dock ⌝ }
+// The whole answer to the frame that was handed out.
+#[no_mangle]
+pub extern "C" fn zc_answer(
+    code_blocks: u32,
+    data_blocks: u32,
+    clock: u32,
+    names: &[u8],
+    start: u32,
+    end: u32,
+    rate: u32,
+    supply: u32,
+    retries: u32,
+    image: &[u8],
+    state: &mut [u8],
+    answer: &[u8],
+    ended: &mut u32,
+    frames_told: &mut u32,
+    retries_told: &mut u32,
+) -> u32
+    ensures { λ r. ⌜ hearTold r (now (ended .exit)) (now («frames_told» .exit)) (now («retries_told» .exit)) (now (state .exit))
+        ≡ hearThrough (jobOf «code_blocks» «data_blocks» clock (now (names .entry)) start end rate supply retries)
+        (now (image .entry)) (now (state .entry)) (answered (now (answer .entry))) ⌝ }
 {
-    let bytes = layout_of(dock);
-    lent::put(state, 0, &bytes);
+    let job = job_of(
+        code_blocks,
+        data_blocks,
+        clock,
+        names,
+        start,
+        end,
+        rate,
+        supply,
+        retries,
+    );
+    hear(
+        job,
+        image,
+        state,
+        true,
+        answer,
+        ended,
+        frames_told,
+        retries_told,
+    )
+}
+
+// No answer came to the frame that was handed out.
+#[no_mangle]
+pub extern "C" fn zc_timeout(
+    code_blocks: u32,
+    data_blocks: u32,
+    clock: u32,
+    names: &[u8],
+    start: u32,
+    end: u32,
+    rate: u32,
+    supply: u32,
+    retries: u32,
+    image: &[u8],
+    state: &mut [u8],
+    ended: &mut u32,
+    frames_told: &mut u32,
+    retries_told: &mut u32,
+) -> u32
+    ensures { λ r. ⌜ hearTold r (now (ended .exit)) (now («frames_told» .exit)) (now («retries_told» .exit)) (now (state .exit))
+        ≡ hearThrough (jobOf «code_blocks» «data_blocks» clock (now (names .entry)) start end rate supply retries)
+        (now (image .entry)) (now (state .entry)) silence ⌝ }
+{
+    let job = job_of(
+        code_blocks,
+        data_blocks,
+        clock,
+        names,
+        start,
+        end,
+        rate,
+        supply,
+        retries,
+    );
+    hear(
+        job,
+        image,
+        state,
+        false,
+        &image[0..0],
+        ended,
+        frames_told,
+        retries_told,
+    )
 }

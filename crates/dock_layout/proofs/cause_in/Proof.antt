@@ -1,0 +1,26 @@
+-- `dock_layout::cause_in` meets its contract.
+-- Assumes nothing.
+use borrow.Author.Tests.{eq-eqb, ne-eqb}
+use Rattle.dock_layout.specs.Layout.{causeIn}
+use Rattle.words.specs.Words.{if_then_else_}
+use Rattle.dock_layout.proofs.cause_in.Statement.{statement}
+use Rattle.dock_layout.proofs.cause_in.Tie as tie
+
+returns : tie.Need-returns
+unfolding causeIn if_then_else_
+returns c = simp (eq-eqb _ _ (c .if1 .taken))
+
+returns-2 : tie.Need-returns-2
+unfolding causeIn if_then_else_
+returns-2 c = simp (ne-eqb _ _ (c .before .if1 .left), eq-eqb _ _ (c .if2 .taken))
+
+returns-3 : tie.Need-returns-3
+unfolding causeIn if_then_else_
+returns-3 c = simp (ne-eqb _ _ (c .before .before .if1 .left), ne-eqb _ _ (c .before .if2 .left), eq-eqb _ _ (c .if3 .taken))
+
+returns-4 : tie.Need-returns-4
+unfolding causeIn if_then_else_
+returns-4 c = simp (ne-eqb _ _ (c .before .before .if1 .left), ne-eqb _ _ (c .before .if2 .left), ne-eqb _ _ (c .if3 .left))
+
+pub cause-in-spec : {M : Type 1} → statement M
+cause-in-spec = tie.close (tie.spec returns returns-2 returns-3 returns-4)
