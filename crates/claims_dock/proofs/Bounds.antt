@@ -10,12 +10,12 @@ use lib.ListN.{length}
 use Rattle.claims_dock.proofs.Budget.{Kept, heard-kept, needs, start-good, start-needs}
 use Rattle.claims_dock.specs.Examples.{at}
 use Rattle.claims_dock.specs.Stepping.{mostFrames}
-use Rattle.dock.specs.Calls.{askOf, asked, asking, freshDock, hearOf, moved, sending, standing, startOf, starting, stepped, turning}
+use Rattle.dock.specs.Calls.{askOf, asked, asking, freshDock, hearOf, moved, sending, standing, beginOf, starting, stepped, turning}
 use Rattle.dock.specs.declared.Report.the-variants as Report
 use Rattle.dock_flow.proofs.Laws.{heard-within}
 use Rattle.dock_flow.specs.Flow.{Heard, afterHeard, exchanges, firstStage, flow, framesIn, spentIn}
-use Rattle.dock_flow.specs.Frames.{handed, sendOf}
-use Rattle.dock_flow.specs.Frames.{frameAt, handed, sendOf}
+use Rattle.dock_flow.specs.Frames.{handed, handOf}
+use Rattle.dock_flow.specs.Frames.{frameAt, handed, handOf}
 use Rattle.dock_job.proofs.Laws.{GoodDock, accepts, asked-is, dock-yes, told-is}
 use Rattle.dock_job.specs.Job.{bound, isOver, perBlock, setup}
 use Rattle.dock_job.specs.Refusals.{callVerdict, goodDock, goodStage}
@@ -81,8 +81,8 @@ unfolding flow
 retries-within j image hs = omega (arith, spent-allowed j image 0 (firstStage j) hs (omega arith))
 
 -- A state that is handed in and accepted is left accepted, by each call.
-pub start-keeps : (j : Job) (image : List ℕ) → goodDock j (startOf j image .dock) ≡ true
-unfolding startOf starting freshDock
+pub start-keeps : (j : Job) (image : List ℕ) → goodDock j (beginOf j image .dock) ≡ true
+unfolding beginOf starting freshDock
 start-keeps j image = go (callVerdict j (length image) Begins)
   where
     go : (v : Verdict) → goodDock j (starting v (freshDock j) .dock) ≡ true
@@ -91,7 +91,7 @@ start-keeps j image = go (callVerdict j (length image) Begins)
 
 pub ask-keeps : (j : Job) (image : List ℕ) (d : Dock) (room : List ℕ) → callVerdict j (length image) (Asks d (length room)) ≡ Accepted
     → goodDock j (askOf j image d room .dock) ≡ true
-unfolding askOf asked sendOf handed
+unfolding askOf asked handOf handed
 ask-keeps j image d room e =
     let a = asked-is j d (length image) (length room) (accepts j (length image) (Asks d (length room)) e) in
     let g : GoodDock j (sending d) = record { at-stage = a .good .at-stage; few-used = a .good .few-used; few-sent = omega (arith, a .below) } in
@@ -109,7 +109,7 @@ hear-keeps j image d h e =
 -- A refused call leaves the dock and the room as they were.
 pub ask-denied : (j : Job) (image : List ℕ) (d : Dock) (room : List ℕ) (r : Refusal) → callVerdict j (length image) (Asks d (length room)) ≡ Verdict.Refused r
     → askOf j image d room ≡ asking (stepped (Report.Refused r) d) room
-unfolding askOf asked sendOf handed
+unfolding askOf asked handOf handed
 ask-denied j image d room r e = rw e
 
 pub hear-denied : (j : Job) (image : List ℕ) (d : Dock) (h : Heard) (r : Refusal) → callVerdict j (length image) (Tells d) ≡ Verdict.Refused r

@@ -12,13 +12,13 @@ use Rattle.claims_dock.proofs.Bounds.{ask-denied, hear-denied}
 use Rattle.claims_dock.proofs.Budget.{Kept, heard-kept, needs, needs-some, start-good, start-needs}
 use Rattle.claims_dock.specs.Examples.{frames}
 use Rattle.claims_dock.specs.Stepping.{Course, asFlow, handedOut, stepping}
-use Rattle.dock.specs.Calls.{Asking, askOf, asked, asking, freshDock, hearOf, sending, startOf, starting, stepped, turning}
+use Rattle.dock.specs.Calls.{Asking, askOf, asked, asking, freshDock, hearOf, sending, beginOf, starting, stepped, turning}
 use Rattle.dock.specs.declared.Report.the-variants.{Put}
 use Rattle.dock.specs.declared.Report.the-variants as Report
 use Rattle.dock.specs.declared.Stepped.{Stepped}
 use Rattle.dock_flow.specs.Flow.{Exchange, Flow, Heard, afterHeard, exchanges, firstStage, flow, framesIn, placeAfter, spentIn}
-use Rattle.dock_flow.specs.Frames.{handed, placing, sendOf}
-use Rattle.dock_flow.specs.Frames.{frameAt, handed, placing, sendOf}
+use Rattle.dock_flow.specs.Frames.{handed, placing, handOf}
+use Rattle.dock_flow.specs.Frames.{frameAt, handed, placing, handOf}
 use Rattle.frame.proofs.Laws.Sum.{none}
 use Rattle.dock_job.proofs.Laws.{Accepts, GoodDock, accepts, ask-accepted, asked-is, tell-accepted, told-is}
 use Rattle.dock_job.specs.Job.{bound, isOver, perBlock}
@@ -121,7 +121,7 @@ onward j image st used n h hs o =
 -- The frame that is due is hands-out out, and what is heard moves the dock on as the flow says.
 sent-asked : (j : Job) (image room : List ℕ) (d : Dock) → callVerdict j (length image) (Asks d (length room)) ≡ Accepted
     → askOf j image d room ≡ asking (stepped (Put (length (frameAt j image (d .stage)))) (sending d)) (placing (frameAt j image (d .stage)) room .room)
-unfolding askOf asked sendOf handed
+unfolding askOf asked handOf handed
 sent-asked j image room d e = rw e
 
 moved-told : (j : Job) (image : List ℕ) (d : Dock) (h : Heard) → callVerdict j (length image) (Tells d) ≡ Accepted
@@ -182,8 +182,8 @@ pub record SameCourse (c : Course) (f : Flow) : Type 0 where
   pub same-dock : c .dock ≡ asFlow f
 
 pub dock-is-flow : (j : Job) (image room : List ℕ) (hs : List Heard) → callVerdict j (length image) Begins ≡ Accepted → 260 ≤ length room
-    → SameCourse (stepping j image room (startOf j image .dock) hs) (flow j image hs)
-unfolding startOf starting freshDock flow
+    → SameCourse (stepping j image room (beginOf j image .dock) hs) (flow j image hs)
+unfolding beginOf starting freshDock flow
 dock-is-flow j image room hs v r =
     let b = accepts j (length image) Begins v in
     let z : j .retries - 0 ≡ j .retries = omega arith in

@@ -8,14 +8,14 @@ use lib.Dec.{eqb}
 use lib.ListN.{length}
 use Rattle.claims_door.proofs.DockBack.{dock-written-back}
 use Rattle.claims_door.specs.Docked.{AskKept}
-use Rattle.dock.specs.Calls.{Asking, askOf, asked, hearOf, moved, standing, startOf, turning}
+use Rattle.dock.specs.Calls.{Asking, askOf, asked, hearOf, moved, standing, beginOf, turning}
 use Rattle.dock.specs.declared.Stepped.{Stepped}
 use Rattle.dock_door.proofs.Laws.{admitted}
 use Rattle.dock_door.specs.Calls.{AskTold, admission, askThrough, askTold, askedBy, figuresOf, hearThrough, heardBy, startThrough, startTold, startedBy, toldOf}
 use Rattle.dock_layout.specs.Layout.{dockIn, dockLaid, dockSize, isDock}
 use Rattle.dock_layout.proofs.Laws.{dock-laid-is, dock-long}
 use Rattle.dock_flow.specs.Flow.{Heard, afterHeard}
-use Rattle.dock_flow.specs.Frames.{Placed, frameAt, handed, placing, sendOf}
+use Rattle.dock_flow.specs.Frames.{Placed, frameAt, handed, placing, handOf}
 use Rattle.dock_flow.specs.declared.Turned.{Turned}
 use Rattle.dock_job.specs.Refusals.{callVerdict}
 use Rattle.dock_job.specs.declared.Dock.{Dock}
@@ -45,7 +45,7 @@ asks-kept Accepted f state room e h = absurd (h refl)
 
 asked-kept : (u : Verdict) (j : Job) (image state room : List ℕ) → (u ≡ Accepted → isDock state ≡ true) → (askedBy u j image state room .refusal ≡ 0 → ⊥)
     → AskKept (askedBy u j image state room) state room
-unfolding askedBy askOf sendOf
+unfolding askedBy askOf handOf
 asked-kept (Refused r) j image state room e h = record { stateStays = refl; roomStays = refl }
 asked-kept Accepted j image state room e h =
     asks-kept (callVerdict j (length image) (Asks (dockIn state) (length room))) (placing (frameAt j image (dockIn state .stage)) room) state room (e refl) h
@@ -94,4 +94,4 @@ starts-kept Accepted s state h = fits-kept (eqb (length state) dockSize) s state
 -- To start.
 pub refused-start-keeps : (j : Job) (image state : List ℕ) → (startThrough j image state .refusal ≡ 0 → ⊥) → startThrough j image state .state ≡ state
 unfolding startThrough
-refused-start-keeps j image state h = starts-kept (callVerdict j (length image) Begins) (startOf j image) state h
+refused-start-keeps j image state h = starts-kept (callVerdict j (length image) Begins) (beginOf j image) state h

@@ -4,8 +4,8 @@ use mathlib.Core.Path.{_∙_, sym}
 use denote.Ref.{now}
 use Rattle.dock.specs.Calls.{asking}
 use Rattle.claims_outcome.proofs.Outcome.{Once}
-use Rattle.dock.proofs.calls.start.Reads as calls-start
-use Rattle.dock.proofs.calls.start.Kinds as calls-start-kinds
+use Rattle.dock.proofs.calls.begin.Reads as calls-begin
+use Rattle.dock.proofs.calls.begin.Kinds as calls-begin-kinds
 use Rattle.dock.proofs.calls.ask.Reads as calls-ask
 use Rattle.dock.proofs.calls.ask.Kinds as calls-ask-kinds
 use Rattle.dock.proofs.calls.answer.Reads as calls-answer
@@ -13,8 +13,8 @@ use Rattle.dock.proofs.calls.answer.Kinds as calls-answer-kinds
 use Rattle.dock.proofs.calls.timeout.Reads as calls-timeout
 use Rattle.dock.proofs.calls.timeout.Kinds as calls-timeout-kinds
 
-pub calls-start-once : Once calls-start-kinds.ps calls-start-kinds.r calls-start.Post (λ κs r x. r)
-calls-start-once κs a r s x y p q = p ∙ sym q
+pub calls-begin-once : Once calls-begin-kinds.ps calls-begin-kinds.r calls-begin.Post (λ κs r x. r)
+calls-begin-once κs a r s x y p q = p ∙ sym q
 
 pub calls-ask-once : Once calls-ask-kinds.ps calls-ask-kinds.r calls-ask.Post (λ κs r x. asking r (now (x .1 .1 .1 .0)))
 calls-ask-once κs a r s x y p q = p ∙ sym q

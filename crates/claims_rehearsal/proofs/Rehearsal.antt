@@ -10,14 +10,14 @@ use Rattle.chip.specs.Step.{byteIn, frameDoes, heardByte, modeByte, reactTo, se
 use Rattle.chip_state.specs.Refusals.{goodAwaited, goodBegun, goodCollected, goodCore, goodPhase, goodPlaces, goodState, verdictOf}
 use Rattle.claims_rehearsal.specs.Cable.{cable, exchange, speaks}
 use Rattle.claims_rehearsal.specs.Rehearsal.{finishedAfter, holds, mixed, oldCode, oldData, readyAt, rehearsed, rehearsedData, theChip, theDataImage, theImage}
-use Rattle.dock.specs.Calls.{askOf, asked, freshDock, hearOf, standing, startOf, starting, turning}
+use Rattle.dock.specs.Calls.{askOf, asked, beginOf, freshDock, hearOf, standing, starting, turning}
 use Rattle.chip_commands.specs.Commands.{allowedIn, commandDoes, readingDoes, work}
 use Rattle.commands.specs.Commands.{comOf, commandTable, fitted, informationOf, payloadOf, readCommand, readIn}
 use Rattle.chip_work.specs.Work.{blankCheck, blockErase, checksum, erasedIn, forbidden, programming, rangeBytes, rateSet, securityRelease, verify}
 use Rattle.chip_pages.specs.Pages.{badData, dataDoes, footerOf, goodData, isLastPage, lengthOf, nextPage, pageIn, pageStored, programPage, securityData, storedReply, verifyPage}
 use Rattle.chip_flash.specs.Flash.{blank, eraseOf, sumOfBytes}
 use Rattle.dock_flow.specs.Flow.{afterAnswer, afterHeard, afterSetup, afterStatus, afterWork, blockFrom, inBlock, next, retried, saysNotBlank, setupFrom}
-use Rattle.dock_flow.specs.Frames.{firstOfBlock, frameAt, handed, lastOfBlock, lastPage, pageFooter, queryWith, sendOf, storedForm, workFrame}
+use Rattle.dock_flow.specs.Frames.{firstOfBlock, frameAt, handOf, handed, lastOfBlock, lastPage, pageFooter, queryWith, storedForm, workFrame}
 use Rattle.frame.specs.Collector.{fresh, hear, heard, holding}
 use Rattle.frame.specs.Frame.{complete, counted, framed, full, isFrame, payload}
 use Rattle.frame.specs.Judgement.{fitting, judgeOf, summed}
@@ -43,9 +43,9 @@ unfolding byteIn frameDoes heardByte modeByte reactTo settled stepOf allowedIn c
     freshOptions goodOptions isFresh lastBlock optionBytes optionsIn raises released rises security badData dataDoes footerOf goodData isLastPage lengthOf
     nextPage pageIn pageStored programPage securityData storedReply verifyPage framesOf payloads saidOf goodAwaited goodBegun goodCollected goodCore goodPhase
     goodPlaces goodState verdictOf blankCheck blockErase checksum erasedIn forbidden programming rangeBytes rateSet securityRelease verify cable exchange
-    speaks mixed rehearsed theChip theImage comOf commandTable fitted informationOf payloadOf readCommand readIn askOf asked freshDock hearOf standing startOf
+    speaks mixed rehearsed theChip theImage comOf commandTable fitted informationOf payloadOf readCommand readIn askOf asked beginOf freshDock hearOf standing
     starting turning carriedBy deciding exactly matching rateMatches readAnswer readable shape signatureMatches statuses afterAnswer afterHeard afterSetup
-    afterStatus afterWork blockFrom inBlock next retried saysNotBlank setupFrom firstOfBlock frameAt handed lastOfBlock lastPage pageFooter queryWith sendOf
+    afterStatus afterWork blockFrom inBlock next retried saysNotBlank setupFrom firstOfBlock frameAt handOf handed lastOfBlock lastPage pageFooter queryWith
     storedForm workFrame areaIn blocksIn bound isOver setup badJob badState callVerdict due goodBlock goodDock goodEnding goodFailure goodNamedBlock
     goodNamedPage goodPage goodStage goodWork isBad outOfTurn shortRoom spent fresh hear heard holding complete counted framed full isFrame payload frames
     framing fitting judgeOf summed less lessAll sumOf readOf allAre putAt putOf same lowFirst numberAt blockOf blockSize described endsBlock lastOf liesIn
@@ -57,9 +57,9 @@ unfolding byteIn frameDoes heardByte modeByte reactTo settled stepOf allowedIn c
     freshOptions goodOptions isFresh lastBlock optionBytes optionsIn raises released rises security badData dataDoes footerOf goodData isLastPage lengthOf
     nextPage pageIn pageStored programPage securityData storedReply verifyPage framesOf payloads saidOf goodAwaited goodBegun goodCollected goodCore goodPhase
     goodPlaces goodState verdictOf blankCheck blockErase checksum erasedIn forbidden programming rangeBytes rateSet securityRelease verify cable exchange
-    speaks mixed rehearsed theChip theImage comOf commandTable fitted informationOf payloadOf readCommand readIn askOf asked freshDock hearOf standing startOf
+    speaks mixed rehearsed theChip theImage comOf commandTable fitted informationOf payloadOf readCommand readIn askOf asked beginOf freshDock hearOf standing
     starting turning carriedBy deciding exactly matching rateMatches readAnswer readable shape signatureMatches statuses afterAnswer afterHeard afterSetup
-    afterStatus afterWork blockFrom inBlock next retried saysNotBlank setupFrom firstOfBlock frameAt handed lastOfBlock lastPage pageFooter queryWith sendOf
+    afterStatus afterWork blockFrom inBlock next retried saysNotBlank setupFrom firstOfBlock frameAt handOf handed lastOfBlock lastPage pageFooter queryWith
     storedForm workFrame areaIn blocksIn bound isOver setup badJob badState callVerdict due goodBlock goodDock goodEnding goodFailure goodNamedBlock
     goodNamedPage goodPage goodStage goodWork isBad outOfTurn shortRoom spent fresh hear heard holding complete counted framed full isFrame payload frames
     framing fitting judgeOf summed less lessAll sumOf readOf allAre putAt putOf same lowFirst numberAt blockOf blockSize described endsBlock lastOf liesIn
@@ -71,13 +71,13 @@ unfolding byteIn frameDoes heardByte modeByte reactTo settled stepOf allowedIn c
     freshOptions goodOptions isFresh lastBlock optionBytes optionsIn raises released rises security badData dataDoes footerOf goodData isLastPage lengthOf
     nextPage pageIn pageStored programPage securityData storedReply verifyPage framesOf payloads saidOf goodAwaited goodBegun goodCollected goodCore goodPhase
     goodPlaces goodState verdictOf blankCheck blockErase checksum erasedIn forbidden programming rangeBytes rateSet securityRelease verify cable exchange
-    speaks holds mixed rehearsed theChip theImage comOf commandTable fitted informationOf payloadOf readCommand readIn askOf asked freshDock hearOf standing
-    startOf starting turning carriedBy deciding exactly matching rateMatches readAnswer readable shape signatureMatches statuses afterAnswer afterHeard
-    afterSetup afterStatus afterWork blockFrom inBlock next retried saysNotBlank setupFrom firstOfBlock frameAt handed lastOfBlock lastPage pageFooter
-    queryWith sendOf storedForm workFrame areaIn blocksIn bound isOver setup badJob badState callVerdict due goodBlock goodDock goodEnding goodFailure
-    goodNamedBlock goodNamedPage goodPage goodStage goodWork isBad outOfTurn shortRoom spent fresh hear heard holding complete counted framed full isFrame
-    payload frames framing fitting judgeOf summed less lessAll sumOf readOf allAre putAt putOf same lowFirst numberAt blockOf blockSize described endsBlock
-    lastOf liesIn pageOf placeIn placeOf rangeOf startsBlock stretch wholeBlocks acceptsRate modeOf firstOf signature _and_ _from_to_ _or_ if_then_else_
+    speaks holds mixed rehearsed theChip theImage comOf commandTable fitted informationOf payloadOf readCommand readIn askOf asked beginOf freshDock hearOf
+    standing starting turning carriedBy deciding exactly matching rateMatches readAnswer readable shape signatureMatches statuses afterAnswer afterHeard
+    afterSetup afterStatus afterWork blockFrom inBlock next retried saysNotBlank setupFrom firstOfBlock frameAt handOf handed lastOfBlock lastPage pageFooter
+    queryWith storedForm workFrame areaIn blocksIn bound isOver setup badJob badState callVerdict due goodBlock goodDock goodEnding goodFailure goodNamedBlock
+    goodNamedPage goodPage goodStage goodWork isBad outOfTurn shortRoom spent fresh hear heard holding complete counted framed full isFrame payload frames
+    framing fitting judgeOf summed less lessAll sumOf readOf allAre putAt putOf same lowFirst numberAt blockOf blockSize described endsBlock lastOf liesIn
+    pageOf placeIn placeOf rangeOf startsBlock stretch wholeBlocks acceptsRate modeOf firstOf signature _and_ _from_to_ _or_ if_then_else_
 rehearsal-flash = refl
 
 -- One block of data flash: 3 + 12 frames, and no byte of code flash changed.
@@ -86,13 +86,13 @@ unfolding byteIn frameDoes heardByte modeByte reactTo settled stepOf allowedIn c
     freshOptions goodOptions isFresh lastBlock optionBytes optionsIn raises released rises security badData dataDoes footerOf goodData isLastPage lengthOf
     nextPage pageIn pageStored programPage securityData storedReply verifyPage framesOf payloads saidOf goodAwaited goodBegun goodCollected goodCore goodPhase
     goodPlaces goodState verdictOf blankCheck blockErase checksum erasedIn forbidden programming rangeBytes rateSet securityRelease verify cable exchange
-    speaks mixed rehearsedData theChip theDataImage comOf commandTable fitted informationOf payloadOf readCommand readIn askOf asked freshDock hearOf standing
-    startOf starting turning carriedBy deciding exactly matching rateMatches readAnswer readable shape signatureMatches statuses afterAnswer afterHeard
-    afterSetup afterStatus afterWork blockFrom inBlock next retried saysNotBlank setupFrom firstOfBlock frameAt handed lastOfBlock lastPage pageFooter
-    queryWith sendOf storedForm workFrame areaIn blocksIn bound isOver setup badJob badState callVerdict due goodBlock goodDock goodEnding goodFailure
-    goodNamedBlock goodNamedPage goodPage goodStage goodWork isBad outOfTurn shortRoom spent fresh hear heard holding complete counted framed full isFrame
-    payload frames framing fitting judgeOf summed less lessAll sumOf readOf allAre putAt putOf same lowFirst numberAt blockOf blockSize described endsBlock
-    lastOf liesIn pageOf placeIn placeOf rangeOf startsBlock stretch wholeBlocks acceptsRate modeOf firstOf signature _and_ _from_to_ _or_ if_then_else_
+    speaks mixed rehearsedData theChip theDataImage comOf commandTable fitted informationOf payloadOf readCommand readIn askOf asked beginOf freshDock hearOf
+    standing starting turning carriedBy deciding exactly matching rateMatches readAnswer readable shape signatureMatches statuses afterAnswer afterHeard
+    afterSetup afterStatus afterWork blockFrom inBlock next retried saysNotBlank setupFrom firstOfBlock frameAt handOf handed lastOfBlock lastPage pageFooter
+    queryWith storedForm workFrame areaIn blocksIn bound isOver setup badJob badState callVerdict due goodBlock goodDock goodEnding goodFailure goodNamedBlock
+    goodNamedPage goodPage goodStage goodWork isBad outOfTurn shortRoom spent fresh hear heard holding complete counted framed full isFrame payload frames
+    framing fitting judgeOf summed less lessAll sumOf readOf allAre putAt putOf same lowFirst numberAt blockOf blockSize described endsBlock lastOf liesIn
+    pageOf placeIn placeOf rangeOf startsBlock stretch wholeBlocks acceptsRate modeOf firstOf signature _and_ _from_to_ _or_ if_then_else_
 rehearsal-data = refl
 
 pub rehearsal-data-flash : holds (rehearsedData .chip .memory) oldCode theDataImage ≡ true
@@ -100,12 +100,11 @@ unfolding byteIn frameDoes heardByte modeByte reactTo settled stepOf allowedIn c
     freshOptions goodOptions isFresh lastBlock optionBytes optionsIn raises released rises security badData dataDoes footerOf goodData isLastPage lengthOf
     nextPage pageIn pageStored programPage securityData storedReply verifyPage framesOf payloads saidOf goodAwaited goodBegun goodCollected goodCore goodPhase
     goodPlaces goodState verdictOf blankCheck blockErase checksum erasedIn forbidden programming rangeBytes rateSet securityRelease verify cable exchange
-    speaks holds mixed rehearsedData theChip theDataImage comOf commandTable fitted informationOf payloadOf readCommand readIn askOf asked freshDock hearOf
-    standing startOf starting turning carriedBy deciding exactly matching rateMatches readAnswer readable shape signatureMatches statuses afterAnswer
-    afterHeard afterSetup afterStatus afterWork blockFrom inBlock next retried saysNotBlank setupFrom firstOfBlock frameAt handed lastOfBlock lastPage
-    pageFooter queryWith sendOf storedForm workFrame areaIn blocksIn bound isOver setup badJob badState callVerdict due goodBlock goodDock goodEnding
-    goodFailure goodNamedBlock goodNamedPage goodPage goodStage goodWork isBad outOfTurn shortRoom spent fresh hear heard holding complete counted framed full
-    isFrame payload frames framing fitting judgeOf summed less lessAll sumOf readOf allAre putAt putOf same lowFirst numberAt blockOf blockSize described
-    endsBlock lastOf liesIn pageOf placeIn placeOf rangeOf startsBlock stretch wholeBlocks acceptsRate modeOf firstOf signature _and_ _from_to_ _or_
-    if_then_else_
+    speaks holds mixed rehearsedData theChip theDataImage comOf commandTable fitted informationOf payloadOf readCommand readIn askOf asked beginOf freshDock
+    hearOf standing starting turning carriedBy deciding exactly matching rateMatches readAnswer readable shape signatureMatches statuses afterAnswer
+    afterHeard afterSetup afterStatus afterWork blockFrom inBlock next retried saysNotBlank setupFrom firstOfBlock frameAt handOf handed lastOfBlock lastPage
+    pageFooter queryWith storedForm workFrame areaIn blocksIn bound isOver setup badJob badState callVerdict due goodBlock goodDock goodEnding goodFailure
+    goodNamedBlock goodNamedPage goodPage goodStage goodWork isBad outOfTurn shortRoom spent fresh hear heard holding complete counted framed full isFrame
+    payload frames framing fitting judgeOf summed less lessAll sumOf readOf allAre putAt putOf same lowFirst numberAt blockOf blockSize described endsBlock
+    lastOf liesIn pageOf placeIn placeOf rangeOf startsBlock stretch wholeBlocks acceptsRate modeOf firstOf signature _and_ _from_to_ _or_ if_then_else_
 rehearsal-data-flash = refl

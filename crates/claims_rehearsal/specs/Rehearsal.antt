@@ -6,7 +6,7 @@ use lib.ListN.{replicate}
 use Rattle.chip.specs.Run.{before}
 use Rattle.chip.specs.Step.{Outcome}
 use Rattle.claims_rehearsal.specs.Cable.{Ends, cable}
-use Rattle.dock.specs.Calls.{startOf}
+use Rattle.dock.specs.Calls.{beginOf}
 use Rattle.chip_core.specs.Effect.{Flash, flash}
 use Rattle.chip_core.specs.declared.Core.{Core}
 use Rattle.chip_core.specs.declared.Phase.the-variants.{Ready, Setup}
@@ -58,7 +58,7 @@ theChip =
 
 -- From a dock that was just started, in a room of 260 bytes.
 abbrev pub rehearse : Job → List ℕ → Ends
-rehearse j image = cable (bound j) j image (replicate 260 0x00) (record { dock = startOf j image .dock; chip = theChip })
+rehearse j image = cable (bound j) j image (replicate 260 0x00) (record { dock = beginOf j image .dock; chip = theChip })
 
 unfoldable pub rehearsed : Ends
 rehearsed = rehearse theJob theImage

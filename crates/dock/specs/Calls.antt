@@ -9,7 +9,7 @@ use Rattle.dock.specs.declared.Report.the-variants.{Due, Ended, Put}
 use Rattle.dock.specs.declared.Report.the-variants as Report
 use Rattle.dock.specs.declared.Stepped.{Stepped}
 use Rattle.dock_flow.specs.Flow.{Heard, afterHeard, firstStage}
-use Rattle.dock_flow.specs.Frames.{Handing, sendOf}
+use Rattle.dock_flow.specs.Frames.{Handing, handOf}
 use Rattle.dock_flow.specs.declared.frames.Handed.{Handed}
 use Rattle.dock_flow.specs.declared.frames.Handed.the-variants.{Sent}
 use Rattle.dock_flow.specs.declared.frames.Handed.the-variants as Handed
@@ -42,8 +42,8 @@ unfoldable pub starting : Verdict → Dock → Stepped
 starting (Verdict.Refused r) d = stepped (Report.Refused r) d
 starting Accepted d = stepped Due d
 
-unfoldable pub startOf : Job → List ℕ → Stepped
-startOf j image = starting (callVerdict j (length image) Begins) (freshDock j)
+unfoldable pub beginOf : Job → List ℕ → Stepped
+beginOf j image = starting (callVerdict j (length image) Begins) (freshDock j)
 
 -- All that asking leaves: the report, the dock, and the whole room.
 pub record Asking : Type 0 where
@@ -64,7 +64,7 @@ asked h (Handed.Refused r) d = asking (stepped (Report.Refused r) d) (h .room)
 asked h (Sent n) d = asking (stepped (Put n) (sending d)) (h .room)
 
 unfoldable pub askOf : Job → List ℕ → Dock → List ℕ → Asking
-askOf j image d room = let h = sendOf j image d room in asked h (h .answer) d
+askOf j image d room = let h = handOf j image d room in asked h (h .answer) d
 
 -- A dock after what was heard.
 abbrev pub moved : Dock → Turned → Dock

@@ -3,7 +3,7 @@ ghost use mathlib.Core.Path.{_≡_};
 ghost use Prim.Native.Nat.{_+_, _<_, _^_};
 ghost use Rattle.part.specs.declared.refusal.Verdict.the-variants.{Accepted};
 ghost use Rattle.dock_flow.specs.Flow.{answered, silence};
-ghost use Rattle.dock.specs.Calls.{startOf, asking, askOf, hearOf, standing, turning};
+ghost use Rattle.dock.specs.Calls.{beginOf, asking, askOf, hearOf, standing, turning};
 use super::Account;
 use super::Report;
 use super::Stepped;
@@ -18,8 +18,8 @@ use dock_job::refusals::Call;
 use part::refusal::Verdict;
 
 // A dock before its first frame.
-pub fn start(job: Job, image: &[u8]) -> Stepped
-    ensures { λ r. ⌜ r ≡ startOf job (now (image .entry)) ⌝ }
+pub fn begin(job: Job, image: &[u8]) -> Stepped
+    ensures { λ r. ⌜ r ≡ beginOf job (now (image .entry)) ⌝ }
 {
     let v = refusals::verdict(job, image.len(), Call::Begins);
     let stage = dock_flow::first_stage(job);
@@ -45,7 +45,7 @@ pub fn start(job: Job, image: &[u8]) -> Stepped
 pub fn ask(job: Job, image: &[u8], dock: Dock, room: &mut [u8]) -> Stepped
     ensures { λ r. ⌜ asking r (now (room .exit)) ≡ askOf job (now (image .entry)) dock (now (room .entry)) ⌝ }
 {
-    let handed = frames::send(job, image, dock, room);
+    let handed = frames::hand(job, image, dock, room);
     match handed {
         Handed::Refused(refusal) => Stepped {
             report: Report::Refused(refusal),

@@ -8,6 +8,7 @@ use Rattle.dock_answer.specs.declared.Decoded.{Decoded}
 use Rattle.dock_answer.specs.declared.Decoded.the-variants.{Garbled, Said}
 use Rattle.dock_answer.specs.declared.Form.{Form}
 use Rattle.dock_answer.specs.declared.Form.the-variants.{OfLastPage, OfPage, OneStatus, WithRate, WithSignature}
+use Rattle.frame.specs.Frame.{overhead}
 use Rattle.frame.specs.Wire.{readOf}
 use Rattle.frame.specs.declared.wire.Read.{Read}
 use Rattle.frame.specs.declared.wire.Read.the-variants.{Frame, NotOne}
@@ -28,7 +29,7 @@ carried bs = carriedBy (readOf bs)
 -- ".. it is readable if it is exactly these frames": frames that carry so many bytes each, and nothing after them.
 unfoldable pub exactly : List ℕ → List ℕ → Bool
 exactly [] bs = eqb (length bs) 0
-exactly (n ∷ ns) bs = eqb (carried bs) n and exactly ns (drop (n + 4) bs)
+exactly (n ∷ ns) bs = eqb (carried bs) n and exactly ns (drop (n + overhead) bs)
 
 -- "one byte for a command (9Ah: three if the first is 06h; C0h: then 22 bytes if it is 06h), two for a page (then one more frame of one byte after
 -- 06h 06h to 40h's last)": by the first two bytes that the first frame carries.

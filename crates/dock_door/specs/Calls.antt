@@ -5,7 +5,7 @@ use mathlib.Core.List.{List}
 use Prim.Native.Nat.{_+_, ℕ}
 use lib.Dec.{eqb}
 use lib.ListN.{length}
-use Rattle.dock.specs.Calls.{askOf, hearOf, startOf}
+use Rattle.dock.specs.Calls.{askOf, hearOf, beginOf}
 use Rattle.dock.specs.declared.Report.{Report}
 use Rattle.dock.specs.declared.Report.the-variants.{Due, Ended, Put}
 use Rattle.dock.specs.declared.Report.the-variants as Report
@@ -67,7 +67,7 @@ startedBy (Verdict.Refused r) s state = startTold (number r) state
 startedBy Accepted s state = if eqb (length state) dockSize then startTold 0 (dockLaid (s .dock) state) else startTold (number BadState) state
 
 unfoldable pub startThrough : Job → List ℕ → List ℕ → StartTold
-startThrough j image state = startedBy (callVerdict j (length image) Begins) (startOf j image) state
+startThrough j image state = startedBy (callVerdict j (length image) Begins) (beginOf j image) state
 
 -- To ask for the next frame.
 pub record AskTold : Type 0 where

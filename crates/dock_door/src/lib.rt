@@ -195,7 +195,7 @@ pub extern "C" fn zc_start(
         Verdict::Refused(refusal) => refusal.number() as u32,
         Verdict::Accepted => {
             if state.len() == 23 {
-                let s = calls::start(job, image);
+                let s = calls::begin(job, image);
                 dock_layout::lay_dock(s.dock, state);
                 return 0;
             }

@@ -5,7 +5,7 @@ use mathlib.Core.Path.{_∙_, _≡_, ap, refl, sym}
 use Rattle.commands.proofs.Laws.{com-rate, payload-most, payload-some}
 use Rattle.commands.specs.Commands.{comOf, payloadOf}
 use Rattle.commands.specs.declared.Command.{Command}
-use Rattle.dock_flow.specs.Frames.{Handing, frameAt, frameOf, handed, handing, pageBytes, pageFooter, placed, placing, queryAt, queryWith, sendOf, workFrame}
+use Rattle.dock_flow.specs.Frames.{Handing, frameAt, frameOf, handed, handing, pageBytes, pageFooter, placed, placing, queryAt, queryWith, handOf, workFrame}
 use Rattle.dock_flow.specs.declared.frames.Query.{Query}
 use Rattle.dock_job.proofs.Laws.{named-page-yes, no-page-named, stored-is, verified-is}
 use Rattle.dock_job.specs.Refusals.{goodNamedPage, goodWork}
@@ -37,7 +37,7 @@ use Rattle.frame.specs.Wire.{Writing, writeOf, wrote}
 use Rattle.frame.specs.declared.Footer.{Footer}
 use Rattle.frame.specs.declared.Header.{Header}
 use Rattle.frame.specs.declared.wire.Wrote.{Wrote}
-use Rattle.dock_job.specs.Job.{lengthOf, sizeOf}
+use Rattle.dock_job.specs.Job.{rangeLength, sizeOf}
 use Rattle.dock_job.specs.declared.Job.{Job}
 use Rattle.part.specs.Part.{pageSize}
 
@@ -49,7 +49,7 @@ places room h ds f l a n e k m s w =
 
 -- A page of the image, lent as a part and written, lies there too.
 pub page-placed : (j : Job) (image room l : List ℕ) (k p at g : ℕ) (f : Footer) (a : Wrote) → at ≡ k * sizeOf j + p * pageSize → g ≡ pageSize
-    → f ≡ pageFooter j p → at + pageSize ≤ lengthOf j → length image ≡ lengthOf j → 260 ≤ length room
+    → f ≡ pageFooter j p → at + pageSize ≤ rangeLength j → length image ≡ rangeLength j → 260 ≤ length room
     → wrote a l ≡ writeOf room Header.Data (take (at + g - at) (drop at image)) f → placed 260 l ≡ placing (dataFrame (pageBytes j image k p) (pageFooter j p)) room
 page-placed j image room l k p at g f a e i o s m r w =
     let n : at + g - at ≡ pageSize = omega arith in
@@ -61,9 +61,9 @@ page-placed j image room l k p at g f a e i o s m r w =
     (w ∙ ap (λ (x : List ℕ). writeOf room Header.Data x f) q ∙ ap (λ (x : Footer). writeOf room Header.Data ds x) o) (omega arith) (omega arith) (omega arith) (omega arith)
 
 -- A frame that was handed out was asked for by an accepted call.
-pub sent-accepted : (j : Job) (image : List ℕ) (d : Dock) (room l : List ℕ) (n : ℕ) → handing (Sent n) l ≡ sendOf j image d room
+pub sent-accepted : (j : Job) (image : List ℕ) (d : Dock) (room l : List ℕ) (n : ℕ) → handing (Sent n) l ≡ handOf j image d room
     → callVerdict j (length image) (Asks d (length room)) ≡ Accepted
-unfolding sendOf handed
+unfolding handOf handed
 sent-accepted j image d room l n e = go (callVerdict j (length image) (Asks d (length room))) e
   where
     go : (v : Verdict) → handing (Sent n) l ≡ handed v (placing (frameAt j image (d .stage)) room) room → v ≡ Accepted

@@ -112,5 +112,5 @@ unfoldable pub handed : Verdict → Placed → List ℕ → Handing
 handed (Verdict.Refused r) f room = handing (Handed.Refused r) room
 handed Accepted f room = handing (Sent (f .long)) (f .room)
 
-unfoldable pub sendOf : Job → List ℕ → Dock → List ℕ → Handing
-sendOf j image d room = handed (callVerdict j (length image) (Asks d (length room))) (placing (frameAt j image (d .stage)) room) room
+unfoldable pub handOf : Job → List ℕ → Dock → List ℕ → Handing
+handOf j image d room = handed (callVerdict j (length image) (Asks d (length room))) (placing (frameAt j image (d .stage)) room) room

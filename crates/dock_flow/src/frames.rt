@@ -5,11 +5,11 @@ ghost use Prim.Native.Nat.{_+_, _*_, _≤_};
 ghost use lib.ListN.{length};
 ghost use Rattle.part.specs.Rate.{acceptsRate};
 ghost use Rattle.frame.specs.Frame.{dataFrame};
-ghost use Rattle.dock_job.specs.Job.{lengthOf, sizeOf};
+ghost use Rattle.dock_job.specs.Job.{rangeLength, sizeOf};
 ghost use Rattle.part.specs.Part.{pageSize};
 ghost use Rattle.dock_job.specs.Refusals.{goodBlock, goodNamedPage, goodPage, goodStage};
 ghost use Rattle.dock_flow.specs.Frames.{lastPage, storedForm, queryOf, queryWith, firstOfBlock, lastOfBlock, pageBytes, pageFooter, frameOf, workFrame};
-ghost use Rattle.dock_flow.specs.Frames.{frameAt, placed, placing, handing, sendOf};
+ghost use Rattle.dock_flow.specs.Frames.{frameAt, placed, placing, handing, handOf};
 use commands::Command;
 use dock_answer::Form;
 use dock_job::Dock;
@@ -167,13 +167,13 @@ fn send_command(room: &mut [u8], command: Command) -> usize
 // Where the page's bytes begin in the image.
 fn page_start(job: Job, block: u32, page: u32) -> usize
     requires { ⌜ (goodBlock job block ≡ true) × (goodPage job page ≡ true) ⌝ }
-    ensures { λ r. ⌜ (r ≡ block * sizeOf job + page * pageSize) × (r + pageSize ≤ lengthOf job) × (r ≤ 0x2000000000000) ⌝ }
+    ensures { λ r. ⌜ (r ≡ block * sizeOf job + page * pageSize) × (r + pageSize ≤ rangeLength job) × (r ≤ 0x2000000000000) ⌝ }
 {
     (block as usize) * job.block_size() + (page as usize) * part::page_size()
 }
 
 fn send_page(job: Job, image: &[u8], block: u32, page: u32, room: &mut [u8]) -> usize
-    requires { ⌜ (goodBlock job block ≡ true) × (goodPage job page ≡ true) × (length (now image) ≡ lengthOf job) × (260 ≤ length (now room)) ⌝ }
+    requires { ⌜ (goodBlock job block ≡ true) × (goodPage job page ≡ true) × (length (now image) ≡ rangeLength job) × (260 ≤ length (now room)) ⌝ }
     ensures { λ r. ⌜ placed r (now (room .exit)) ≡ placing (dataFrame (pageBytes job (now (image .entry)) block page) (pageFooter job page)) (now (room .entry)) ⌝ }
 {
     let at = page_start(job, block, page);
@@ -191,7 +191,7 @@ fn send_work(
     command: Command,
     room: &mut [u8],
 ) -> usize
-    requires { ⌜ (goodBlock job block ≡ true) × (goodNamedPage job page ≡ true) × (length (now image) ≡ lengthOf job) × (260 ≤ length (now room)) ⌝ }
+    requires { ⌜ (goodBlock job block ≡ true) × (goodNamedPage job page ≡ true) × (length (now image) ≡ rangeLength job) × (260 ≤ length (now room)) ⌝ }
     ensures { λ r. ⌜ placed r (now (room .exit)) ≡ placing (workFrame job (now (image .entry)) block page command) (now (room .entry)) ⌝ }
 {
     match page {
@@ -202,7 +202,7 @@ fn send_work(
 
 fn put(job: Job, image: &[u8], stage: Stage, room: &mut [u8]) -> usize
     requires { ⌜ (acceptsRate (job .part) (job .rate) (job .supply) ≡ true) × (goodStage job stage ≡ true)
-        × (length (now image) ≡ lengthOf job) × (260 ≤ length (now room)) ⌝ }
+        × (length (now image) ≡ rangeLength job) × (260 ≤ length (now room)) ⌝ }
     ensures { λ r. ⌜ placed r (now (room .exit)) ≡ placing (frameAt job (now (image .entry)) stage) (now (room .entry)) ⌝ }
 {
     let query = query_with(job.rate as u8, job.supply as u8, job, stage);
@@ -216,8 +216,8 @@ fn put(job: Job, image: &[u8], stage: Stage, room: &mut [u8]) -> usize
 }
 
 // The frame that is due, put at the start of the room, where the dock accepts the call.
-pub fn send(job: Job, image: &[u8], dock: Dock, room: &mut [u8]) -> Handed
-    ensures { λ r. ⌜ handing r (now (room .exit)) ≡ sendOf job (now (image .entry)) dock (now (room .entry)) ⌝ }
+pub fn hand(job: Job, image: &[u8], dock: Dock, room: &mut [u8]) -> Handed
+    ensures { λ r. ⌜ handing r (now (room .exit)) ≡ handOf job (now (image .entry)) dock (now (room .entry)) ⌝ }
 {
     let v = refusals::verdict(
         job,

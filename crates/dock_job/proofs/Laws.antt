@@ -9,7 +9,7 @@ use native.Mathlib.Numerals.{add-one}
 use native.Mathlib.Omega.{arith}
 use lib.Dec.{leb}
 use borrow.Author.Tests.{eq-eqb, eqb-true, le-leb, le-ltb, leb-false, leb-true, lt-leb, lt-ltb, ltb-false, ltb-true}
-use Rattle.dock_job.specs.Job.{areaOf, blocksIn, blocksOf, bound, isOver, jobRange, lengthOf, pagesOf, perBlock, setup, sizeOf}
+use Rattle.dock_job.specs.Job.{areaOf, blocksIn, blocksOf, bound, isOver, jobRange, rangeLength, pagesOf, perBlock, setup, sizeOf}
 use Rattle.dock_job.specs.Refusals.{badJob, badState, callVerdict, due, goodBlock, goodDock, goodNamedPage, goodPage, goodStage, goodWork, isBad, outOfTurn, shortRoom, spent}
 use Rattle.dock_job.specs.declared.Dock.{Dock}
 use Rattle.dock_job.specs.declared.Job.{Job}
@@ -38,7 +38,7 @@ job-blocks-small j h k = go (jobRange j) refl
     go (Blocks a b n) e = omega (arith, range-good (j .part) (j .start) (j .end) a b n e, blocks-small (j .part) a h k)
     go Bad e = omega arith
 
-pub length-small : (j : Job) → j .part .«code_blocks» < 2 ^ 32 → j .part .«data_blocks» < 2 ^ 32 → lengthOf j ≤ 2 ^ 48
+pub length-small : (j : Job) → j .part .«code_blocks» < 2 ^ 32 → j .part .«data_blocks» < 2 ^ 32 → rangeLength j ≤ 2 ^ 48
 length-small j h k =
     let b = job-blocks-small j h k in
     let s = blockSize-small (j .part) (areaOf j) in
@@ -62,7 +62,7 @@ pub record Accepts (j : Job) (image : ℕ) (c : Call) : Type 0 where
   pub described-part : described (j .part) ≡ true
   pub accepted-rate : acceptsRate (j .part) (j .rate) (j .supply) ≡ true
   pub good-range : isBad (jobRange j) ≡ false
-  pub image-length : image ≡ lengthOf j
+  pub image-length : image ≡ rangeLength j
   pub few-retries : j .retries ≤ 15
   pub good-state : badState j c ≡ false
   pub long-room : shortRoom c ≡ false
@@ -111,7 +111,7 @@ unfolding callVerdict
 accepted {j} {image} {c} a =
     passes _ _ (fine-job j (a .described-part) (a .accepted-rate))
     (passes _ _ (a .good-range)
-    (passes _ _ (ap not (eq-eqb image (lengthOf j) (a .image-length)))
+    (passes _ _ (ap not (eq-eqb image (rangeLength j) (a .image-length)))
     (passes _ _ (le-ltb _ _ (a .few-retries))
     (passes _ _ (a .good-state)
     (passes _ _ (a .long-room)
@@ -243,7 +243,7 @@ bound-few j d r =
     omega (arith, bound-is j, blocks-few j d)
 
 -- A page of a block of the job lies in the image.
-pub page-lies : (j : Job) (k p : ℕ) → k < blocksOf j → p < pagesOf j → k * sizeOf j + p * pageSize + pageSize ≤ lengthOf j
+pub page-lies : (j : Job) (k p : ℕ) → k < blocksOf j → p < pagesOf j → k * sizeOf j + p * pageSize + pageSize ≤ rangeLength j
 page-lies j k p h i =
     let s : sizeOf j ≡ pagesOf j * pageSize = pages-whole (j .part) (areaOf j) in
     let l : (k + 1) * sizeOf j ≤ blocksOf j * sizeOf j = mul-le-mul-right (sizeOf j) (omega arith) in

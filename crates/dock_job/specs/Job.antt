@@ -40,8 +40,8 @@ abbrev pub pagesOf : Job → ℕ
 pagesOf j = pages (j .part) (areaOf j)
 
 -- The range's length.
-abbrev pub lengthOf : Job → ℕ
-lengthOf j = blocksOf j * sizeOf j
+abbrev pub rangeLength : Job → ℕ
+rangeLength j = blocksOf j * sizeOf j
 
 -- "Frames: 9Ah .., 00h, C0h ..": the setup's commands of a job, in order.
 unfoldable pub setup : Job → List Setup

@@ -3,7 +3,7 @@ use mathlib.Core.Bool.{Bool, false, not, true}
 use mathlib.Core.List.{[], _∷_}
 use Prim.Native.Nat.{ℕ}
 use lib.Dec.{eqb, leb, ltb}
-use Rattle.dock_job.specs.Job.{blocksOf, bound, isOver, jobRange, lengthOf, pagesOf}
+use Rattle.dock_job.specs.Job.{blocksOf, bound, isOver, jobRange, rangeLength, pagesOf}
 use Rattle.dock_job.specs.declared.Dock.{Dock}
 use Rattle.dock_job.specs.declared.Ending.{Ending}
 use Rattle.dock_job.specs.declared.Ending.the-variants.{Failed, Finished}
@@ -108,7 +108,7 @@ callVerdict j image c =
     firstOf
     (BadPart when badJob j
     ∷ BadRange when badRange j
-    ∷ ImageLength when not (eqb image (lengthOf j))
+    ∷ ImageLength when not (eqb image (rangeLength j))
     ∷ ManyRetries when ltb 15 (j .retries)
     ∷ BadState when badState j c
     ∷ ShortRoom when shortRoom c

@@ -1,7 +1,7 @@
 // A job for the dock, and the dock's state while it carries one out: document 01, "The dock's flow". Which calls are refused stands in `refusals`.
 ghost use mathlib.Core.Path.{_≡_};
 ghost use Rattle.part.specs.Part.{rangeOf};
-ghost use Rattle.dock_job.specs.Job.{areaOf, blocksOf, sizeOf, pagesOf, lengthOf, bound, isOver};
+ghost use Rattle.dock_job.specs.Job.{areaOf, blocksOf, sizeOf, pagesOf, rangeLength, bound, isOver};
 use part::Area;
 use part::Part;
 use part::Range;
@@ -120,8 +120,8 @@ impl Job {
         part.pages(self.area())
     }
 
-    fn length(self) -> usize
-        ensures { λ r. ⌜ r ≡ lengthOf self ⌝ }
+    fn range_length(self) -> usize
+        ensures { λ r. ⌜ r ≡ rangeLength self ⌝ }
     {
         self.blocks() * self.block_size()
     }

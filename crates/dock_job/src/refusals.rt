@@ -222,7 +222,7 @@ pub fn verdict(job: Job, image: usize, call: Call) -> Verdict
     if is_bad_range(job) {
         return Verdict::Refused(Refusal::BadRange);
     }
-    if image != job.length() {
+    if image != job.range_length() {
         return Verdict::Refused(Refusal::ImageLength);
     }
     if 15 < job.retries {

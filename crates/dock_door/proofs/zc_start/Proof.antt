@@ -14,8 +14,8 @@ returns c =
     let verdict = c .before .before .before .before .before .before .before .before .verdict in
     let enum-told = c .before .before .before .before .before .before .enum-told in
     let if1 = c .before .before .before .before .before .if1 in
-    let start = c .before .before .before .before .start in
-    simp (← job-of .ensures, ← verdict .ensures, enum-told .given .1, eq-eqb _ _ (if1 .taken), ← start .ensures, ← c .before .before .lay-dock .ensures)
+    let begin = c .before .before .before .before .begin in
+    simp (← job-of .ensures, ← verdict .ensures, enum-told .given .1, eq-eqb _ _ (if1 .taken), ← begin .ensures, ← c .before .before .lay-dock .ensures)
 
 returns-2 : tie.Need-returns-2
 unfolding startThrough startedBy if_then_else_

@@ -16,18 +16,18 @@ use Rattle.dock.proofs.calls.ask.Tie as tie
 add-t14 : tie.Need-add-t14
 add-t14 c =
     let o = c .before .before .before .before .before .before .before .before .before .before .args in
-    let s = c .before .before .before .before .before .before .send in
+    let s = c .before .before .before .before .before .before .hand in
     let e = ap (λ (h : Handed). handing h (s .last .1 .1 .1 .0)) (sym (c .before .before .handed2 .given .1)) ∙ s .ensures in
     let a = accepts (o .job) (length (o .image .now)) (Asks (o .dock) (length (o .room .now))) (sent-accepted (o .job) (o .image .now) (o .dock) (o .room .now) _ _ e) in
     omega (arith, asked-is _ _ _ _ a .below, bound-few (o .job) (a .described-part) (a .few-retries))
 
 returns : tie.Need-returns
 unfolding askOf asked
-returns c = simp (← c .before .before .before .before .before .send .ensures, c .before .handed .given .1)
+returns c = simp (← c .before .before .before .before .before .hand .ensures, c .before .handed .given .1)
 
 returns-2 : tie.Need-returns-2
 unfolding askOf asked
-returns-2 c = simp (← c .before .before .before .before .before .before .send .ensures, c .before .before .handed2 .given .1)
+returns-2 c = simp (← c .before .before .before .before .before .before .hand .ensures, c .before .before .handed2 .given .1)
 
 pub ask-spec : {M : Type 1} → statement M
 ask-spec =

@@ -22,7 +22,7 @@ returns-3 c =
     let is-bad-job = c .before .before .before .before .before .is-bad-job in
     let if1 = c .before .before .before .before .if1 in
     let is-bad-range = c .before .before .before .is-bad-range in
-    simp (first-row, ← is-bad-job .ensures, if1 .left, ← is-bad-range .ensures, c .before .before .if2 .left, ← c .before .length .ensures, ne-eqb _ _ (c .if3 .taken))
+    simp (first-row, ← is-bad-job .ensures, if1 .left, ← is-bad-range .ensures, c .before .before .if2 .left, ← c .before .range-length .ensures, ne-eqb _ _ (c .if3 .taken))
 
 returns-4 : tie.Need-returns-4
 unfolding callVerdict if_then_else_
@@ -31,8 +31,8 @@ returns-4 c =
     let if1 = c .before .before .before .before .before .before .if1 in
     let is-bad-range = c .before .before .before .before .before .is-bad-range in
     let if2 = c .before .before .before .before .if2 in
-    let length = c .before .before .before .length in
-    simp (first-row, ← is-bad-job .ensures, if1 .left, ← is-bad-range .ensures, if2 .left, ← length .ensures, eq-eqb _ _ (c .before .before .if3 .left), lt-ltb _ _ (c .if4 .taken))
+    let range-length = c .before .before .before .range-length in
+    simp (first-row, ← is-bad-job .ensures, if1 .left, ← is-bad-range .ensures, if2 .left, ← range-length .ensures, eq-eqb _ _ (c .before .before .if3 .left), lt-ltb _ _ (c .if4 .taken))
 
 returns-5 : tie.Need-returns-5
 unfolding callVerdict if_then_else_
@@ -41,9 +41,9 @@ returns-5 c =
     let if1 = c .before .before .before .before .before .before .before .before .if1 in
     let is-bad-range = c .before .before .before .before .before .before .before .is-bad-range in
     let if2 = c .before .before .before .before .before .before .if2 in
-    let length = c .before .before .before .before .before .length in
+    let range-length = c .before .before .before .before .before .range-length in
     let if3 = c .before .before .before .before .if3 in
-    simp (first-row, ← is-bad-job .ensures, if1 .left, ← is-bad-range .ensures, if2 .left, ← length .ensures, eq-eqb _ _ (if3 .left), le-ltb _ _ (c .before .before .if4 .left), ← c .before .is-bad-state .ensures, c .if5 .taken)
+    simp (first-row, ← is-bad-job .ensures, if1 .left, ← is-bad-range .ensures, if2 .left, ← range-length .ensures, eq-eqb _ _ (if3 .left), le-ltb _ _ (c .before .before .if4 .left), ← c .before .is-bad-state .ensures, c .if5 .taken)
 
 returns-6 : tie.Need-returns-6
 unfolding callVerdict if_then_else_
@@ -52,7 +52,7 @@ returns-6 c =
     let if1 = c .before .before .before .before .before .before .before .before .before .before .if1 in
     let is-bad-range = c .before .before .before .before .before .before .before .before .before .is-bad-range in
     let if2 = c .before .before .before .before .before .before .before .before .if2 in
-    let length = c .before .before .before .before .before .before .before .length in
+    let range-length = c .before .before .before .before .before .before .before .range-length in
     let if3 = c .before .before .before .before .before .before .if3 in
     let if4 = c .before .before .before .before .if4 in
     let is-bad-state = c .before .before .before .is-bad-state in
@@ -62,7 +62,7 @@ returns-6 c =
       if1 .left,
       ← is-bad-range .ensures,
       if2 .left,
-      ← length .ensures,
+      ← range-length .ensures,
       eq-eqb _ _ (if3 .left),
       le-ltb _ _ (if4 .left),
       ← is-bad-state .ensures,
@@ -79,7 +79,7 @@ returns-7 c =
     let if1 = c .before .before .before .before .before .before .before .before .before .before .before .before .if1 in
     let is-bad-range = c .before .before .before .before .before .before .before .before .before .before .before .is-bad-range in
     let if2 = c .before .before .before .before .before .before .before .before .before .before .if2 in
-    let length = c .before .before .before .before .before .before .before .before .before .length in
+    let range-length = c .before .before .before .before .before .before .before .before .before .range-length in
     let if3 = c .before .before .before .before .before .before .before .before .if3 in
     let if4 = c .before .before .before .before .before .before .if4 in
     let is-bad-state = c .before .before .before .before .before .is-bad-state in
@@ -91,7 +91,7 @@ returns-7 c =
       if1 .left,
       ← is-bad-range .ensures,
       if2 .left,
-      ← length .ensures,
+      ← range-length .ensures,
       eq-eqb _ _ (if3 .left),
       le-ltb _ _ (if4 .left),
       ← is-bad-state .ensures,
@@ -109,7 +109,7 @@ returns-8 c =
     let if1 = c .before .before .before .before .before .before .before .before .before .before .before .before .if1 in
     let is-bad-range = c .before .before .before .before .before .before .before .before .before .before .before .is-bad-range in
     let if2 = c .before .before .before .before .before .before .before .before .before .before .if2 in
-    let length = c .before .before .before .before .before .before .before .before .before .length in
+    let range-length = c .before .before .before .before .before .before .before .before .before .range-length in
     let if3 = c .before .before .before .before .before .before .before .before .if3 in
     let if4 = c .before .before .before .before .before .before .if4 in
     let is-bad-state = c .before .before .before .before .before .is-bad-state in
@@ -122,7 +122,7 @@ returns-8 c =
       if1 .left,
       ← is-bad-range .ensures,
       if2 .left,
-      ← length .ensures,
+      ← range-length .ensures,
       eq-eqb _ _ (if3 .left),
       le-ltb _ _ (if4 .left),
       ← is-bad-state .ensures,

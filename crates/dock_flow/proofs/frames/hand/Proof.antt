@@ -1,13 +1,13 @@
--- `dock_flow::frames::send` meets its contract: the verdict decides; what it accepts is what the frame needs.
+-- `dock_flow::frames::hand` meets its contract: the verdict decides; what it accepts is what the frame needs.
 -- Assumes nothing.
-use Rattle.dock_flow.specs.Frames.{handed, sendOf}
+use Rattle.dock_flow.specs.Frames.{handed, handOf}
 use mathlib.Core.Path.{_∙_, sym}
 use lib.ListN.{length}
 use Rattle.dock_job.proofs.Laws.{Accepts, accepts, asked-is}
 use Rattle.dock_job.specs.declared.refusals.Call.the-variants.{Asks}
 use borrow.Author.Needs.{needs}
-use Rattle.dock_flow.proofs.frames.send.Statement.{statement}
-use Rattle.dock_flow.proofs.frames.send.Tie as tie
+use Rattle.dock_flow.proofs.frames.hand.Statement.{statement}
+use Rattle.dock_flow.proofs.frames.hand.Tie as tie
 
 -- What the verdict says of job, state and room.
 fine : (c : tie.After-enum-told)
@@ -22,14 +22,14 @@ put-requires c κs =
     (a .accepted-rate, d .good .at-stage, a .image-length, d .roomy)
 
 returns : tie.Need-returns
-unfolding sendOf handed
+unfolding handOf handed
 returns c = simp (← c .before .before .before .verdict .ensures, c .before .v .given .1)
 
 returns-2 : tie.Need-returns-2
-unfolding sendOf handed
+unfolding handOf handed
 returns-2 c = simp (← c .before .before .before .before .before .before .verdict .ensures, c .before .before .before .before .enum-told .given .1, ← c .before .before .put .ensures)
 
-pub send-spec : {M : Type 1} → statement M
-send-spec =
+pub hand-spec : {M : Type 1} → statement M
+hand-spec =
     tie.close
     (tie.spec (λ c κs. search needs) (λ c. search needs) (λ c. search needs) put-requires returns (λ c. search needs) returns-2)
