@@ -109,7 +109,7 @@ fn powered_on(core: Core) -> Core
 }
 
 // What a byte came to that is not refused: what was sent, and the chip after it.
-struct Stepped {
+struct ByteDone {
     sent: Sent,
     chip: Chip,
 }
@@ -122,7 +122,7 @@ fn byte_step(
     code: &mut [u8],
     data: &mut [u8],
     room: &mut [u8],
-) -> Stepped
+) -> ByteDone
     requires { ⌜ verdictOn part chip (length (now code)) (length (now «data»)) (length (now room)) ≡ Accepted ⌝ }
     ensures { λ r. ⌜ outcome (answered r) (flash (now (code .exit)) (now («data» .exit))) (now (room .exit))
         ≡ stepOf part chip (Byte b) (flash (now (code .entry)) (now («data» .entry))) (now (room .entry)) ⌝ }
@@ -132,7 +132,7 @@ fn byte_step(
     let phase = core.phase;
     let w = way_in(phase, collector.len, collector.bytes[1]);
     match w {
-        Way::Mode => Stepped {
+        Way::Mode => ByteDone {
             sent: Sent {
                 bytes: 0,
                 frames: 0,
@@ -142,7 +142,7 @@ fn byte_step(
                 collector,
             },
         },
-        Way::Hears(header) => Stepped {
+        Way::Hears(header) => ByteDone {
             sent: Sent {
                 bytes: 0,
                 frames: 0,
@@ -161,7 +161,7 @@ fn byte_step(
             let options = after.options;
             let reply = done.reply;
             let sent = chip_reply::send(part, options, reply, room);
-            Stepped {
+            ByteDone {
                 sent,
                 chip: Chip {
                     core: after,

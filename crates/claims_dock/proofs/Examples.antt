@@ -4,7 +4,7 @@ use mathlib.Core.List.{map}
 use mathlib.Core.Path.{_≡_, refl}
 use lib.ListN.{length}
 use Rattle.dock_answer.specs.Answer.{carriedBy, deciding, exactly, matching, rateMatches, readAnswer, readable, shape, signatureMatches, statuses}
-use Rattle.claims_dock.specs.Examples.{Frame, Place, RefusalRow, frames, places, refusals, theImage, theJob, worst}
+use Rattle.claims_dock.specs.Examples.{Frame, PlaceRow, RefusalRow, framesPrinted, places, refusals, twoBlockImage, twoBlockJob, worst}
 use Rattle.dock_flow.specs.Flow.{afterAnswer, afterHeard, afterSetup, afterStatus, afterWork, blockFrom, exchanges, flow, framesIn, inBlock, next, placeAfter, retried, saysNotBlank, setupFrom, spentIn}
 use Rattle.dock_flow.specs.Frames.{firstOfBlock, frameAt, lastOfBlock, lastPage, pageFooter, queryWith, storedForm, workFrame}
 use Rattle.frame.specs.Frame.{counted, framed, isFrame}
@@ -24,12 +24,12 @@ use Rattle.part.specs.Signature.{signature}
 use Rattle.words.specs.Words.{_and_, _from_to_, _or_, if_then_else_}
 use Rattle.commands.specs.Commands.{comOf, informationOf, payloadOf}
 
-pub frames-printed : map (λ (x : Frame). x .gives) frames ≡ map (λ (x : Frame). x .printed) frames
-unfolding frames comOf informationOf payloadOf firstOfBlock frameAt lastOfBlock lastPage pageFooter queryWith storedForm workFrame areaIn framed less lessAll
-    sumOf lowFirst blockOf blockSize endsBlock liesIn rangeOf startsBlock stretch wholeBlocks _and_ _from_to_ _or_ if_then_else_
+pub frames-printed : map (λ (x : Frame). x .gives) framesPrinted ≡ map (λ (x : Frame). x .printed) framesPrinted
+unfolding framesPrinted comOf informationOf payloadOf firstOfBlock frameAt lastOfBlock lastPage pageFooter queryWith storedForm workFrame areaIn framed less
+    lessAll sumOf lowFirst blockOf blockSize endsBlock liesIn rangeOf startsBlock stretch wholeBlocks _and_ _from_to_ _or_ if_then_else_
 frames-printed = refl
 
-pub places-expected : map (λ (x : Place). x .stands) places ≡ map (λ (x : Place). x .expected) places
+pub places-expected : map (λ (x : PlaceRow). x .stands) places ≡ map (λ (x : PlaceRow). x .expected) places
 unfolding places comOf informationOf payloadOf carriedBy deciding exactly matching rateMatches readAnswer readable shape signatureMatches statuses afterAnswer
     afterHeard afterSetup afterStatus afterWork blockFrom exchanges flow framesIn inBlock next placeAfter retried saysNotBlank setupFrom spentIn firstOfBlock
     frameAt lastOfBlock lastPage pageFooter queryWith storedForm workFrame areaIn blocksIn isOver setup counted framed isFrame judgeOf summed less lessAll
@@ -38,7 +38,7 @@ unfolding places comOf informationOf payloadOf carriedBy deciding exactly matchi
 places-expected = refl
 
 -- "at most 3 + 12(B + R) frames": 39 for two blocks and one retry, and that many are sent.
-pub bound-reached : (length (flow theJob theImage worst .sent) ≡ 39) × (flow theJob theImage worst .spent ≡ 1) × (flow theJob theImage worst .place ≡ Over Finished) × (bound theJob ≡ 39)
+pub bound-reached : (length (flow twoBlockJob twoBlockImage worst .sent) ≡ 39) × (flow twoBlockJob twoBlockImage worst .spent ≡ 1) × (flow twoBlockJob twoBlockImage worst .place ≡ Over Finished) × (bound twoBlockJob ≡ 39)
 unfolding worst comOf informationOf payloadOf carriedBy deciding exactly matching rateMatches readAnswer readable shape signatureMatches statuses afterAnswer
     afterHeard afterSetup afterStatus afterWork blockFrom exchanges flow framesIn inBlock next placeAfter retried saysNotBlank setupFrom spentIn firstOfBlock
     frameAt lastOfBlock lastPage pageFooter queryWith storedForm workFrame areaIn blocksIn bound isOver setup due spent counted framed isFrame judgeOf summed
@@ -47,8 +47,7 @@ unfolding worst comOf informationOf payloadOf carriedBy deciding exactly matchin
 bound-reached = (refl, refl, refl, refl)
 
 pub refusals-expected : map (λ (x : RefusalRow). x .gives) refusals ≡ map (λ (x : RefusalRow). x .expected) refusals
-unfolding frames refusals comOf informationOf payloadOf firstOfBlock frameAt lastOfBlock lastPage pageFooter queryWith storedForm workFrame areaIn blocksIn
-    bound isOver setup badJob badState callVerdict due goodBlock goodDock goodEnding goodFailure goodNamedBlock goodNamedPage goodPage goodStage goodWork
-    isBad outOfTurn shortRoom spent framed less lessAll sumOf lowFirst blockOf blockSize described endsBlock liesIn rangeOf startsBlock stretch wholeBlocks
+unfolding refusals areaIn blocksIn bound isOver setup badJob badState callVerdict due goodBlock goodDock goodEnding goodFailure goodNamedBlock goodNamedPage
+    goodPage goodStage goodWork isBad outOfTurn shortRoom spent blockOf blockSize described endsBlock liesIn rangeOf startsBlock stretch wholeBlocks
     acceptsRate firstOf _and_ _from_to_ _or_ if_then_else_
 refusals-expected = refl

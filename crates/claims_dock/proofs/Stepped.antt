@@ -10,7 +10,6 @@ use lib.ListN.{drop, length, length-append, length-drop}
 use lib.Seq.{take-append-seam}
 use Rattle.claims_dock.proofs.Bounds.{ask-denied, hear-denied}
 use Rattle.claims_dock.proofs.Budget.{Kept, heard-kept, needs, needs-some, start-good, start-needs}
-use Rattle.claims_dock.specs.Examples.{frames}
 use Rattle.claims_dock.specs.Stepping.{Course, asFlow, handedOut, stepping}
 use Rattle.dock.specs.Calls.{Asking, askOf, asked, asking, freshDock, hearOf, sending, beginOf, starting, stepped, turning}
 use Rattle.dock.specs.declared.Report.the-variants.{Put}

@@ -28,8 +28,8 @@ use Rattle.part.specs.declared.refusal.Verdict.{Verdict}
 use Rattle.part.specs.declared.refusal.Verdict.the-variants.{Accepted, Refused}
 
 -- The part of document 01, "Replay"; device code, name and version as in 000, table 3-2.
-abbrev pub thePart : Part
-thePart =
+abbrev pub twoBlockPart : Part
+twoBlockPart =
     record {
       «code_blocks» = 16;
       «data_blocks» = 4;
@@ -40,11 +40,11 @@ thePart =
     }
 
 -- Blocks 0 and 1, rate 00h, 3.3 V, one retry.
-abbrev pub theJob : Job
-theJob = record { part = thePart; start = 0x0000; end = 0x07FF; rate = 0x00; supply = 33; retries = 1 }
+abbrev pub twoBlockJob : Job
+twoBlockJob = record { part = twoBlockPart; start = 0x0000; end = 0x07FF; rate = 0x00; supply = 33; retries = 1 }
 
-abbrev pub theImage : List ℕ
-theImage = replicate 1024 0x5A ++ replicate 1024 0xA5
+abbrev pub twoBlockImage : List ℕ
+twoBlockImage = replicate 1024 0x5A ++ replicate 1024 0xA5
 
 -- The frames that 01, 000 and 003 print, or that their SUM rule completes.
 pub record Frame : Type 0 where
@@ -52,10 +52,10 @@ pub record Frame : Type 0 where
   pub printed : List ℕ
 
 abbrev pub at : Stage → List ℕ → Frame
-at st f = record { gives = frameAt theJob theImage st; printed = f }
+at st f = record { gives = frameAt twoBlockJob twoBlockImage st; printed = f }
 
-unfoldable pub frames : List Frame
-frames =
+unfoldable pub framesPrinted : List Frame
+framesPrinted =
     at (SetUp BaudRate) (0x01 ∷ 0x03 ∷ 0x9A ∷ 0x00 ∷ 0x21 ∷ 0x42 ∷ 0x03 ∷ [])
     ∷ at (SetUp ResetChip) (0x01 ∷ 0x01 ∷ 0x00 ∷ 0xFF ∷ 0x03 ∷ [])
     ∷ at (SetUp SiliconSignature) (0x01 ∷ 0x01 ∷ 0xC0 ∷ 0x3F ∷ 0x03 ∷ [])
@@ -66,14 +66,14 @@ frames =
     ∷ []
 
 -- Answers: one status, two, the three of 40h's last page; those to 9Ah and C0h.
-abbrev pub says : ℕ → Heard
-says s = answered (dataFrame (s ∷ []) Last)
+abbrev pub say : ℕ → Heard
+say s = answered (dataFrame (s ∷ []) Last)
 
 abbrev pub both : ℕ → ℕ → Heard
 both s t = answered (dataFrame (s ∷ t ∷ []) Last)
 
-abbrev pub three : ℕ → Heard
-three s = answered (dataFrame (0x06 ∷ 0x06 ∷ []) Last ++ dataFrame (s ∷ []) Last)
+abbrev pub third : ℕ → Heard
+third s = answered (dataFrame (0x06 ∷ 0x06 ∷ []) Last ++ dataFrame (s ∷ []) Last)
 
 abbrev pub rateSaid : ℕ → ℕ → Heard
 rateSaid clock mode = answered (dataFrame (0x06 ∷ clock ∷ mode ∷ []) Last)
@@ -82,19 +82,19 @@ abbrev pub signedAs : List ℕ → Heard
 signedAs bs = answered (dataFrame (0x06 ∷ []) Last ++ dataFrame bs Last)
 
 abbrev pub setupWell : List Heard
-setupWell = rateSaid 32 0x00 ∷ says 0x06 ∷ signedAs (signature thePart) ∷ []
+setupWell = rateSaid 32 0x00 ∷ say 0x06 ∷ signedAs (signature twoBlockPart) ∷ []
 
 -- A block that was not blank, up to its last page of 13h.
 abbrev pub blockWell : List Heard
 blockWell =
-    says 0x1B
-    ∷ says 0x06
-    ∷ says 0x06
+    say 0x1B
+    ∷ say 0x06
+    ∷ say 0x06
     ∷ both 0x06 0x06
     ∷ both 0x06 0x06
     ∷ both 0x06 0x06
-    ∷ three 0x06
-    ∷ says 0x06
+    ∷ third 0x06
+    ∷ say 0x06
     ∷ both 0x06 0x06
     ∷ both 0x06 0x06
     ∷ both 0x06 0x06
@@ -105,50 +105,50 @@ unfoldable pub worst : List Heard
 worst = setupWell ++ blockWell ++ both 0x06 0x06 ∷ blockWell ++ both 0x06 0x07 ∷ blockWell ++ both 0x06 0x06 ∷ []
 
 -- Where a job stands after a history, beside where it should.
-pub record Place : Type 0 where
+pub record PlaceRow : Type 0 where
   pub stands : Stage
   pub expected : Stage
 
-abbrev pub after : List Heard → Stage → Place
-after hs st = record { stands = flow theJob theImage hs .place; expected = st }
+abbrev pub after : List Heard → Stage → PlaceRow
+after hs st = record { stands = flow twoBlockJob twoBlockImage hs .place; expected = st }
 
 abbrev pub failedAt : Cause → ℕ → Named → ℕ → Named → Stage
 failedAt c cmd p s k = Over (Failed (record { cause = c; command = cmd; page = p; status = s; block = k }))
 
-unfoldable pub places : List Place
+unfoldable pub places : List PlaceRow
 places =
     -- setup: a timeout; 06h alone, nothing, or a byte too many to 9Ah; another clock, another mode; another status
     after (silence ∷ []) (failedAt TimedOut 0x9A Unnamed 0x00 Unnamed)
-    ∷ after (says 0x06 ∷ []) (failedAt Unreadable 0x9A Unnamed 0x00 Unnamed)
+    ∷ after (say 0x06 ∷ []) (failedAt Unreadable 0x9A Unnamed 0x00 Unnamed)
     ∷ after (answered [] ∷ []) (failedAt Unreadable 0x9A Unnamed 0x00 Unnamed)
     ∷ after (answered (dataFrame (0x06 ∷ 0x20 ∷ 0x00 ∷ []) Last ++ 0x00 ∷ []) ∷ []) (failedAt Unreadable 0x9A Unnamed 0x00 Unnamed)
     ∷ after (answered (dataFrame (0x06 ∷ 0x20 ∷ 0x00 ∷ []) More) ∷ []) (failedAt Unreadable 0x9A Unnamed 0x00 Unnamed)
     ∷ after (rateSaid 31 0x00 ∷ []) (failedAt Mismatch 0x9A Unnamed 0x06 Unnamed)
     ∷ after (rateSaid 32 0x01 ∷ []) (failedAt Mismatch 0x9A Unnamed 0x06 Unnamed)
-    ∷ after (says 0x05 ∷ []) (failedAt UnexpectedStatus 0x9A Unnamed 0x05 Unnamed)
+    ∷ after (say 0x05 ∷ []) (failedAt UnexpectedStatus 0x9A Unnamed 0x05 Unnamed)
     -- a setup command is restarted alone, and only as often as is allowed
-    ∷ after (rateSaid 32 0x00 ∷ says 0x07 ∷ []) (SetUp ResetChip)
-    ∷ after (says 0x15 ∷ says 0x07 ∷ []) (failedAt UnexpectedStatus 0x9A Unnamed 0x07 Unnamed)
+    ∷ after (rateSaid 32 0x00 ∷ say 0x07 ∷ []) (SetUp ResetChip)
+    ∷ after (say 0x15 ∷ say 0x07 ∷ []) (failedAt UnexpectedStatus 0x9A Unnamed 0x07 Unnamed)
     -- C0h: another signature; 06h alone
-    ∷ after (rateSaid 32 0x00 ∷ says 0x06 ∷ signedAs (replicate 22 0x00) ∷ []) (failedAt Mismatch 0xC0 Unnamed 0x06 Unnamed)
-    ∷ after (rateSaid 32 0x00 ∷ says 0x06 ∷ says 0x06 ∷ []) (failedAt Unreadable 0xC0 Unnamed 0x00 Unnamed)
+    ∷ after (rateSaid 32 0x00 ∷ say 0x06 ∷ signedAs (replicate 22 0x00) ∷ []) (failedAt Mismatch 0xC0 Unnamed 0x06 Unnamed)
+    ∷ after (rateSaid 32 0x00 ∷ say 0x06 ∷ say 0x06 ∷ []) (failedAt Unreadable 0xC0 Unnamed 0x00 Unnamed)
     -- 32h: blank goes to 40h, not blank to 22h
-    ∷ after (setupWell ++ says 0x06 ∷ []) (InBlock 0 Program)
-    ∷ after (setupWell ++ says 0x1B ∷ []) (InBlock 0 Erase)
-    ∷ after (setupWell ++ says 0x05 ∷ []) (failedAt UnexpectedStatus 0x32 Unnamed 0x05 (It 0))
+    ∷ after (setupWell ++ say 0x06 ∷ []) (InBlock 0 Program)
+    ∷ after (setupWell ++ say 0x1B ∷ []) (InBlock 0 Erase)
+    ∷ after (setupWell ++ say 0x05 ∷ []) (failedAt UnexpectedStatus 0x32 Unnamed 0x05 (It 0))
     -- 1Bh is expected of 32h alone
-    ∷ after (setupWell ++ says 0x06 ∷ says 0x1B ∷ []) (failedAt UnexpectedStatus 0x40 Unnamed 0x1B (It 0))
+    ∷ after (setupWell ++ say 0x06 ∷ say 0x1B ∷ []) (failedAt UnexpectedStatus 0x40 Unnamed 0x1B (It 0))
     -- pages: the first unexpected status decides
-    ∷ after (setupWell ++ says 0x06 ∷ says 0x06 ∷ both 0x06 0x07 ∷ []) (InBlock 0 Blank)
-    ∷ after (setupWell ++ says 0x06 ∷ says 0x06 ∷ both 0x07 0x1C ∷ []) (InBlock 0 Blank)
-    ∷ after (setupWell ++ says 0x06 ∷ says 0x06 ∷ both 0x1C 0x07 ∷ []) (failedAt UnexpectedStatus 0x40 (It 0) 0x1C (It 0))
-    ∷ after (setupWell ++ says 0x06 ∷ says 0x06 ∷ both 0x06 0x06 ∷ both 0x06 0x1C ∷ []) (failedAt UnexpectedStatus 0x40 (It 1) 0x1C (It 0))
+    ∷ after (setupWell ++ say 0x06 ∷ say 0x06 ∷ both 0x06 0x07 ∷ []) (InBlock 0 Blank)
+    ∷ after (setupWell ++ say 0x06 ∷ say 0x06 ∷ both 0x07 0x1C ∷ []) (InBlock 0 Blank)
+    ∷ after (setupWell ++ say 0x06 ∷ say 0x06 ∷ both 0x1C 0x07 ∷ []) (failedAt UnexpectedStatus 0x40 (It 0) 0x1C (It 0))
+    ∷ after (setupWell ++ say 0x06 ∷ say 0x06 ∷ both 0x06 0x06 ∷ both 0x06 0x1C ∷ []) (failedAt UnexpectedStatus 0x40 (It 1) 0x1C (It 0))
     -- the last page of 40h: the third status, and none
-    ∷ after (setupWell ++ says 0x06 ∷ says 0x06 ∷ both 0x06 0x06 ∷ both 0x06 0x06 ∷ both 0x06 0x06 ∷ three 0x1B ∷ []) (failedAt UnexpectedStatus 0x40 (It 3) 0x1B (It 0))
-    ∷ after (setupWell ++ says 0x06 ∷ says 0x06 ∷ both 0x06 0x06 ∷ both 0x06 0x06 ∷ both 0x06 0x06 ∷ three 0x15 ∷ []) (InBlock 0 Blank)
-    ∷ after (setupWell ++ says 0x06 ∷ says 0x06 ∷ both 0x06 0x06 ∷ both 0x06 0x06 ∷ both 0x06 0x06 ∷ both 0x06 0x06 ∷ []) (failedAt Unreadable 0x40 (It 3) 0x00 (It 0))
+    ∷ after (setupWell ++ say 0x06 ∷ say 0x06 ∷ both 0x06 0x06 ∷ both 0x06 0x06 ∷ both 0x06 0x06 ∷ third 0x1B ∷ []) (failedAt UnexpectedStatus 0x40 (It 3) 0x1B (It 0))
+    ∷ after (setupWell ++ say 0x06 ∷ say 0x06 ∷ both 0x06 0x06 ∷ both 0x06 0x06 ∷ both 0x06 0x06 ∷ third 0x15 ∷ []) (InBlock 0 Blank)
+    ∷ after (setupWell ++ say 0x06 ∷ say 0x06 ∷ both 0x06 0x06 ∷ both 0x06 0x06 ∷ both 0x06 0x06 ∷ both 0x06 0x06 ∷ []) (failedAt Unreadable 0x40 (It 3) 0x00 (It 0))
     -- a middle page with a third status is none of its frames
-    ∷ after (setupWell ++ says 0x06 ∷ says 0x06 ∷ three 0x06 ∷ []) (failedAt Unreadable 0x40 (It 0) 0x00 (It 0))
+    ∷ after (setupWell ++ say 0x06 ∷ say 0x06 ∷ third 0x06 ∷ []) (failedAt Unreadable 0x40 (It 0) 0x00 (It 0))
     -- 13h, in block 1
     ∷ after (setupWell ++ blockWell ++ both 0x06 0x06 ∷ blockWell ++ both 0x06 0x0F ∷ []) (failedAt UnexpectedStatus 0x13 (It 3) 0x0F (It 1))
     ∷ after (setupWell ++ blockWell ++ both 0x06 0x06 ∷ blockWell ++ both 0x06 0x06 ∷ []) (Over Finished)
@@ -172,12 +172,12 @@ abbrev pub dockAt : Stage → Bool → ℕ → ℕ → Dock
 dockAt st awaited retries frames = record { stage = st; awaited = awaited; retries = retries; frames = frames }
 
 abbrev pub jobWith : ℕ → ℕ → ℕ → ℕ → ℕ → Job
-jobWith start end rate supply retries = record { part = thePart; start = start; end = end; rate = rate; supply = supply; retries = retries }
+jobWith start end rate supply retries = record { part = twoBlockPart; start = start; end = end; rate = rate; supply = supply; retries = retries }
 
 unfoldable pub refusals : List RefusalRow
 refusals =
     -- 1: rate and supply; before 5
-    call theJob 2048 Begins 0
+    call twoBlockJob 2048 Begins 0
     ∷ call (jobWith 0x0000 0x07FF 0x04 33 1) 2048 Begins 1
     ∷ call (jobWith 0x0000 0x07FF 0x03 17 1) 2048 Begins 1
     ∷ call (jobWith 0x0000 0x07FF 0x03 56 1) 2048 Begins 1
@@ -189,30 +189,30 @@ refusals =
     ∷ call (jobWith 0x1000000 0x10007FF 0x00 33 1) 2048 Begins 5
     ∷ call (jobWith 0xF1000 0xF1FFF 0x00 33 1) 4096 Begins 0
     -- 6, and 7 after it
-    ∷ call theJob 2047 Begins 6
+    ∷ call twoBlockJob 2047 Begins 6
     ∷ call (jobWith 0x0000 0x07FF 0x00 33 16) 2047 Begins 6
     ∷ call (jobWith 0x0000 0x07FF 0x00 33 16) 2048 Begins 7
     ∷ call (jobWith 0x0000 0x07FF 0x00 33 15) 2048 Begins 0
     -- 9: block, page, retries, frames; also of a job that is over; before 4 and 8
-    ∷ call theJob 2048 (Asks (dockAt (InBlock 2 Blank) false 0 0) 259) 9
-    ∷ call theJob 2048 (Asks (dockAt (InBlock 1 (ProgramPage 4)) false 0 0) 260) 9
-    ∷ call theJob 2048 (Asks (dockAt (InBlock 1 (VerifyPage 3)) false 0 0) 260) 0
-    ∷ call theJob 2048 (Tells (dockAt (SetUp BaudRate) true 2 1)) 9
-    ∷ call theJob 2048 (Tells (dockAt (Over Finished) false 0 40)) 9
-    ∷ call theJob 2048 (Tells (dockAt (failedAt TimedOut 0x40 (It 4) 0x00 (It 0)) false 0 5)) 9
+    ∷ call twoBlockJob 2048 (Asks (dockAt (InBlock 2 Blank) false 0 0) 259) 9
+    ∷ call twoBlockJob 2048 (Asks (dockAt (InBlock 1 (ProgramPage 4)) false 0 0) 260) 9
+    ∷ call twoBlockJob 2048 (Asks (dockAt (InBlock 1 (VerifyPage 3)) false 0 0) 260) 0
+    ∷ call twoBlockJob 2048 (Tells (dockAt (SetUp BaudRate) true 2 1)) 9
+    ∷ call twoBlockJob 2048 (Tells (dockAt (Over Finished) false 0 40)) 9
+    ∷ call twoBlockJob 2048 (Tells (dockAt (failedAt TimedOut 0x40 (It 4) 0x00 (It 0)) false 0 5)) 9
     -- a frame that is due at the bound; at the bound with an answer awaited
-    ∷ call theJob 2048 (Asks (dockAt (SetUp BaudRate) false 0 39) 260) 9
-    ∷ call theJob 2048 (Asks (dockAt (SetUp BaudRate) false 0 38) 260) 0
-    ∷ call theJob 2048 (Asks (dockAt (SetUp BaudRate) true 0 39) 260) 8
-    ∷ call theJob 2048 (Tells (dockAt (SetUp BaudRate) true 0 39)) 0
+    ∷ call twoBlockJob 2048 (Asks (dockAt (SetUp BaudRate) false 0 39) 260) 9
+    ∷ call twoBlockJob 2048 (Asks (dockAt (SetUp BaudRate) false 0 38) 260) 0
+    ∷ call twoBlockJob 2048 (Asks (dockAt (SetUp BaudRate) true 0 39) 260) 8
+    ∷ call twoBlockJob 2048 (Tells (dockAt (SetUp BaudRate) true 0 39)) 0
     -- 4 before 8
-    ∷ call theJob 2048 (Asks (dockAt (SetUp BaudRate) true 0 1) 259) 4
-    ∷ call theJob 2048 (Asks (dockAt (Over Finished) false 0 1) 259) 4
+    ∷ call twoBlockJob 2048 (Asks (dockAt (SetUp BaudRate) true 0 1) 259) 4
+    ∷ call twoBlockJob 2048 (Asks (dockAt (Over Finished) false 0 1) 259) 4
     -- 8: a frame asked while an answer is awaited, an answer told while none is, and a job that is over
-    ∷ call theJob 2048 (Asks (dockAt (SetUp BaudRate) true 0 1) 260) 8
-    ∷ call theJob 2048 (Tells (dockAt (SetUp BaudRate) false 0 1)) 8
-    ∷ call theJob 2048 (Asks (dockAt (Over Finished) false 0 1) 260) 8
-    ∷ call theJob 2048 (Tells (dockAt (Over Finished) true 0 1)) 8
+    ∷ call twoBlockJob 2048 (Asks (dockAt (SetUp BaudRate) true 0 1) 260) 8
+    ∷ call twoBlockJob 2048 (Tells (dockAt (SetUp BaudRate) false 0 1)) 8
+    ∷ call twoBlockJob 2048 (Asks (dockAt (Over Finished) false 0 1) 260) 8
+    ∷ call twoBlockJob 2048 (Tells (dockAt (Over Finished) true 0 1)) 8
     -- states that are no refusal: no frame counted while an answer is awaited
-    ∷ call theJob 2048 (Tells (dockAt (InBlock 0 Program) true 0 0)) 0
+    ∷ call twoBlockJob 2048 (Tells (dockAt (InBlock 0 Program) true 0 0)) 0
     ∷ []

@@ -3,7 +3,6 @@ use mathlib.Core.Bool.{false}
 use mathlib.Core.List.{List, [], _++_, _∷_}
 use Prim.Native.Nat.{_*_, _+_, ℕ}
 use lib.ListN.{length, take}
-use Rattle.claims_dock.specs.Examples.{frames}
 use Rattle.dock.specs.Calls.{askOf, hearOf}
 use Rattle.dock.specs.declared.Report.{Report}
 use Rattle.dock.specs.declared.Report.the-variants.{Due, Ended, Put, Refused}

@@ -9,7 +9,7 @@ use Rattle.dock_answer.specs.Answer.{carriedBy, deciding, exactly, matching, ra
 use Rattle.chip.specs.Step.{byteIn, frameDoes, heardByte, modeByte, reactTo, settled, stepOf}
 use Rattle.chip_state.specs.Refusals.{goodAwaited, goodBegun, goodCollected, goodCore, goodPhase, goodPlaces, goodState, verdictOf}
 use Rattle.claims_rehearsal.specs.Cable.{cable, exchange, speaks}
-use Rattle.claims_rehearsal.specs.Rehearsal.{finishedAfter, holds, mixed, oldCode, oldData, readyAt, rehearsed, rehearsedData, theChip, theDataImage, theImage}
+use Rattle.claims_rehearsal.specs.Rehearsal.{finishedAfter, holds, mixed, oldCode, oldData, readyAt, rehearsalImage, rehearsed, rehearsedData, theChip, theDataImage}
 use Rattle.dock.specs.Calls.{askOf, asked, beginOf, freshDock, hearOf, standing, starting, turning}
 use Rattle.chip_commands.specs.Commands.{allowedIn, commandDoes, readingDoes, work}
 use Rattle.commands.specs.Commands.{comOf, commandTable, fitted, informationOf, payloadOf, readCommand, readIn}
@@ -43,10 +43,10 @@ unfolding byteIn frameDoes heardByte modeByte reactTo settled stepOf allowedIn c
     freshOptions goodOptions isFresh lastBlock optionBytes optionsIn raises released rises security badData dataDoes footerOf goodData isLastPage lengthOf
     nextPage pageIn pageStored programPage securityData storedReply verifyPage framesOf payloads saidOf goodAwaited goodBegun goodCollected goodCore goodPhase
     goodPlaces goodState verdictOf blankCheck blockErase checksum erasedIn forbidden programming rangeBytes rateSet securityRelease verify cable exchange
-    speaks mixed rehearsed theChip theImage comOf commandTable fitted informationOf payloadOf readCommand readIn askOf asked beginOf freshDock hearOf standing
-    starting turning carriedBy deciding exactly matching rateMatches readAnswer readable shape signatureMatches statuses afterAnswer afterHeard afterSetup
-    afterStatus afterWork blockFrom inBlock next retried saysNotBlank setupFrom firstOfBlock frameAt handOf handed lastOfBlock lastPage pageFooter queryWith
-    storedForm workFrame areaIn blocksIn bound isOver setup badJob badState callVerdict due goodBlock goodDock goodEnding goodFailure goodNamedBlock
+    speaks mixed rehearsalImage rehearsed theChip comOf commandTable fitted informationOf payloadOf readCommand readIn askOf asked beginOf freshDock hearOf
+    standing starting turning carriedBy deciding exactly matching rateMatches readAnswer readable shape signatureMatches statuses afterAnswer afterHeard
+    afterSetup afterStatus afterWork blockFrom inBlock next retried saysNotBlank setupFrom firstOfBlock frameAt handOf handed lastOfBlock lastPage pageFooter
+    queryWith storedForm workFrame areaIn blocksIn bound isOver setup badJob badState callVerdict due goodBlock goodDock goodEnding goodFailure goodNamedBlock
     goodNamedPage goodPage goodStage goodWork isBad outOfTurn shortRoom spent fresh hear heard holding complete counted framed full isFrame payload frames
     framing fitting judgeOf summed less lessAll sumOf readOf allAre putAt putOf same lowFirst numberAt blockOf blockSize described endsBlock lastOf liesIn
     pageOf placeIn placeOf rangeOf startsBlock stretch wholeBlocks acceptsRate modeOf firstOf signature _and_ _from_to_ _or_ if_then_else_
@@ -57,27 +57,27 @@ unfolding byteIn frameDoes heardByte modeByte reactTo settled stepOf allowedIn c
     freshOptions goodOptions isFresh lastBlock optionBytes optionsIn raises released rises security badData dataDoes footerOf goodData isLastPage lengthOf
     nextPage pageIn pageStored programPage securityData storedReply verifyPage framesOf payloads saidOf goodAwaited goodBegun goodCollected goodCore goodPhase
     goodPlaces goodState verdictOf blankCheck blockErase checksum erasedIn forbidden programming rangeBytes rateSet securityRelease verify cable exchange
-    speaks mixed rehearsed theChip theImage comOf commandTable fitted informationOf payloadOf readCommand readIn askOf asked beginOf freshDock hearOf standing
-    starting turning carriedBy deciding exactly matching rateMatches readAnswer readable shape signatureMatches statuses afterAnswer afterHeard afterSetup
-    afterStatus afterWork blockFrom inBlock next retried saysNotBlank setupFrom firstOfBlock frameAt handOf handed lastOfBlock lastPage pageFooter queryWith
-    storedForm workFrame areaIn blocksIn bound isOver setup badJob badState callVerdict due goodBlock goodDock goodEnding goodFailure goodNamedBlock
-    goodNamedPage goodPage goodStage goodWork isBad outOfTurn shortRoom spent fresh hear heard holding complete counted framed full isFrame payload frames
-    framing fitting judgeOf summed less lessAll sumOf readOf allAre putAt putOf same lowFirst numberAt blockOf blockSize described endsBlock lastOf liesIn
-    pageOf placeIn placeOf rangeOf startsBlock stretch wholeBlocks acceptsRate modeOf firstOf signature _and_ _from_to_ _or_ if_then_else_
-rehearsal-chip = refl
-
-pub rehearsal-flash : holds (rehearsed .chip .memory) (replicate 2048 0x42 ++ theImage ++ replicate 4096 0x42) oldData ≡ true
-unfolding byteIn frameDoes heardByte modeByte reactTo settled stepOf allowedIn commandDoes readingDoes work hearing blank eraseOf sumOfBytes fixedBits
-    freshOptions goodOptions isFresh lastBlock optionBytes optionsIn raises released rises security badData dataDoes footerOf goodData isLastPage lengthOf
-    nextPage pageIn pageStored programPage securityData storedReply verifyPage framesOf payloads saidOf goodAwaited goodBegun goodCollected goodCore goodPhase
-    goodPlaces goodState verdictOf blankCheck blockErase checksum erasedIn forbidden programming rangeBytes rateSet securityRelease verify cable exchange
-    speaks holds mixed rehearsed theChip theImage comOf commandTable fitted informationOf payloadOf readCommand readIn askOf asked beginOf freshDock hearOf
+    speaks mixed rehearsalImage rehearsed theChip comOf commandTable fitted informationOf payloadOf readCommand readIn askOf asked beginOf freshDock hearOf
     standing starting turning carriedBy deciding exactly matching rateMatches readAnswer readable shape signatureMatches statuses afterAnswer afterHeard
     afterSetup afterStatus afterWork blockFrom inBlock next retried saysNotBlank setupFrom firstOfBlock frameAt handOf handed lastOfBlock lastPage pageFooter
     queryWith storedForm workFrame areaIn blocksIn bound isOver setup badJob badState callVerdict due goodBlock goodDock goodEnding goodFailure goodNamedBlock
     goodNamedPage goodPage goodStage goodWork isBad outOfTurn shortRoom spent fresh hear heard holding complete counted framed full isFrame payload frames
     framing fitting judgeOf summed less lessAll sumOf readOf allAre putAt putOf same lowFirst numberAt blockOf blockSize described endsBlock lastOf liesIn
     pageOf placeIn placeOf rangeOf startsBlock stretch wholeBlocks acceptsRate modeOf firstOf signature _and_ _from_to_ _or_ if_then_else_
+rehearsal-chip = refl
+
+pub rehearsal-flash : holds (rehearsed .chip .memory) (replicate 2048 0x42 ++ rehearsalImage ++ replicate 4096 0x42) oldData ≡ true
+unfolding byteIn frameDoes heardByte modeByte reactTo settled stepOf allowedIn commandDoes readingDoes work hearing blank eraseOf sumOfBytes fixedBits
+    freshOptions goodOptions isFresh lastBlock optionBytes optionsIn raises released rises security badData dataDoes footerOf goodData isLastPage lengthOf
+    nextPage pageIn pageStored programPage securityData storedReply verifyPage framesOf payloads saidOf goodAwaited goodBegun goodCollected goodCore goodPhase
+    goodPlaces goodState verdictOf blankCheck blockErase checksum erasedIn forbidden programming rangeBytes rateSet securityRelease verify cable exchange
+    speaks holds mixed rehearsalImage rehearsed theChip comOf commandTable fitted informationOf payloadOf readCommand readIn askOf asked beginOf freshDock
+    hearOf standing starting turning carriedBy deciding exactly matching rateMatches readAnswer readable shape signatureMatches statuses afterAnswer
+    afterHeard afterSetup afterStatus afterWork blockFrom inBlock next retried saysNotBlank setupFrom firstOfBlock frameAt handOf handed lastOfBlock lastPage
+    pageFooter queryWith storedForm workFrame areaIn blocksIn bound isOver setup badJob badState callVerdict due goodBlock goodDock goodEnding goodFailure
+    goodNamedBlock goodNamedPage goodPage goodStage goodWork isBad outOfTurn shortRoom spent fresh hear heard holding complete counted framed full isFrame
+    payload frames framing fitting judgeOf summed less lessAll sumOf readOf allAre putAt putOf same lowFirst numberAt blockOf blockSize described endsBlock
+    lastOf liesIn pageOf placeIn placeOf rangeOf startsBlock stretch wholeBlocks acceptsRate modeOf firstOf signature _and_ _from_to_ _or_ if_then_else_
 rehearsal-flash = refl
 
 -- One block of data flash: 3 + 12 frames, and no byte of code flash changed.

@@ -22,8 +22,8 @@ use Rattle.chip_options.specs.Options.{freshOptions}
 use Rattle.part.specs.declared.Part.{Part}
 use Rattle.words.specs.Words.{_and_}
 
-abbrev pub thePart : Part
-thePart =
+abbrev pub rehearsalPart : Part
+rehearsalPart =
     record {
       «code_blocks» = 8;
       «data_blocks» = 1;
@@ -34,16 +34,16 @@ thePart =
     }
 
 -- Blocks 2 and 3, rate 03h, 3.3 V, no retry.
-abbrev pub theJob : Job
-theJob = record { part = thePart; start = 0x0800; end = 0x0FFF; rate = 0x03; supply = 33; retries = 0 }
+abbrev pub rehearsalJob : Job
+rehearsalJob = record { part = rehearsalPart; start = 0x0800; end = 0x0FFF; rate = 0x03; supply = 33; retries = 0 }
 
 -- So many bytes, no page of which is like another.
 unfoldable pub mixed : ℕ → List ℕ
 mixed zero = []
 mixed (suc n) = n * 11 / 9 % 256 ∷ mixed n
 
-unfoldable pub theImage : List ℕ
-theImage = mixed 2048
+unfoldable pub rehearsalImage : List ℕ
+rehearsalImage = mixed 2048
 
 -- What the flash held before: nothing of it is blank.
 abbrev pub oldCode : List ℕ
@@ -54,18 +54,18 @@ oldData = replicate 1024 0x17
 
 unfoldable pub theChip : Outcome
 theChip =
-    before (record { core = record { options = freshOptions thePart; rate = 0x00; phase = Setup }; collector = fresh }) (flash oldCode oldData) (replicate 32 0x00)
+    before (record { core = record { options = freshOptions rehearsalPart; rate = 0x00; phase = Setup }; collector = fresh }) (flash oldCode oldData) (replicate 32 0x00)
 
 -- From a dock that was just started, in a room of 260 bytes.
 abbrev pub rehearse : Job → List ℕ → Ends
 rehearse j image = cable (bound j) j image (replicate 260 0x00) (record { dock = beginOf j image .dock; chip = theChip })
 
 unfoldable pub rehearsed : Ends
-rehearsed = rehearse theJob theImage
+rehearsed = rehearse rehearsalJob rehearsalImage
 
 -- The same on data flash: its one block, and half of the image.
 abbrev pub theDataJob : Job
-theDataJob = record { part = thePart; start = 0xF1000; end = 0xF13FF; rate = 0x00; supply = 20; retries = 2 }
+theDataJob = record { part = rehearsalPart; start = 0xF1000; end = 0xF13FF; rate = 0x00; supply = 20; retries = 2 }
 
 unfoldable pub theDataImage : List ℕ
 theDataImage = mixed 1024
@@ -79,7 +79,7 @@ finishedAfter n = record { stage = Over Finished; awaited = false; retries = 0; 
 
 -- A chip that is ready at a rate, with its options as they were.
 abbrev pub readyAt : ℕ → Core
-readyAt rate = record { options = freshOptions thePart; rate = rate; phase = Ready }
+readyAt rate = record { options = freshOptions rehearsalPart; rate = rate; phase = Ready }
 
 -- Whether both areas of flash hold these bytes.
 unfoldable pub holds : Flash → List ℕ → List ℕ → Bool

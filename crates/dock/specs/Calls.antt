@@ -10,9 +10,9 @@ use Rattle.dock.specs.declared.Report.the-variants as Report
 use Rattle.dock.specs.declared.Stepped.{Stepped}
 use Rattle.dock_flow.specs.Flow.{Heard, afterHeard, firstStage}
 use Rattle.dock_flow.specs.Frames.{Handing, handOf}
-use Rattle.dock_flow.specs.declared.frames.Handed.{Handed}
-use Rattle.dock_flow.specs.declared.frames.Handed.the-variants.{Sent}
-use Rattle.dock_flow.specs.declared.frames.Handed.the-variants as Handed
+use Rattle.dock_flow.specs.declared.frames.HandedOut.{HandedOut}
+use Rattle.dock_flow.specs.declared.frames.HandedOut.the-variants.{Sent}
+use Rattle.dock_flow.specs.declared.frames.HandedOut.the-variants as HandedOut
 use Rattle.dock_flow.specs.declared.Turned.{Turned}
 use Rattle.frame.specs.Framing.{frames}
 use Rattle.dock_job.specs.Refusals.{callVerdict}
@@ -59,8 +59,8 @@ abbrev pub sending : Dock → Dock
 sending d = record { stage = d .stage; awaited = true; retries = d .retries; frames = d .frames + 1 }
 
 -- The stage's frame is put into the room, or the call refused.
-unfoldable pub asked : Handing → Handed → Dock → Asking
-asked h (Handed.Refused r) d = asking (stepped (Report.Refused r) d) (h .room)
+unfoldable pub asked : Handing → HandedOut → Dock → Asking
+asked h (HandedOut.Refused r) d = asking (stepped (Report.Refused r) d) (h .room)
 asked h (Sent n) d = asking (stepped (Put n) (sending d)) (h .room)
 
 unfoldable pub askOf : Job → List ℕ → Dock → List ℕ → Asking

@@ -9,7 +9,7 @@ use super::Report;
 use super::Stepped;
 use dock_flow::Turned;
 use dock_flow::frames;
-use dock_flow::frames::Handed;
+use dock_flow::frames::HandedOut;
 use dock_job::Dock;
 use dock_job::Job;
 use dock_job::Stage;
@@ -47,11 +47,11 @@ pub fn ask(job: Job, image: &[u8], dock: Dock, room: &mut [u8]) -> Stepped
 {
     let handed = frames::hand(job, image, dock, room);
     match handed {
-        Handed::Refused(refusal) => Stepped {
+        HandedOut::Refused(refusal) => Stepped {
             report: Report::Refused(refusal),
             dock,
         },
-        Handed::Sent(n) => {
+        HandedOut::Sent(n) => {
             let stage = dock.stage;
             Stepped {
                 report: Report::Put(n),

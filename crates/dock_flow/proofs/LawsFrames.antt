@@ -18,8 +18,8 @@ use Rattle.dock_job.specs.declared.Work.the-variants.{Blank, Erase, Program, Pr
 use Rattle.frame.specs.declared.Footer.the-variants.{Last}
 use Rattle.frame.specs.declared.Header.the-variants as Header
 use Rattle.frame.specs.declared.wire.Wrote.the-variants.{Long, NoRoom, UnfitPayload}
-use Rattle.dock_flow.specs.declared.frames.Handed.the-variants.{Sent}
-use Rattle.dock_flow.specs.declared.frames.Handed.the-variants as Handed
+use Rattle.dock_flow.specs.declared.frames.HandedOut.the-variants.{Sent}
+use Rattle.dock_flow.specs.declared.frames.HandedOut.the-variants as HandedOut
 use Rattle.dock_job.specs.Refusals.{callVerdict}
 use Rattle.dock_job.specs.declared.Dock.{Dock}
 use Rattle.dock_job.specs.declared.refusals.Call.the-variants.{Asks}
@@ -67,7 +67,7 @@ unfolding handOf handed
 sent-accepted j image d room l n e = go (callVerdict j (length image) (Asks d (length room))) e
   where
     go : (v : Verdict) → handing (Sent n) l ≡ handed v (placing (frameAt j image (d .stage)) room) room → v ≡ Accepted
-    go (Verdict.Refused r) e = let k : Sent n ≡ Handed.Refused r = ap (λ (x : Handing). x .answer) e in cc
+    go (Verdict.Refused r) e = let k : Sent n ≡ HandedOut.Refused r = ap (λ (x : Handing). x .answer) e in cc
     go Accepted e = refl
 
 -- Rate and supply change nothing of what is asked but the information of 9Ah.

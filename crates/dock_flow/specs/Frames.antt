@@ -9,9 +9,9 @@ use Rattle.commands.specs.declared.Command.{Command}
 use Rattle.commands.specs.declared.Command.the-variants.{BlankCheck, BlockErase, Programming, RateSet, Reset, SignatureGet, Verify}
 use Rattle.dock_answer.specs.declared.Form.{Form}
 use Rattle.dock_answer.specs.declared.Form.the-variants.{OfLastPage, OfPage, OneStatus, WithRate, WithSignature}
-use Rattle.dock_flow.specs.declared.frames.Handed.{Handed}
-use Rattle.dock_flow.specs.declared.frames.Handed.the-variants.{Sent}
-use Rattle.dock_flow.specs.declared.frames.Handed.the-variants as Handed
+use Rattle.dock_flow.specs.declared.frames.HandedOut.{HandedOut}
+use Rattle.dock_flow.specs.declared.frames.HandedOut.the-variants.{Sent}
+use Rattle.dock_flow.specs.declared.frames.HandedOut.the-variants as HandedOut
 use Rattle.dock_flow.specs.declared.frames.Query.{Query}
 use Rattle.dock_job.specs.Job.{pagesOf, sizeOf}
 use Rattle.dock_job.specs.Refusals.{callVerdict}
@@ -102,14 +102,14 @@ placing f room = placed (length f) (f ++ drop (length f) room)
 
 -- A frame that is asked for: refused, and the room stays; or the stage's frame.
 pub record Handing : Type 0 where
-  pub answer : Handed
+  pub answer : HandedOut
   pub room : List ℕ
 
-abbrev pub handing : Handed → List ℕ → Handing
+abbrev pub handing : HandedOut → List ℕ → Handing
 handing a r = record { answer = a; room = r }
 
 unfoldable pub handed : Verdict → Placed → List ℕ → Handing
-handed (Verdict.Refused r) f room = handing (Handed.Refused r) room
+handed (Verdict.Refused r) f room = handing (HandedOut.Refused r) room
 handed Accepted f room = handing (Sent (f .long)) (f .room)
 
 unfoldable pub handOf : Job → List ℕ → Dock → List ℕ → Handing

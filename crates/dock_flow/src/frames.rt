@@ -35,7 +35,7 @@ pub struct Query {
 }
 
 // A frame of so many bytes lies at the start of the room, or none was handed out.
-pub enum Handed {
+pub enum HandedOut {
     Sent(usize),
     Refused(Refusal),
 }
@@ -216,7 +216,7 @@ fn put(job: Job, image: &[u8], stage: Stage, room: &mut [u8]) -> usize
 }
 
 // The frame that is due, put at the start of the room, where the dock accepts the call.
-pub fn hand(job: Job, image: &[u8], dock: Dock, room: &mut [u8]) -> Handed
+pub fn hand(job: Job, image: &[u8], dock: Dock, room: &mut [u8]) -> HandedOut
     ensures { λ r. ⌜ handing r (now (room .exit)) ≡ handOf job (now (image .entry)) dock (now (room .entry)) ⌝ }
 {
     let v = refusals::verdict(
@@ -228,11 +228,11 @@ pub fn hand(job: Job, image: &[u8], dock: Dock, room: &mut [u8]) -> Handed
         },
     );
     match v {
-        Verdict::Refused(refusal) => Handed::Refused(refusal),
+        Verdict::Refused(refusal) => HandedOut::Refused(refusal),
         Verdict::Accepted => {
             let stage = dock.stage;
             let n = put(job, image, stage, room);
-            Handed::Sent(n)
+            HandedOut::Sent(n)
         }
     }
 }

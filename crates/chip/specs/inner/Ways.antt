@@ -4,7 +4,7 @@ use Prim.Native.Nat.{_+_, _-_, ℕ}
 use lib.Dec.{leb, ltb}
 use Rattle.chip.specs.Step.{replied}
 use Rattle.chip.specs.declared.Step.{Step}
-use Rattle.chip.specs.declared.events.Stepped.{Stepped}
+use Rattle.chip.specs.declared.events.ByteDone.{ByteDone}
 use Rattle.chip.specs.declared.events.Way.{Way}
 use Rattle.chip.specs.declared.events.Way.the-variants.{Completes, Hears, Mode}
 use Rattle.chip_core.specs.declared.Hearing.{Hearing}
@@ -33,5 +33,5 @@ lackingOf count len rest =
     else 0
 
 -- What a byte came to, as a step.
-abbrev pub answered : Stepped → Step
+abbrev pub answered : ByteDone → Step
 answered s = record { answer = replied (s .sent); chip = s .chip }

@@ -5,7 +5,7 @@ use native.Mathlib.Omega.{arith}
 use lib.ListN.{length}
 use Rattle.dock_flow.proofs.LawsFrames.{sent-accepted}
 use Rattle.dock_flow.specs.Frames.{handing}
-use Rattle.dock_flow.specs.declared.frames.Handed.{Handed}
+use Rattle.dock_flow.specs.declared.frames.HandedOut.{HandedOut}
 use Rattle.dock_job.proofs.Laws.{accepts, asked-is, bound-few}
 use Rattle.dock_job.specs.declared.refusals.Call.the-variants.{Asks}
 use Rattle.dock.specs.Calls.{askOf, asked}
@@ -17,7 +17,7 @@ add-t14 : tie.Need-add-t14
 add-t14 c =
     let o = c .before .before .before .before .before .before .before .before .before .before .args in
     let s = c .before .before .before .before .before .before .hand in
-    let e = ap (λ (h : Handed). handing h (s .last .1 .1 .1 .0)) (sym (c .before .before .handed2 .given .1)) ∙ s .ensures in
+    let e = ap (λ (h : HandedOut). handing h (s .last .1 .1 .1 .0)) (sym (c .before .before .handed2 .given .1)) ∙ s .ensures in
     let a = accepts (o .job) (length (o .image .now)) (Asks (o .dock) (length (o .room .now))) (sent-accepted (o .job) (o .image .now) (o .dock) (o .room .now) _ _ e) in
     omega (arith, asked-is _ _ _ _ a .below, bound-few (o .job) (a .described-part) (a .few-retries))
 
