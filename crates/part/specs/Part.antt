@@ -1,7 +1,6 @@
 -- Document 01, "The part": the description, the two areas of flash, their blocks and pages; and from "Commands" what a good range is.
 use Prim.Native.Nat.{ℕ, _+_, _-_, _*_, _/_, _%_}
 use mathlib.Core.Bool.{Bool}
-use mathlib.Core.List.{List, [], _∷_}
 use mathlib.Core.Path.{_≡_}
 use lib.Dec.{leb, ltb, eqb}
 use lib.ListN.{length}
@@ -49,10 +48,6 @@ pages p a = blockSize p a / pageSize
 -- The bytes of an area.
 abbrev pub size : Part → Area → ℕ
 size p a = blocks p a * blockSize p a
-
--- "Addresses travel low, middle, high."
-abbrev pub addressBytes : ℕ → List ℕ
-addressBytes n = n % 256 ∷ n / 256 % 256 ∷ n / 65536 % 256 ∷ []
 
 -- The last address of an area; none where it has no blocks.
 unfoldable pub lastOf : Part → Area → LastAddress
