@@ -39,9 +39,6 @@ longest = 260
 unfoldable pub framed : Header → List ℕ → Footer → List ℕ
 framed h ds f = headerByte h ∷ lenByte (length ds) ∷ ds ++ sumOf (lenByte (length ds) ∷ ds) ∷ footerByte f ∷ []
 
-abbrev pub commandFrame : ℕ → List ℕ → List ℕ
-commandFrame cmd info = framed Command (cmd ∷ info) Last
-
 abbrev pub dataFrame : List ℕ → Footer → List ℕ
 dataFrame ds f = framed Data ds f
 
