@@ -31,6 +31,9 @@ use part::Part;
 use part::refusal::Refusal;
 use part::refusal::Verdict;
 
+// What a frame has beside its payload before its last byte comes.
+const BEFORE_LAST: usize = frame::OVERHEAD - 1;
+
 fn mode_byte(core: Core, b: u8) -> Core
     ensures { λ r. ⌜ r ≡ modeByte core b ⌝ }
 {
@@ -50,7 +53,7 @@ fn completes(count: usize, len: u8) -> bool
     if count < 2 {
         return false;
     }
-    frame::counted(len) + 3 <= count
+    frame::counted(len) + BEFORE_LAST <= count
 }
 
 // What a byte means in a state that is accepted: a mode byte, a byte that is heard, or one that completes a frame.
@@ -207,7 +210,7 @@ fn lacking(count: usize, len: u8, rest: usize) -> usize
     if count < 2 {
         return 0;
     }
-    let last = frame::counted(len) + 3;
+    let last = frame::counted(len) + BEFORE_LAST;
     if last <= count {
         return 0;
     }
@@ -278,7 +281,7 @@ pub fn step(
             }
             Event::Byte(b) => {
                 if 0 < lacking(at, len, 1) {
-                    let mut work = [0u8; 260];
+                    let mut work = [0u8; frame::LONGEST];
                     let next = collector.add(b, &mut work);
                     return Step {
                         answer: Answer::Replied {

@@ -92,7 +92,7 @@ fn collector_in(state: &[u8]) -> Collector
     ensures { λ r. ⌜ r ≡ collectorIn (now (state .entry)) ⌝ }
 {
     let len = number8(state, 25);
-    let mut bytes = [0u8; 260];
+    let mut bytes = [0u8; frame::LONGEST];
     lent::put(&mut bytes, 0, &state[33..293]);
     Collector::restored(bytes, len)
 }

@@ -32,7 +32,7 @@ fn send_one(room: &mut [u8], payload: &[u8]) -> Sent
 {
     wire::write_data(room, payload, Footer::Last);
     Sent {
-        bytes: payload.len() + 4,
+        bytes: payload.len() + frame::OVERHEAD,
         frames: 1,
     }
 }
@@ -42,11 +42,11 @@ fn send_two(room: &mut [u8], first: &[u8], second: &[u8]) -> Sent
     requires { ⌜ (32 ≤ length (now room)) × (1 ≤ length (now first)) × (1 ≤ length (now second)) × (length (now first) + length (now second) ≤ 24) ⌝ }
     ensures { λ r. ⌜ said r (now (room .exit)) ≡ saidOf (now (first .entry) ∷ now (second .entry) ∷ []) (now (room .entry)) ⌝ }
 {
-    let n = first.len() + 4;
+    let n = first.len() + frame::OVERHEAD;
     wire::write_data(room, first, Footer::Last);
     wire::write_data(&mut room[n..], second, Footer::Last);
     Sent {
-        bytes: n + second.len() + 4,
+        bytes: n + second.len() + frame::OVERHEAD,
         frames: 2,
     }
 }

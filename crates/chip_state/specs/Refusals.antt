@@ -13,7 +13,7 @@ use Rattle.chip_core.specs.declared.Hearing.{Hearing}
 use Rattle.chip_core.specs.declared.Hearing.the-variants.{HearsCommands, HearsData, HearsNothing}
 use Rattle.chip_core.specs.declared.Phase.{Phase}
 use Rattle.chip_core.specs.declared.Phase.the-variants.{Awaiting, ModeByte, Ready, Setup}
-use Rattle.frame.specs.Frame.{full, headerByte}
+use Rattle.frame.specs.Frame.{full, headerByte, longest}
 use Rattle.frame.specs.declared.Header.{Header}
 use Rattle.frame.specs.declared.Header.the-variants.{Command, Data}
 use Rattle.frame.specs.declared.collector.Collector.{Collector}
@@ -56,7 +56,7 @@ goodPhase p (Awaiting w) = goodAwaited p w
 
 -- 9, what is collected: "collected bytes not begun by the awaited header, or as many as the frame begun needs or more (260 or more always is)"
 unfoldable pub goodBegun : Header → ℕ → ℕ → ℕ → Bool
-goodBegun h count head len = eqb count 0 or ltb count 260 and eqb head (headerByte h) and not (full count len)
+goodBegun h count head len = eqb count 0 or ltb count longest and eqb head (headerByte h) and not (full count len)
 
 -- "anything collected in phase 1"
 unfoldable pub goodCollected : Hearing → ℕ → ℕ → ℕ → Bool

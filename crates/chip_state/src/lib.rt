@@ -135,7 +135,7 @@ fn is_good_begun(header: Header, count: usize, head: u8, len: u8) -> bool
     if count == 0 {
         return true;
     }
-    if count < 260 {
+    if count < frame::LONGEST {
         if head == header.byte() {
             if frame::is_full(count, len) {
                 return false;

@@ -8,7 +8,7 @@ use Rattle.dock_answer.specs.declared.Decoded.{Decoded}
 use Rattle.dock_answer.specs.declared.Decoded.the-variants.{Garbled, Said}
 use Rattle.dock_answer.specs.declared.Form.{Form}
 use Rattle.dock_answer.specs.declared.Form.the-variants.{OfLastPage, OfPage, OneStatus, WithRate, WithSignature}
-use Rattle.frame.specs.Frame.{overhead}
+use Rattle.frame.specs.Frame.{overhead, payloadAt}
 use Rattle.frame.specs.Wire.{readOf}
 use Rattle.frame.specs.declared.wire.Read.{Read}
 use Rattle.frame.specs.declared.wire.Read.the-variants.{Frame, NotOne}
@@ -31,6 +31,13 @@ unfoldable pub exactly : List ℕ → List ℕ → Bool
 exactly [] bs = eqb (length bs) 0
 exactly (n ∷ ns) bs = eqb (carried bs) n and exactly ns (drop (n + overhead) bs)
 
+-- A byte of what the first frame carries, and where what the second carries begins, after a first frame that carries so many bytes.
+abbrev pub inFirst : ℕ → List ℕ → ℕ
+inFirst i bs = getD bs (payloadAt + i) 0
+
+abbrev pub secondAfter : ℕ → ℕ
+secondAfter n = n + overhead + payloadAt
+
 -- "one byte for a command (9Ah: three if the first is 06h; C0h: then 22 bytes if it is 06h), two for a page (then one more frame of one byte after
 -- 06h 06h to 40h's last)": by the first two bytes that the first frame carries.
 unfoldable pub shape : Form → ℕ → ℕ → List ℕ
@@ -41,15 +48,15 @@ shape OfPage s t = 2 ∷ []
 shape OfLastPage s t = if eqb s 0x06 and eqb t 0x06 then 2 ∷ 1 ∷ [] else 2 ∷ []
 
 unfoldable pub readable : Form → List ℕ → Bool
-readable f bs = exactly (shape f (getD bs 2 0) (getD bs 3 0)) bs
+readable f bs = exactly (shape f (inFirst 0 bs) (inFirst 1 bs)) bs
 
 -- The statuses of a readable answer; the third of a last page stands where the first two are 06h, and is not looked at elsewhere.
 unfoldable pub statuses : Form → List ℕ → List ℕ
-statuses OneStatus bs = getD bs 2 0 ∷ []
-statuses WithRate bs = getD bs 2 0 ∷ []
-statuses WithSignature bs = getD bs 2 0 ∷ []
-statuses OfPage bs = getD bs 2 0 ∷ getD bs 3 0 ∷ []
-statuses OfLastPage bs = getD bs 2 0 ∷ getD bs 3 0 ∷ getD bs 8 0 ∷ []
+statuses OneStatus bs = inFirst 0 bs ∷ []
+statuses WithRate bs = inFirst 0 bs ∷ []
+statuses WithSignature bs = inFirst 0 bs ∷ []
+statuses OfPage bs = inFirst 0 bs ∷ inFirst 1 bs ∷ []
+statuses OfLastPage bs = inFirst 0 bs ∷ inFirst 1 bs ∷ getD bs (secondAfter 2) 0 ∷ []
 
 -- "The first unexpected status in an answer decides": the first that is not 06h; 06h where all are.
 unfoldable pub deciding : List ℕ → ℕ
@@ -62,11 +69,11 @@ rateMatches p supply clock mode = eqb clock (p .clock) and eqb mode (modeOf p su
 
 -- "C0h (its reply must match the part)": the 22 bytes that the second frame carries.
 unfoldable pub signatureMatches : Part → List ℕ → Bool
-signatureMatches p bs = same (take 22 (drop 7 bs)) (signature p)
+signatureMatches p bs = same (take 22 (drop (secondAfter 1) bs)) (signature p)
 
 unfoldable pub matching : Part → ℕ → Form → List ℕ → Bool
 matching p supply OneStatus bs = true
-matching p supply WithRate bs = rateMatches p supply (getD bs 3 0) (getD bs 4 0)
+matching p supply WithRate bs = rateMatches p supply (inFirst 1 bs) (inFirst 2 bs)
 matching p supply WithSignature bs = signatureMatches p bs
 matching p supply OfPage bs = true
 matching p supply OfLastPage bs = true

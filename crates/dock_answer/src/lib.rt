@@ -8,6 +8,17 @@ use frame::wire;
 use frame::wire::Read;
 use part::Part;
 
+// Places in an answer: the first three bytes that its first frame carries, and the first that its second does, after a first frame of one byte or of two.
+const FIRST: usize = frame::PAYLOAD_AT;
+
+const SECOND: usize = frame::PAYLOAD_AT + 1;
+
+const THIRD: usize = frame::PAYLOAD_AT + 2;
+
+const AFTER_ONE: usize = 1 + frame::OVERHEAD + frame::PAYLOAD_AT;
+
+const AFTER_TWO: usize = 2 + frame::OVERHEAD + frame::PAYLOAD_AT;
+
 // What the answer to a frame looks like: one status; 9Ah's, 06h with clock and mode; C0h's, 06h and the signature; that to a page; that to the
 // last page of 40h, with a further status.
 pub enum Form {
@@ -50,7 +61,7 @@ fn is_one(bytes: &[u8], n: usize) -> bool
     ensures { λ r. ⌜ r ≡ exactly (n ∷ []) (now (bytes .entry)) ⌝ }
 {
     if carried(bytes) == n {
-        let rest = after(bytes, n + 4);
+        let rest = after(bytes, n + frame::OVERHEAD);
         return rest.len() == 0;
     }
     false
@@ -61,7 +72,7 @@ fn is_two(bytes: &[u8], n: usize, m: usize) -> bool
     ensures { λ r. ⌜ r ≡ exactly (n ∷ m ∷ []) (now (bytes .entry)) ⌝ }
 {
     if carried(bytes) == n {
-        return is_one(after(bytes, n + 4), m);
+        return is_one(after(bytes, n + frame::OVERHEAD), m);
     }
     false
 }
@@ -72,21 +83,21 @@ fn is_readable(form: Form, bytes: &[u8]) -> bool
     match form {
         Form::OneStatus => is_one(bytes, 1),
         Form::WithRate => {
-            if lent::byte_at(bytes, 2) == 0x06 {
+            if lent::byte_at(bytes, FIRST) == 0x06 {
                 return is_one(bytes, 3);
             }
             is_one(bytes, 1)
         }
         Form::WithSignature => {
-            if lent::byte_at(bytes, 2) == 0x06 {
+            if lent::byte_at(bytes, FIRST) == 0x06 {
                 return is_two(bytes, 1, 22);
             }
             is_one(bytes, 1)
         }
         Form::OfPage => is_one(bytes, 2),
         Form::OfLastPage => {
-            if lent::byte_at(bytes, 2) == 0x06 {
-                if lent::byte_at(bytes, 3) == 0x06 {
+            if lent::byte_at(bytes, FIRST) == 0x06 {
+                if lent::byte_at(bytes, SECOND) == 0x06 {
                     return is_two(bytes, 2, 1);
                 }
                 return is_one(bytes, 2);
@@ -112,14 +123,14 @@ fn first_other(first: u8, second: u8, third: u8) -> u8
 fn status_of(form: Form, bytes: &[u8]) -> u8
     ensures { λ r. ⌜ r ≡ deciding (statuses form (now (bytes .entry))) ⌝ }
 {
-    let first = lent::byte_at(bytes, 2);
-    let second = lent::byte_at(bytes, 3);
+    let first = lent::byte_at(bytes, FIRST);
+    let second = lent::byte_at(bytes, SECOND);
     match form {
         Form::OneStatus => first,
         Form::WithRate => first,
         Form::WithSignature => first,
         Form::OfPage => first_other(first, second, 0x06),
-        Form::OfLastPage => first_other(first, second, lent::byte_at(bytes, 8)),
+        Form::OfLastPage => first_other(first, second, lent::byte_at(bytes, AFTER_TWO)),
     }
 }
 
@@ -136,7 +147,7 @@ fn is_signature(part: Part, bytes: &[u8]) -> bool
     ensures { λ r. ⌜ r ≡ signatureMatches part (now (bytes .entry)) ⌝ }
 {
     let signature = part::signature::bytes(part);
-    lent::is_same_at(bytes, 7, &signature)
+    lent::is_same_at(bytes, AFTER_ONE, &signature)
 }
 
 fn is_matching(part: Part, supply: u32, form: Form, bytes: &[u8]) -> bool
@@ -145,8 +156,8 @@ fn is_matching(part: Part, supply: u32, form: Form, bytes: &[u8]) -> bool
     match form {
         Form::OneStatus => true,
         Form::WithRate => {
-            let clock = lent::byte_at(bytes, 3);
-            is_rate(part, supply, clock, lent::byte_at(bytes, 4))
+            let clock = lent::byte_at(bytes, SECOND);
+            is_rate(part, supply, clock, lent::byte_at(bytes, THIRD))
         }
         Form::WithSignature => is_signature(part, bytes),
         Form::OfPage => true,

@@ -4,7 +4,7 @@ ghost use mathlib.Core.Bool.{true};
 ghost use Prim.Native.Nat.{_+_, _*_, _≤_};
 ghost use lib.ListN.{length};
 ghost use Rattle.part.specs.Rate.{acceptsRate};
-ghost use Rattle.frame.specs.Frame.{dataFrame};
+ghost use Rattle.frame.specs.Frame.{dataFrame, longest};
 ghost use Rattle.dock_job.specs.Job.{rangeLength, sizeOf};
 ghost use Rattle.part.specs.Part.{pageSize};
 ghost use Rattle.dock_job.specs.Refusals.{goodBlock, goodNamedPage, goodPage, goodStage};
@@ -153,7 +153,7 @@ fn page_footer(job: Job, page: u32) -> Footer
 }
 
 fn send_command(room: &mut [u8], command: Command) -> usize
-    requires { ⌜ 260 ≤ length (now room) ⌝ }
+    requires { ⌜ longest ≤ length (now room) ⌝ }
     ensures { λ r. ⌜ placed r (now (room .exit)) ≡ placing (frameOf command) (now (room .entry)) ⌝ }
 {
     let wrote = commands::write(room, command);
@@ -173,14 +173,14 @@ fn page_start(job: Job, block: u32, page: u32) -> usize
 }
 
 fn send_page(job: Job, image: &[u8], block: u32, page: u32, room: &mut [u8]) -> usize
-    requires { ⌜ (goodBlock job block ≡ true) × (goodPage job page ≡ true) × (length (now image) ≡ rangeLength job) × (260 ≤ length (now room)) ⌝ }
+    requires { ⌜ (goodBlock job block ≡ true) × (goodPage job page ≡ true) × (length (now image) ≡ rangeLength job) × (longest ≤ length (now room)) ⌝ }
     ensures { λ r. ⌜ placed r (now (room .exit)) ≡ placing (dataFrame (pageBytes job (now (image .entry)) block page) (pageFooter job page)) (now (room .entry)) ⌝ }
 {
     let at = page_start(job, block, page);
     let end = at + part::page_size();
     let footer = page_footer(job, page);
     wire::write_data(room, &image[at..end], footer);
-    260
+    frame::LONGEST
 }
 
 fn send_work(
@@ -191,7 +191,7 @@ fn send_work(
     command: Command,
     room: &mut [u8],
 ) -> usize
-    requires { ⌜ (goodBlock job block ≡ true) × (goodNamedPage job page ≡ true) × (length (now image) ≡ rangeLength job) × (260 ≤ length (now room)) ⌝ }
+    requires { ⌜ (goodBlock job block ≡ true) × (goodNamedPage job page ≡ true) × (length (now image) ≡ rangeLength job) × (longest ≤ length (now room)) ⌝ }
     ensures { λ r. ⌜ placed r (now (room .exit)) ≡ placing (workFrame job (now (image .entry)) block page command) (now (room .entry)) ⌝ }
 {
     match page {
@@ -202,7 +202,7 @@ fn send_work(
 
 fn put(job: Job, image: &[u8], stage: Stage, room: &mut [u8]) -> usize
     requires { ⌜ (acceptsRate (job .part) (job .rate) (job .supply) ≡ true) × (goodStage job stage ≡ true)
-        × (length (now image) ≡ rangeLength job) × (260 ≤ length (now room)) ⌝ }
+        × (length (now image) ≡ rangeLength job) × (longest ≤ length (now room)) ⌝ }
     ensures { λ r. ⌜ placed r (now (room .exit)) ≡ placing (frameAt job (now (image .entry)) stage) (now (room .entry)) ⌝ }
 {
     let query = query_with(job.rate as u8, job.supply as u8, job, stage);

@@ -28,9 +28,12 @@ lenByte n = n % 256
 unfoldable pub counted : ℕ → ℕ
 counted len = if eqb len 0x00 then 256 else len
 
--- What surrounds a payload: header, LEN, SUM and footer. The longest frame carries 256 bytes.
+-- What surrounds a payload: header, LEN, SUM and footer. It begins after header and LEN. The longest frame carries 256 bytes.
 abbrev pub overhead : ℕ
 overhead = 4
+
+abbrev pub payloadAt : ℕ
+payloadAt = 2
 
 abbrev pub longest : ℕ
 longest = 260
@@ -44,7 +47,7 @@ dataFrame ds f = framed Data ds f
 
 -- The payload of a complete frame, COM and information or the data: what lies between LEN and SUM.
 unfoldable pub payload : List ℕ → List ℕ
-payload bs = take (length bs - overhead) (drop 2 bs)
+payload bs = take (length bs - overhead) (drop payloadAt bs)
 
 -- "A frame is complete at LEN + 4 bytes.": so many bytes, LEN among them, are as many as the frame begun needs, or more.
 unfoldable pub full : ℕ → ℕ → Bool

@@ -9,6 +9,13 @@ pub mod judgement;
 pub mod sum;
 pub mod wire;
 
+// What surrounds a payload (header, LEN, SUM and footer), where it begins, and how long a frame is at most.
+pub const OVERHEAD: usize = 4;
+
+pub const PAYLOAD_AT: usize = 2;
+
+pub const LONGEST: usize = 260;
+
 pub enum Header {
     Command,
     Data,

@@ -65,7 +65,7 @@ fn show(frames: &[u8], text: &mut [u8]) -> bool
         if 256 < payload {
             return false;
         }
-        let n = payload + 4;
+        let n = payload + frame::OVERHEAD;
         if rest < n {
             return false;
         }

@@ -9,14 +9,18 @@ use Rattle.chip.specs.declared.events.Way.{Way}
 use Rattle.chip.specs.declared.events.Way.the-variants.{Completes, Hears, Mode}
 use Rattle.chip_core.specs.declared.Hearing.{Hearing}
 use Rattle.chip_core.specs.declared.Hearing.the-variants.{HearsCommands, HearsData, HearsNothing}
-use Rattle.frame.specs.Frame.{counted}
+use Rattle.frame.specs.Frame.{counted, overhead}
 use Rattle.frame.specs.declared.Header.{Header}
 use Rattle.frame.specs.declared.Header.the-variants.{Command, Data}
 use Rattle.words.specs.Words.{_and_, if_then_else_}
 
+-- What a frame has beside its payload before its last byte comes.
+abbrev pub beforeLast : ℕ
+beforeLast = overhead - 1
+
 -- The byte after these is the last of its frame.
 unfoldable pub completesAt : ℕ → ℕ → Bool
-completesAt count len = leb 2 count and leb (counted len + 3) count
+completesAt count len = leb 2 count and leb (counted len + beforeLast) count
 
 unfoldable pub wayOn : Header → ℕ → ℕ → Way
 wayOn h count len = if completesAt count len then Completes h else Hears h
@@ -29,7 +33,7 @@ wayOf (HearsData w) count len = wayOn Data count len
 -- Past header and LEN, so many of the bytes still to come are added without completing the frame.
 unfoldable pub lackingOf : ℕ → ℕ → ℕ → ℕ
 lackingOf count len rest =
-    if leb 2 count then (if ltb rest (counted len + 3 - count) then rest else counted len + 3 - count)
+    if leb 2 count then (if ltb rest (counted len + beforeLast - count) then rest else counted len + beforeLast - count)
     else 0
 
 -- What a byte came to, as a step.
