@@ -1,4 +1,4 @@
-pub mod Feeding
+pub mod Runs
 pub mod Settling
 pub mod Saying
-pub mod Stretching
+pub mod Adding

@@ -1,21 +1,17 @@
 -- Laws of what a step says: a reply lies in the room, has at most 31 bytes and two frames, and none without a frame.
 -- Assumes nothing.
-use mathlib.Core.Bool.{Bool, false, true}
-use mathlib.Core.List.{List, [], _∷_}
+use mathlib.Core.List.{List}
 use mathlib.Core.Path.{_∙_, _≡_, refl, sym}
-use Prim.Native.Nat.{_+_, _≤_, ℕ}
+use Prim.Native.Nat.{_≤_, ℕ}
 use native.Mathlib.Omega.{arith}
-use lib.Dec.{eqb}
 use lib.ListN.{length}
 use Rattle.chip_state.proofs.Laws.{accepts}
-use Rattle.chip.specs.Run.{Feeding, before, fedOn, feedFrom, feedOf, feeding, onward}
-use Rattle.chip.specs.Step.{Outcome, Reaction, settled, stepOf}
+use Rattle.chip.specs.Step.{Reaction, settled, stepOf}
 use Rattle.chip.specs.declared.Answer.{Answer}
 use Rattle.chip.specs.declared.Answer.the-variants.{Replied}
 use Rattle.chip.specs.declared.Answer.the-variants as Answer
 use Rattle.chip_state.specs.declared.Chip.{Chip}
 use Rattle.chip.specs.declared.Event.{Event}
-use Rattle.chip.specs.declared.Event.the-variants.{Byte}
 use Rattle.chip_core.specs.Effect.{Flash}
 use Rattle.part.specs.Part.{Arrays}
 use Rattle.part.specs.declared.Part.{Part}
@@ -25,7 +21,6 @@ use Rattle.part.specs.declared.refusal.Verdict.the-variants.{Accepted}
 use Rattle.part.specs.declared.refusal.Verdict.the-variants as Verdict
 use Rattle.chip_reply.proofs.Laws.{few-payloads, frames-long, no-frames, reply-long, said-keeps, said-lands}
 use Rattle.chip_reply.specs.Reply.{framesOf, payloads, saidOf}
-use Rattle.words.specs.Words.{if_then_else_}
 
 pub record Fitting (a : Answer) (room : ℕ) : Type 0 where
   pub long : (n k : ℕ) → a ≡ Replied n k → n ≤ 31
@@ -73,26 +68,8 @@ pub step-fits : (p : Part) (c : Chip) (v : Event) (m : Flash) (room : List ℕ) 
 unfolding stepOf
 step-fits p c v m room a = settled-fits _ p _ c m room a (λ e. accepts e .roomy)
 
-fed-on-fits : (a : Answer) (n : ℕ) (x : Outcome) (rest : Feeding) → Fitting (x .answer) (length (x .room)) → Fitting (rest .left .answer) (length (rest .left .room))
-    → Fitting (fedOn a n x rest .left .answer) (length (fedOn a n x rest .left .room))
-unfolding fedOn if_then_else_
-fed-on-fits (Answer.Refused r) n x rest f g = f
-fed-on-fits (Replied b k) n x rest f g = go (eqb k 0)
-  where
-    go : (t : Bool) → Fitting ((if t then rest else feeding (n + 1) x) .left .answer) (length ((if t then rest else feeding (n + 1) x) .left .room))
-    go true = g
-    go false = f
-
-feed-from-fits : (p : Part) (n : ℕ) (bs : List ℕ) (o : Outcome) → Arrays p → Fitting (o .answer) (length (o .room))
-    → Fitting (feedFrom p n bs o .left .answer) (length (feedFrom p n bs o .left .room))
-unfolding feedFrom
-feed-from-fits p n [] o a f = f
-feed-from-fits p n (b ∷ bs) o a f =
-    let g = step-fits p (o .chip) (Byte b) (o .memory) (o .room) a in
-    fed-on-fits _ n _ _ g (feed-from-fits p (n + 1) bs (onward p o (Byte b)) a g)
-
 -- Before any event nothing has been said.
-none-fits : (room : ℕ) → Fitting (Replied 0 0) room
+pub none-fits : (room : ℕ) → Fitting (Replied 0 0) room
 none-fits room =
     record {
       long = λ n k e. omega (arith, same-count _ _ n k e .0);
@@ -101,8 +78,3 @@ none-fits room =
       silent = λ n e. sym (same-count _ _ n 0 e .0);
       framed = λ n k e. omega (arith, same-count _ _ n k e .0, same-count _ _ n k e .1);
     }
-
-pub feed-fits : (p : Part) (bs : List ℕ) (c : Chip) (m : Flash) (room : List ℕ) → Arrays p
-    → Fitting (feedOf p bs (before c m room) .left .answer) (length (feedOf p bs (before c m room) .left .room))
-unfolding feedOf
-feed-fits p bs c m room a = feed-from-fits p 0 bs (before c m room) a (none-fits (length room))

@@ -1,6 +1,6 @@
 -- Laws of a step, over plain variables: what an accepted state gives, when a byte completes a frame, and how each way of a step settles.
 -- Assumes nothing.
-use mathlib.Core.Bool.{Bool, false, not, true}
+use mathlib.Core.Bool.{Bool, false, true}
 use mathlib.Core.List.{List, [], _++_, _∷_}
 use mathlib.Core.Path.{_∙_, _≡_, ap, refl, sym}
 use Prim.Native.Nat.{_+_, _-_, _<_, _≤_, ℕ}

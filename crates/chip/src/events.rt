@@ -1,20 +1,17 @@
 // One step of the chip: refusals first, then what is heard, then the work of a complete frame, then the reply in the room.
 // Document 01, "Frames" ("Collecting"), "Phases" and "Refusal numbers".
 ghost use mathlib.Core.Path.{_≡_};
-ghost use Prim.Native.Nat.{_≤_, _<_, _+_};
+ghost use Prim.Native.Nat.{_<_, _+_};
 ghost use lib.ListN.{length};
 ghost use Rattle.chip_core.specs.Effect.{flash, effect};
 ghost use Rattle.chip_core.specs.Hearing.{hearing};
 ghost use Rattle.chip_state.specs.Refusals.{verdictOn};
-ghost use Rattle.frame.specs.Frame.{counted};
 ghost use Rattle.part.specs.declared.refusal.Verdict.the-variants.{Accepted};
 ghost use Rattle.chip.specs.declared.Event.the-variants.{Byte};
-ghost use Rattle.chip.specs.Run.{before, fed, feedOf};
-ghost use Rattle.chip.specs.inner.Ways.{answered, completesAt, lackingOf, wayOn, wayOf};
+ghost use Rattle.chip.specs.inner.Ways.{answered, completesAt, wayOn, wayOf};
 ghost use Rattle.chip.specs.Step.{modeByte, poweredOn, frameDoes, outcome, stepOf, freshOf};
 use super::Answer;
 use super::Event;
-use super::Fed;
 use super::Step;
 use chip_core::Core;
 use chip_core::Done;
@@ -30,9 +27,6 @@ use frame::collector::Collector;
 use part::Part;
 use part::refusal::Refusal;
 use part::refusal::Verdict;
-
-// What a frame has beside its payload before its last byte comes.
-const BEFORE_LAST: usize = frame::OVERHEAD - 1;
 
 fn mode_byte(core: Core, b: u8) -> Core
     ensures { λ r. ⌜ r ≡ modeByte core b ⌝ }
@@ -53,7 +47,7 @@ fn completes(count: usize, len: u8) -> bool
     if count < 2 {
         return false;
     }
-    frame::counted(len) + BEFORE_LAST <= count
+    frame::counted(len) + frame::BEFORE_LAST <= count
 }
 
 // What a byte means in a state that is accepted: a mode byte, a byte that is heard, or one that completes a frame.
@@ -203,24 +197,6 @@ pub fn fresh(part: Part) -> Step
     }
 }
 
-// Past header and LEN: how many of the bytes still to come are added without completing the frame.
-fn lacking(count: usize, len: u8, rest: usize) -> usize
-    ensures { λ r. ⌜ (r ≡ lackingOf count len rest) × (counted len ≤ 256) ⌝ }
-{
-    if count < 2 {
-        return 0;
-    }
-    let last = frame::counted(len) + BEFORE_LAST;
-    if last <= count {
-        return 0;
-    }
-    let n = last - count;
-    if rest < n {
-        return rest;
-    }
-    n
-}
-
 // One event, with both areas of flash and the reply room lent. Refused, it changes nothing. A gap, power-on, and a byte that is only added to what is
 // collected, are settled here: the chip is then copied once in and once out. What any other byte takes is copied for it there, and not before.
 pub fn step(
@@ -280,7 +256,7 @@ pub fn step(
                 };
             }
             Event::Byte(b) => {
-                if 0 < lacking(at, len, 1) {
+                if 0 < frame::lacking(at, len, 1) {
                     let mut work = [0u8; frame::LONGEST];
                     let next = collector.add(b, &mut work);
                     return Step {
@@ -307,93 +283,5 @@ pub fn step(
                 };
             }
         },
-    }
-}
-
-// Bytes one after the other, each a step, up to the first that is answered: its reply is in the room, and the rest of the bytes is the caller's to hand in
-// again. A byte that is refused is not taken. The bytes that are only added to what is collected are taken at once, under one verdict.
-pub fn feed(
-    part: Part,
-    chip: Chip,
-    bytes: &[u8],
-    code: &mut [u8],
-    data: &mut [u8],
-    room: &mut [u8],
-) -> Fed
-    ensures { λ r. ⌜ fed r (flash (now (code .exit)) (now («data» .exit))) (now (room .exit))
-        ≡ feedOf part (now (bytes .entry)) (before chip (flash (now (code .entry)) (now («data» .entry))) (now (room .entry))) ⌝ }
-{
-    let mut last = Step {
-        answer: Answer::Replied {
-            bytes: 0,
-            frames: 0,
-        },
-        chip,
-    };
-    let mut i = 0;
-    while i < bytes.len() {
-        let next = last.chip;
-        let core = next.core;
-        let old = next.collector;
-        let at = old.len;
-        let len = old.bytes[1];
-        let handed = Handed {
-            count: at,
-            head: old.bytes[0],
-            len,
-            code: code.len(),
-            data: data.len(),
-            room: room.len(),
-        };
-        let v = chip_state::verdict(part, core, handed);
-        match v {
-            Verdict::Refused(refusal) => {
-                return Fed {
-                    taken: i,
-                    answer: Answer::Refused(refusal),
-                    chip: next,
-                };
-            }
-            Verdict::Accepted => {
-                let k = lacking(at, len, bytes.len() - i);
-                if 0 < k {
-                    let end = i + k;
-                    let collector = old.add_all(&bytes[i..end]);
-                    i = end;
-                    last = Step {
-                        answer: Answer::Replied {
-                            bytes: 0,
-                            frames: 0,
-                        },
-                        chip: Chip { core, collector },
-                    };
-                } else {
-                    let b = bytes[i];
-                    i = i + 1;
-                    let stepped = byte_step(part, next, b, code, data, room);
-                    let sent = stepped.sent;
-                    let chip = stepped.chip;
-                    let answer = Answer::Replied {
-                        bytes: sent.bytes,
-                        frames: sent.frames,
-                    };
-                    if 0 < sent.frames {
-                        return Fed {
-                            taken: i,
-                            answer,
-                            chip,
-                        };
-                    }
-                    last = Step { answer, chip };
-                }
-            }
-        }
-    }
-    let answer = last.answer;
-    let chip = last.chip;
-    Fed {
-        taken: i,
-        answer,
-        chip,
     }
 }

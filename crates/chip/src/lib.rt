@@ -19,10 +19,3 @@ pub struct Step {
     pub answer: Answer,
     pub chip: Chip,
 }
-
-// What a stretch of bytes came to: how many were taken, and what the step of the last one left.
-pub struct Fed {
-    pub taken: usize,
-    pub answer: Answer,
-    pub chip: Chip,
-}

@@ -3,7 +3,8 @@ use mathlib.Core.List.{List}
 use Prim.Native.Nat.{ℕ}
 use lib.Dec.{eqb}
 use lib.ListN.{length}
-use Rattle.chip.specs.Run.{before, feedOf}
+use Rattle.chip.specs.Run.{before}
+use Rattle.chip_feed.specs.Feed.{feedOf}
 use Rattle.chip.specs.Step.{freshOf, stepOf}
 use Rattle.chip.specs.declared.Answer.{Answer}
 use Rattle.chip.specs.declared.Answer.the-variants.{Replied}

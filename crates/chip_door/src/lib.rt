@@ -246,7 +246,7 @@ pub extern "C" fn zc_feed(
         }
         Verdict::Accepted => {
             let chip = chip_layout::chip_in(state);
-            let f = events::feed(part, chip, fed, code, data, room);
+            let f = chip_feed::feed(part, chip, fed, code, data, room);
             let answer = f.answer;
             chip_layout::lay_chip(f.chip, state);
             *taken = f.taken;

@@ -6,7 +6,7 @@ use Prim.Native.Nat.{_+_, _<_, _≤_, suc, ℕ}
 use native.Mathlib.Numerals.{add-one}
 use lib.ListN.{drop, drop-of-length-le, getD, length}
 use lib.Seq.{drop-cons}
-use Rattle.chip.proofs.Feeding.{run-more, run-none}
+use Rattle.chip.proofs.Runs.{run-more, run-none}
 use Rattle.chip.specs.Run.{run}
 use Rattle.chip.specs.Step.{Outcome, stepOf}
 use Rattle.chip.specs.declared.Event.the-variants.{Byte}

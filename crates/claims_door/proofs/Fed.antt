@@ -7,7 +7,8 @@ use native.Mathlib.Omega.{arith}
 use lib.Dec.{eqb}
 use lib.ListN.{drop, length, length-drop}
 use lib.Seq.{length-take-le}
-use Rattle.chip.specs.Run.{Feeding, before, fedOn, feedFrom, feedOf, onward}
+use Rattle.chip.specs.Run.{before, onward}
+use Rattle.chip_feed.specs.Feed.{Feeding, fedOn, feedFrom, feedOf}
 use Rattle.chip.specs.Step.{Outcome, Reaction, reactTo, settled}
 use Rattle.chip.specs.declared.Answer.{Answer}
 use Rattle.chip.specs.declared.Answer.the-variants.{Replied}

@@ -5,7 +5,7 @@ use mathlib.Core.List.{List, [], _++_, _∷_, map}
 use mathlib.Core.Path.{_∙_, _≡_, ap, refl, sym}
 use Prim.Native.Nat.{ℕ}
 use denote.Ref.{now}
-use Rattle.chip.proofs.Feeding.{run-append}
+use Rattle.chip.proofs.Runs.{run-append}
 use Rattle.chip.specs.Run.{answers, onward, run, spokenIn}
 use Rattle.chip.specs.Step.{Outcome, reactTo, stepOf}
 use Rattle.chip.specs.declared.Event.{Event}

@@ -2,7 +2,6 @@
 -- Assumes nothing.
 use mathlib.Core.Path.{_∙_, sym}
 use denote.Ref.{now}
-use Rattle.chip.specs.Run.{fed}
 use Rattle.chip.specs.Step.{outcome}
 use Rattle.chip_core.specs.Effect.{flash}
 use Rattle.claims_outcome.proofs.Outcome.{Once}
@@ -10,14 +9,9 @@ use Rattle.chip.proofs.events.fresh.Reads as events-fresh
 use Rattle.chip.proofs.events.fresh.Kinds as events-fresh-kinds
 use Rattle.chip.proofs.events.step.Reads as events-step
 use Rattle.chip.proofs.events.step.Kinds as events-step-kinds
-use Rattle.chip.proofs.events.feed.Reads as events-feed
-use Rattle.chip.proofs.events.feed.Kinds as events-feed-kinds
 
 pub events-fresh-once : Once events-fresh-kinds.ps events-fresh-kinds.r events-fresh.Post (λ κs r x. r)
 events-fresh-once κs a r s x y p q = p ∙ sym q
 
 pub events-step-once : Once events-step-kinds.ps events-step-kinds.r events-step.Post (λ κs r x. outcome r (flash (now (x .1 .1 .1 .0)) (now (x .1 .1 .1 .1 .0))) (now (x .1 .1 .1 .1 .1 .0)))
 events-step-once κs a r s x y p q = p ∙ sym q
-
-pub events-feed-once : Once events-feed-kinds.ps events-feed-kinds.r events-feed.Post (λ κs r x. fed r (flash (now (x .1 .1 .1 .0)) (now (x .1 .1 .1 .1 .0))) (now (x .1 .1 .1 .1 .1 .0)))
-events-feed-once κs a r s x y p q = p ∙ sym q

@@ -51,6 +51,8 @@ use Rattle.frame.proofs.counted.Reads as counted
 use Rattle.frame.proofs.counted.Kinds as counted-kinds
 use Rattle.frame.proofs.is_full.Reads as is-full
 use Rattle.frame.proofs.is_full.Kinds as is-full-kinds
+use Rattle.frame.proofs.lacking.Reads as lacking
+use Rattle.frame.proofs.lacking.Kinds as lacking-kinds
 use Rattle.frame.proofs.is_frame.Reads as is-frame
 use Rattle.frame.proofs.is_frame.Kinds as is-frame-kinds
 use Rattle.frame.proofs.payload.Reads as payload
@@ -124,6 +126,9 @@ counted-once κs a r s x y p q = p ∙ sym q
 
 pub is-full-once : Once is-full-kinds.ps is-full-kinds.r is-full.Post (λ κs r x. r)
 is-full-once κs a r s x y p q = p ∙ sym q
+
+pub lacking-once : Once lacking-kinds.ps lacking-kinds.r lacking.Post (λ κs r x. r)
+lacking-once κs a r s x y p q = p ∙ sym q
 
 pub is-frame-once : Once is-frame-kinds.ps is-frame-kinds.r is-frame.Post (λ κs r x. r)
 is-frame-once κs a r s x y p q = p ∙ sym q

@@ -3,6 +3,7 @@ pub mod Chip
 pub mod ChipCommands
 pub mod ChipCore
 pub mod ChipDoor
+pub mod ChipFeed
 pub mod ChipFlash
 pub mod ChipLayout
 pub mod ChipOptions
@@ -25,4 +26,5 @@ pub mod Part
 pub mod ReplayCapture
 pub mod ReplayDoor
 pub mod ReplayHex
+pub mod ReplayPlay
 pub mod ReplayRecords

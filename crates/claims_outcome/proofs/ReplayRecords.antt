@@ -3,17 +3,12 @@
 use mathlib.Core.Path.{_∙_, sym}
 use denote.Ref.{now}
 use Rattle.chip_core.specs.Effect.{flash}
-use Rattle.replay_records.specs.Records.{recordPlaying, replaying}
+use Rattle.replay_records.specs.Records.{replaying}
 use Rattle.claims_outcome.proofs.Outcome.{Once}
-use Rattle.replay_records.proofs.play.Reads as play
-use Rattle.replay_records.proofs.play.Kinds as play-kinds
 use Rattle.replay_records.proofs.replay.Reads as replay
 use Rattle.replay_records.proofs.replay.Kinds as replay-kinds
 use Rattle.replay_records.proofs.replay_part.Reads as replay-part
 use Rattle.replay_records.proofs.replay_part.Kinds as replay-part-kinds
-
-pub play-once : Once play-kinds.ps play-kinds.r play.Post (λ κs r x. recordPlaying r (flash (now (x .1 .1 .1 .0)) (now (x .1 .1 .1 .1 .0))) (now (x .1 .1 .1 .1 .1 .0)) (now (x .1 .1 .1 .1 .1 .1 .0)))
-play-once κs a r s x y p q = p ∙ sym q
 
 pub replay-once : Once replay-kinds.ps replay-kinds.r replay.Post (λ κs r x. replaying r (flash (now (x .1 .1 .1 .0)) (now (x .1 .1 .1 .1 .0))) (now (x .1 .1 .1 .1 .1 .0)) (now (x .1 .1 .1 .1 .1 .1 .0)))
 replay-once κs a r s x y p q = p ∙ sym q

@@ -27,14 +27,15 @@ use Rattle.chip_core.specs.Effect.{Flash}
 use Rattle.frame.proofs.Laws.Sum.{Below, below-drop, below-take, more, none}
 use Rattle.part.specs.declared.Part.{Part}
 use Rattle.part.specs.declared.refusal.Refusal.{Refusal}
-use Rattle.replay_records.proofs.Laws.{goes-replied, play-fits, play-keeps}
-use Rattle.replay_records.specs.Records.{Playing, Replaying, RecordPlaying, afterRecord, eventsOf, playedInto, nextBy, outputLeast, played, replayOf, replayedFrom, answering, beforePlaying, playBy, playOf, playWith, endedBy, whileWhole}
+use Rattle.replay_play.proofs.Laws.{goes-replied, play-fits, play-keeps}
+use Rattle.replay_records.specs.Records.{Replaying, afterRecord, nextBy, replayOf, replayedFrom, whileWhole}
+use Rattle.replay_play.specs.Play.{Playing, RecordPlaying, eventsOf, playedInto, outputLeast, played, answering, beforePlaying, playBy, playOf, playWith, endedBy}
 use Rattle.replay_records.specs.declared.Ended.{Ended}
 use Rattle.replay_records.specs.declared.Ended.the-variants.{Whole}
 use Rattle.replay_records.specs.declared.Ended.the-variants as Ended
-use Rattle.replay_records.specs.declared.RecordEnded.{RecordEnded}
-use Rattle.replay_records.specs.declared.RecordEnded.the-variants.{NotGood, Played}
-use Rattle.replay_records.specs.declared.RecordEnded.the-variants as RecordEnded
+use Rattle.replay_play.specs.declared.RecordEnded.{RecordEnded}
+use Rattle.replay_play.specs.declared.RecordEnded.the-variants.{NotGood, Played}
+use Rattle.replay_play.specs.declared.RecordEnded.the-variants as RecordEnded
 use Rattle.words.specs.Words.{if_then_else_}
 
 -- An outcome stands whatever its last answer was.

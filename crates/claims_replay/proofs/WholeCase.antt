@@ -21,7 +21,8 @@ use Rattle.chip_options.specs.Options.{fixedBits, freshOptions, goodOptions, is
 use Rattle.part.specs.Part.{blockOf, blockSize, described, endsBlock, lastOf, liesIn, pageOf, placeIn, placeOf, rangeOf, startsBlock, stretch, wholeBlocks}
 use Rattle.part.specs.Rate.{acceptsRate, modeOf}
 use Rattle.part.specs.Refusal.{firstOf}
-use Rattle.replay_records.specs.Records.{answering, endedBy, eventsOf, goesOn, nextBy, playBy, playOf, playWith, played, playedInto, replayOf, replayedFrom, whileWhole}
+use Rattle.replay_records.specs.Records.{nextBy, replayOf, replayedFrom, whileWhole}
+use Rattle.replay_play.specs.Play.{answering, endedBy, eventsOf, goesOn, playBy, playOf, playWith, played, playedInto}
 use Rattle.chip_reply.specs.Reply.{framesOf, payloads, saidOf}
 use Rattle.words.specs.Words.{_and_, _from_to_, _or_, if_then_else_}
 use Rattle.chip_flash.specs.Flash.{blank, eraseOf, sumOfBytes}

@@ -7,7 +7,8 @@ use Rattle.chip.specs.Step.{freshChip}
 use Rattle.chip_core.specs.Effect.{flash}
 use Rattle.frame.specs.Frame.{counted}
 use Rattle.replay_hex.specs.Hex.{lineOf}
-use Rattle.replay_records.specs.Records.{Replaying, outputLeast, replayOf, replayPart}
+use Rattle.replay_records.specs.Records.{Replaying, replayOf, replayPart}
+use Rattle.replay_play.specs.Play.{outputLeast}
 use Rattle.replay_records.specs.declared.Ended.{Ended}
 use Rattle.replay_records.specs.declared.Ended.the-variants.{AtBadRecord, Refused, Whole}
 use Rattle.words.specs.Words.{if_then_else_}

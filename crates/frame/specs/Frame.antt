@@ -2,7 +2,7 @@
 use mathlib.Core.Bool.{Bool}
 use mathlib.Core.List.{List, [], _++_, _∷_}
 use Prim.Native.Nat.{_%_, _+_, _-_, ℕ}
-use lib.Dec.{eqb, leb}
+use lib.Dec.{eqb, leb, ltb}
 use lib.ListN.{drop, getD, length, take}
 use Rattle.frame.specs.Sum.{sumOf}
 use Rattle.frame.specs.declared.Footer.{Footer}
@@ -55,6 +55,16 @@ full count len = leb 2 count and leb (counted len + overhead) count
 
 unfoldable pub complete : List ℕ → Bool
 complete bs = full (length bs) (getD bs 1 0)
+
+-- What a frame has beside its payload before its last byte comes.
+abbrev pub beforeLast : ℕ
+beforeLast = overhead - 1
+
+-- Once header and LEN have come, so many of the bytes still to come are added without completing the frame.
+unfoldable pub lackingOf : ℕ → ℕ → ℕ → ℕ
+lackingOf count len rest =
+    if leb 2 count then (if ltb rest (counted len + beforeLast - count) then rest else counted len + beforeLast - count)
+    else 0
 
 -- These bytes are one complete frame and nothing after it.
 unfoldable pub isFrame : List ℕ → Bool

@@ -2,7 +2,7 @@
 // judgement of a complete frame, and the writing and reading of frames. Chip and dock rest on it and see only what it promises.
 ghost use mathlib.Core.Path.{_≡_};
 ghost use Prim.Native.Nat.{_+_, _≤_};
-ghost use Rattle.frame.specs.Frame.{headerByte, footerByte, lenByte, counted, full, isFrame, payload};
+ghost use Rattle.frame.specs.Frame.{headerByte, footerByte, lenByte, counted, full, isFrame, lackingOf, payload};
 
 pub mod collector;
 pub mod judgement;
@@ -15,6 +15,9 @@ pub const OVERHEAD: usize = 4;
 pub const PAYLOAD_AT: usize = 2;
 
 pub const LONGEST: usize = 260;
+
+// What a frame has beside its payload before its last byte comes.
+pub const BEFORE_LAST: usize = OVERHEAD - 1;
 
 pub enum Header {
     Command,
@@ -80,6 +83,24 @@ pub fn is_full(count: usize, len: u8) -> bool
         return false;
     }
     needed(len) <= count
+}
+
+// How many of the bytes still to come are added without completing the frame, its header and LEN having come.
+pub fn lacking(count: usize, len: u8, rest: usize) -> usize
+    ensures { λ r. ⌜ r ≡ lackingOf count len rest ⌝ }
+{
+    if count < 2 {
+        return 0;
+    }
+    let last = counted(len) + BEFORE_LAST;
+    if last <= count {
+        return 0;
+    }
+    let n = last - count;
+    if rest < n {
+        return rest;
+    }
+    n
 }
 
 pub fn is_frame(bytes: &[u8]) -> bool

@@ -2,7 +2,7 @@
 -- Assumes nothing.
 use mathlib.Core.List.{List, [], _++_, _∷_, append-nil}
 use mathlib.Core.Path.{_∙_, _≡_, ap, subst, sym}
-use Prim.Native.Nat.{_+_, _-_, _<_, _≤_, zero, ℕ}
+use Prim.Native.Nat.{_+_, _-_, _<_, _≤_, ℕ}
 use native.Mathlib.Decide.{decLe}
 use native.Mathlib.Nat.{add-zero}
 use native.Mathlib.Omega.{arith}
@@ -16,14 +16,15 @@ use Rattle.chip_state.specs.declared.Chip.{Chip}
 use Rattle.chip_core.specs.Effect.{Flash}
 use Rattle.part.specs.declared.Part.{Part}
 use Rattle.part.specs.declared.refusal.Refusal.{Refusal}
-use Rattle.replay_records.proofs.Laws.{Fits, play-fits}
-use Rattle.replay_records.specs.Records.{Replaying, RecordPlaying, afterRecord, nextBy, replayOf, replayedFrom, playOf, whileWhole}
+use Rattle.replay_play.proofs.Laws.{Fits, play-fits}
+use Rattle.replay_records.specs.Records.{Replaying, afterRecord, nextBy, replayOf, replayedFrom, whileWhole}
+use Rattle.replay_play.specs.Play.{RecordPlaying, playOf}
 use Rattle.replay_records.specs.declared.Ended.{Ended}
 use Rattle.replay_records.specs.declared.Ended.the-variants.{AtBadRecord, Whole}
 use Rattle.replay_records.specs.declared.Ended.the-variants as Ended
-use Rattle.replay_records.specs.declared.RecordEnded.{RecordEnded}
-use Rattle.replay_records.specs.declared.RecordEnded.the-variants.{NotGood, Played}
-use Rattle.replay_records.specs.declared.RecordEnded.the-variants as RecordEnded
+use Rattle.replay_play.specs.declared.RecordEnded.{RecordEnded}
+use Rattle.replay_play.specs.declared.RecordEnded.the-variants.{NotGood, Played}
+use Rattle.replay_play.specs.declared.RecordEnded.the-variants as RecordEnded
 use Rattle.replay_records.specs.inner.Loop.{recordEnd}
 use Rattle.words.specs.Words.{if_then_else_}
 

@@ -1,7 +1,7 @@
--- The ways of a byte, by the count and the LEN byte of what is collected, as the code decides them; and how many bytes to come are only added.
+-- The ways of a byte, by the count and the LEN byte of what is collected, as the code decides them.
 use mathlib.Core.Bool.{Bool}
-use Prim.Native.Nat.{_+_, _-_, ℕ}
-use lib.Dec.{leb, ltb}
+use Prim.Native.Nat.{_+_, ℕ}
+use lib.Dec.{leb}
 use Rattle.chip.specs.Step.{replied}
 use Rattle.chip.specs.declared.Step.{Step}
 use Rattle.chip.specs.declared.events.ByteDone.{ByteDone}
@@ -9,14 +9,10 @@ use Rattle.chip.specs.declared.events.Way.{Way}
 use Rattle.chip.specs.declared.events.Way.the-variants.{Completes, Hears, Mode}
 use Rattle.chip_core.specs.declared.Hearing.{Hearing}
 use Rattle.chip_core.specs.declared.Hearing.the-variants.{HearsCommands, HearsData, HearsNothing}
-use Rattle.frame.specs.Frame.{counted, overhead}
+use Rattle.frame.specs.Frame.{beforeLast, counted}
 use Rattle.frame.specs.declared.Header.{Header}
 use Rattle.frame.specs.declared.Header.the-variants.{Command, Data}
 use Rattle.words.specs.Words.{_and_, if_then_else_}
-
--- What a frame has beside its payload before its last byte comes.
-abbrev pub beforeLast : ℕ
-beforeLast = overhead - 1
 
 -- The byte after these is the last of its frame.
 unfoldable pub completesAt : ℕ → ℕ → Bool
@@ -29,12 +25,6 @@ unfoldable pub wayOf : Hearing → ℕ → ℕ → Way
 wayOf HearsNothing count len = Mode
 wayOf HearsCommands count len = wayOn Command count len
 wayOf (HearsData w) count len = wayOn Data count len
-
--- Past header and LEN, so many of the bytes still to come are added without completing the frame.
-unfoldable pub lackingOf : ℕ → ℕ → ℕ → ℕ
-lackingOf count len rest =
-    if leb 2 count then (if ltb rest (counted len + beforeLast - count) then rest else counted len + beforeLast - count)
-    else 0
 
 -- What a byte came to, as a step.
 abbrev pub answered : ByteDone → Step

@@ -5,11 +5,11 @@ use mathlib.Core.List.{List, [], _++_, _∷_}
 use mathlib.Core.Path.{_∙_, _≡_, refl}
 use Prim.Native.Nat.{_+_, _-_, _<_, _≤_, suc, ℕ}
 use native.Mathlib.Omega.{arith}
-use lib.Dec.{eqb, leb}
+use lib.Dec.{eqb, leb, ltb}
 use lib.ListN.{drop, getD, length, length-append, length-drop, take}
 use lib.Seq.{drop-length, getD-drop, getD-take, length-take-le, take-append-seam, take-nil}
-use borrow.Author.Tests.{eqb-false, eqb-true, le-leb, leb-false, lt-leb}
-use Rattle.frame.specs.Frame.{counted, footerByte, framed, full, isFrame, lenByte, overhead, payload}
+use borrow.Author.Tests.{eqb-false, eqb-true, le-leb, le-ltb, leb-false, leb-true, lt-leb, lt-ltb, ltb-false, ltb-true}
+use Rattle.frame.specs.Frame.{counted, footerByte, framed, full, isFrame, lackingOf, lenByte, overhead, payload}
 use Rattle.frame.specs.Sum.{sumOf}
 use Rattle.frame.specs.declared.Footer.{Footer}
 use Rattle.frame.specs.declared.Header.{Header}
@@ -87,3 +87,38 @@ unfolding payload
 payload-none bs h =
     let e : length bs - 4 ≡ 0 = omega arith in
     rw (drop-length, take-nil, e)
+
+-- How many bytes are lacking: no more than there are, and the frame is not complete after them.
+pub record Lacks (count len rest n : ℕ) : Type 0 where
+  pub begun : 2 ≤ count
+  pub short : count + n ≤ counted len + 3
+  pub there : n ≤ rest
+
+pub lacks : (count len rest n : ℕ) → n ≡ lackingOf count len rest → 0 < n → Lacks count len rest n
+unfolding lackingOf if_then_else_
+lacks count len rest n e h = go (leb 2 count) refl (ltb rest (counted len + 3 - count)) refl e
+  where
+    go : (t : Bool) → leb 2 count ≡ t → (u : Bool) → ltb rest (counted len + 3 - count) ≡ u
+        → n ≡ (if t then (if u then rest else counted len + 3 - count) else 0) → Lacks count len rest n
+    go false t u v e = absurd (omega arith)
+    go true t true v e = record { begun = leb-true _ _ t; short = omega (arith, ltb-true rest (counted len + 3 - count) v); there = omega arith }
+    go true t false v e = record { begun = leb-true _ _ t; short = omega arith; there = omega (arith, ltb-false rest (counted len + 3 - count) v) }
+
+-- How many bytes are lacking, by the code's tests; x is what LEN counts.
+pub lacking-early : (count len rest : ℕ) → count < 2 → 0 ≡ lackingOf count len rest
+unfolding lackingOf if_then_else_
+lacking-early count len rest h = simp (lt-leb 2 count h)
+
+pub lacking-none : (x count len rest : ℕ) → x ≡ counted len → 2 ≤ count → x + 3 ≤ count → 0 ≡ lackingOf count len rest
+unfolding lackingOf if_then_else_
+lacking-none x count len rest e h k =
+    let z : counted len + 3 - count ≡ 0 = omega arith in
+    simp (le-leb 2 count h, z, le-ltb rest 0 (omega arith))
+
+pub lacking-rest : (x count len rest : ℕ) → x ≡ counted len → 2 ≤ count → rest < x + 3 - count → rest ≡ lackingOf count len rest
+unfolding lackingOf if_then_else_
+lacking-rest x count len rest e h k = simp (le-leb 2 count h, lt-ltb rest (counted len + 3 - count) (omega arith))
+
+pub lacking-whole : (x count len rest : ℕ) → x ≡ counted len → 2 ≤ count → x + 3 - count ≤ rest → x + 3 - count ≡ lackingOf count len rest
+unfolding lackingOf if_then_else_
+lacking-whole x count len rest e h k = simp (le-leb 2 count h, le-ltb rest (counted len + 3 - count) (omega arith)) (omega arith)

@@ -5,7 +5,7 @@ use lib.ListN.{length}
 use borrow.Author.Needs.{needs}
 use Rattle.chip_state.proofs.Laws.{accepts}
 use Rattle.chip.proofs.Settling.{at-gap, at-power-on, emptied, same-event, step-accepted, step-barred}
-use Rattle.chip.proofs.Stretching.{byte-adds}
+use Rattle.chip.proofs.Adding.{byte-adds}
 use Rattle.chip.specs.declared.Event.the-variants.{Gap, PowerOn}
 use Rattle.frame.proofs.Laws.Collector.{adds-collector}
 use Rattle.chip.proofs.events.step.Statement.{statement}
@@ -42,7 +42,7 @@ returns-4 c =
     let event = c .before .before .before .before .before .event in
     let lacking = c .before .before .before .lacking in
     let if1 = c .before .before .if1 in
-    byte-adds _ _ _ _ _ _ _ _ (long start) (lacking .ensures .1) (sym (verdict .ensures) ∙ enum-told .given .1) (lacking .ensures .0) (if1 .taken) (event .given .1) (adds-collector _ _ _ _ (c .add .ensures))
+    byte-adds _ _ _ _ _ _ _ _ (long start) (sym (verdict .ensures) ∙ enum-told .given .1) (lacking .ensures) (if1 .taken) (event .given .1) (adds-collector _ _ _ _ (c .add .ensures))
 
 byte-step-requires : tie.Need-byte-step-requires
 byte-step-requires c κs =

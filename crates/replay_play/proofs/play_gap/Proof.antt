@@ -1,11 +1,11 @@
--- `replay_records::play_gap` meets its contract: one event alone.
+-- `replay_play::play_gap` meets its contract: one event alone.
 -- Assumes nothing.
 use native.Mathlib.Omega.{arith}
 use borrow.Author.Needs.{needs}
 use Rattle.part.specs.Part.{Arrays}
-use Rattle.replay_records.proofs.Laws.{one-lies, one-refused, one-said}
-use Rattle.replay_records.proofs.play_gap.Statement.{statement}
-use Rattle.replay_records.proofs.play_gap.Tie as tie
+use Rattle.replay_play.proofs.Laws.{one-lies, one-refused, one-said}
+use Rattle.replay_play.proofs.play_gap.Statement.{statement}
+use Rattle.replay_play.proofs.play_gap.Tie as tie
 
 -- The lengths of the part's arrays.
 arrays : (c : tie.Start) → Arrays (c .args .part)

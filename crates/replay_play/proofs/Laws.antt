@@ -13,10 +13,12 @@ use Rattle.replay_capture.proofs.Laws.{Carries, carries-is}
 use Rattle.replay_capture.specs.Capture.{carriedBytes, recordOf, recordSize, six}
 use Rattle.replay_capture.specs.declared.Record.{Record}
 use Rattle.replay_capture.specs.declared.Record.the-variants.{BadRecord, BytesRecord, GapRecord}
-use Rattle.chip.proofs.Feeding.{feed-is, feed-next, feed-none, feed-takes, feed-within, on-refused, on-said, on-silent}
+use Rattle.chip_feed.proofs.Feeding.{feed-is, feed-next, feed-none, feed-takes, feed-within, on-refused, on-said, on-silent}
 use Rattle.part.specs.Part.{Arrays}
-use Rattle.chip.proofs.Saying.{Fitting, feed-fits, step-fits}
-use Rattle.chip.specs.Run.{Feeding, before, fedOn, feedFrom, feedOf, onward}
+use Rattle.chip.proofs.Saying.{Fitting, step-fits}
+use Rattle.chip_feed.proofs.Feeding.{feed-fits}
+use Rattle.chip.specs.Run.{before, onward}
+use Rattle.chip_feed.specs.Feed.{Feeding, fedOn, feedFrom, feedOf}
 use Rattle.chip.specs.Step.{Outcome, stepOf}
 use Rattle.chip.specs.declared.Answer.{Answer}
 use Rattle.chip.specs.declared.Answer.the-variants.{Replied}
@@ -32,10 +34,10 @@ use Rattle.lent.specs.declared.Room.{Room}
 use Rattle.part.specs.declared.Part.{Part}
 use Rattle.part.specs.declared.refusal.Refusal.{Refusal}
 use Rattle.part.specs.declared.refusal.Refusal.the-variants.{ShortRoom}
-use Rattle.replay_records.specs.Records.{Playing, RecordPlaying, eventsOf, goesOn, playedInto, played, answering, beforePlaying, playBy, playOf, playWith, endedBy, recordPlaying}
-use Rattle.replay_records.specs.declared.RecordEnded.{RecordEnded}
-use Rattle.replay_records.specs.declared.RecordEnded.the-variants.{NotGood, Played}
-use Rattle.replay_records.specs.declared.RecordEnded.the-variants as RecordEnded
+use Rattle.replay_play.specs.Play.{Playing, RecordPlaying, eventsOf, goesOn, playedInto, played, answering, beforePlaying, playBy, playOf, playWith, endedBy, recordPlaying}
+use Rattle.replay_play.specs.declared.RecordEnded.{RecordEnded}
+use Rattle.replay_play.specs.declared.RecordEnded.the-variants.{NotGood, Played}
+use Rattle.replay_play.specs.declared.RecordEnded.the-variants as RecordEnded
 use Rattle.words.specs.Words.{if_then_else_}
 
 abbrev after : Outcome → Playing → Playing

@@ -1,15 +1,15 @@
--- `replay_records::play` meets its contract: the judgement of the record first, then the room for its replies, then its events.
+-- `replay_play::play` meets its contract: the judgement of the record first, then the room for its replies, then its events.
 -- Assumes nothing.
 use mathlib.Core.Path.{_∙_, sym}
 use native.Mathlib.Omega.{arith}
 use borrow.Author.Needs.{needs}
 use borrow.Author.Tests.{le-ltb, lt-ltb}
 use Rattle.replay_capture.proofs.Laws.{carries-is}
-use Rattle.replay_records.proofs.Laws.{carried-short, play-bytes-is}
-use Rattle.replay_records.specs.Records.{eventsOf, playBy, playOf, playWith}
+use Rattle.replay_play.proofs.Laws.{carried-short, play-bytes-is}
+use Rattle.replay_play.specs.Play.{eventsOf, playBy, playOf, playWith}
 use Rattle.words.specs.Words.{if_then_else_}
-use Rattle.replay_records.proofs.play.Statement.{statement}
-use Rattle.replay_records.proofs.play.Tie as tie
+use Rattle.replay_play.proofs.play.Statement.{statement}
+use Rattle.replay_play.proofs.play.Tie as tie
 
 returns : tie.Need-returns
 unfolding playOf playBy playWith eventsOf if_then_else_

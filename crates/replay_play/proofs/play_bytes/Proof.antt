@@ -1,4 +1,4 @@
--- `replay_records::play_bytes` meets its contract: what the bytes still to come make of what was played stays the same from turn to turn.
+-- `replay_play::play_bytes` meets its contract: what the bytes still to come make of what was played stays the same from turn to turn.
 -- Assumes nothing.
 use mathlib.Core.List.{map}
 use mathlib.Core.Path.{_∙_, _≡_, refl}
@@ -10,11 +10,11 @@ use Rattle.part.specs.Part.{Arrays}
 use Rattle.chip.specs.declared.Event.the-variants.{Byte}
 use Rattle.chip_core.specs.Effect.{flash}
 use Rattle.frame.specs.Framing.{frames}
-use Rattle.replay_records.proofs.Laws.{PlayedFrom, played-end, played-refused, played-start, played-turn, turn-said, turn-takes, turn-within}
-use Rattle.replay_records.specs.Records.{played, beforePlaying}
+use Rattle.replay_play.proofs.Laws.{PlayedFrom, played-end, played-refused, played-start, played-turn, turn-said, turn-takes, turn-within}
+use Rattle.replay_play.specs.Play.{played, beforePlaying}
 use Rattle.chip_reply.specs.Reply.{said}
-use Rattle.replay_records.proofs.play_bytes.Statement.{statement}
-use Rattle.replay_records.proofs.play_bytes.Tie as tie
+use Rattle.replay_play.proofs.play_bytes.Statement.{statement}
+use Rattle.replay_play.proofs.play_bytes.Tie as tie
 
 abbrev Inv-loop : tie.InvT-loop
 Inv-loop part bytes code₀ data₀ room₀ output₀ last₀ i₀ said₀ frames₀ code «data» room output last i said frames =

@@ -1,8 +1,8 @@
--- Laws of runs: the append laws, and how far a loop over bytes has come.
+-- Laws of a stretch of bytes: how far a loop over it has come, and how many bytes are taken.
 -- Assumes nothing.
 use mathlib.Core.Bool.{Bool, false, true}
-use mathlib.Core.List.{List, [], _++_, _∷_}
-use mathlib.Core.Path.{_∙_, _≡_, refl, sym}
+use mathlib.Core.List.{List, [], _∷_}
+use mathlib.Core.Path.{_∙_, _≡_, ap, refl, sym}
 use Prim.Native.Nat.{_+_, _<_, _≤_, ℕ}
 use native.Mathlib.Numerals.{add-one}
 use native.Mathlib.Omega.{arith}
@@ -10,20 +10,19 @@ use lib.Dec.{eqb}
 use lib.ListN.{drop, drop-of-length-le, getD, length}
 use lib.Seq.{drop-cons}
 use borrow.Author.Tests.{eq-eqb, ne-eqb}
-use Rattle.chip.specs.Run.{Feeding, fedOn, feedFrom, feedOf, feeding, onward, run}
+use Rattle.chip.proofs.Saying.{Fitting, none-fits, step-fits}
+use Rattle.chip.specs.Run.{before, onward}
 use Rattle.chip.specs.Step.{Outcome, stepOf}
 use Rattle.chip.specs.declared.Answer.{Answer}
 use Rattle.chip.specs.declared.Answer.the-variants.{Refused, Replied}
-use Rattle.chip.specs.declared.Event.{Event}
 use Rattle.chip.specs.declared.Event.the-variants.{Byte}
+use Rattle.chip_core.specs.Effect.{Flash}
+use Rattle.chip_feed.specs.Feed.{Feeding, fedOn, feedFrom, feedOf, feeding}
+use Rattle.chip_state.specs.declared.Chip.{Chip}
+use Rattle.part.specs.Part.{Arrays}
 use Rattle.part.specs.declared.Part.{Part}
 use Rattle.part.specs.declared.refusal.Refusal.{Refusal}
 use Rattle.words.specs.Words.{if_then_else_}
-
-pub run-append : (p : Part) (us vs : List Event) (o : Outcome) → run p (us ++ vs) o ≡ run p vs (run p us o)
-unfolding run
-run-append p [] vs o = refl
-run-append p (u ∷ us) vs o = run-append p us vs (onward p o u)
 
 -- How far a loop over bytes has come: t is what the bytes still to come make of o.
 pub record FedFrom (p : Part) (bs : List ℕ) (i : ℕ) (o : Outcome) (t : Feeding) : Type 0 where
@@ -64,6 +63,10 @@ on-said a i n k x rest e z = rw (e, ne-eqb k 0 (λ q. omega arith))
 pub on-refused : (a : Answer) (i : ℕ) (r : Refusal) (x : Outcome) (rest : Feeding) → a ≡ Refused r → feeding i x ≡ fedOn a i x rest
 unfolding fedOn
 on-refused a i r x rest e = rw e
+
+-- An outcome whose answer has been looked at.
+pub looked-at : {x : Outcome} {a : Answer} → x .answer ≡ a → _≡_ {A = Outcome} (record { answer = a; chip = x .chip; memory = x .memory; room = x .room }) x
+looked-at {x} {a} e = ap (λ (z : Answer). record { answer = z; chip = x .chip; memory = x .memory; room = x .room }) (sym e)
 
 pub fed-turn : {p : Part} {bs : List ℕ} {i n k : ℕ} {o x : Outcome} {t : Feeding} → FedFrom p bs i o t → x ≡ stepOf p (o .chip) (Byte (getD bs i 0)) (o .memory) (o .room)
     → i < length bs → x .answer ≡ Replied n k → k ≤ 0 → FedFrom p bs (i + 1) x t
@@ -115,11 +118,26 @@ feed-takes p n m k b bs o q =
     on-takes (onward p o (Byte b) .answer) n m k (onward p o (Byte b)) (feedFrom p (n + 1) bs (onward p o (Byte b))) refl
     (feed-within p (n + 1) bs (onward p o (Byte b)) .0) q
 
--- A run, event by event.
-pub run-none : (p : Part) (o : Outcome) → run p [] o ≡ o
-unfolding run
-run-none p o = refl
+-- What a stretch says lies in the room, as what a step says does.
+fed-on-fits : (a : Answer) (n : ℕ) (x : Outcome) (rest : Feeding) → Fitting (x .answer) (length (x .room)) → Fitting (rest .left .answer) (length (rest .left .room))
+    → Fitting (fedOn a n x rest .left .answer) (length (fedOn a n x rest .left .room))
+unfolding fedOn if_then_else_
+fed-on-fits (Refused r) n x rest f g = f
+fed-on-fits (Replied b k) n x rest f g = go (eqb k 0)
+  where
+    go : (t : Bool) → Fitting ((if t then rest else feeding (n + 1) x) .left .answer) (length ((if t then rest else feeding (n + 1) x) .left .room))
+    go true = g
+    go false = f
 
-pub run-more : (p : Part) (v : Event) (vs : List Event) (o : Outcome) → run p (v ∷ vs) o ≡ run p vs (onward p o v)
-unfolding run
-run-more p v vs o = refl
+feed-from-fits : (p : Part) (n : ℕ) (bs : List ℕ) (o : Outcome) → Arrays p → Fitting (o .answer) (length (o .room))
+    → Fitting (feedFrom p n bs o .left .answer) (length (feedFrom p n bs o .left .room))
+unfolding feedFrom
+feed-from-fits p n [] o a f = f
+feed-from-fits p n (b ∷ bs) o a f =
+    let g = step-fits p (o .chip) (Byte b) (o .memory) (o .room) a in
+    fed-on-fits _ n _ _ g (feed-from-fits p (n + 1) bs (onward p o (Byte b)) a g)
+
+pub feed-fits : (p : Part) (bs : List ℕ) (c : Chip) (m : Flash) (room : List ℕ) → Arrays p
+    → Fitting (feedOf p bs (before c m room) .left .answer) (length (feedOf p bs (before c m room) .left .room))
+unfolding feedOf
+feed-fits p bs c m room a = feed-from-fits p 0 bs (before c m room) a (none-fits (length room))
