@@ -1,5 +1,6 @@
 pub mod Budget
 pub mod Bounds
 pub mod Stepped
+pub mod Counted
 pub mod Examples
 pub mod Written

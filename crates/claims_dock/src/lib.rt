@@ -1,1 +1,1 @@
-// Theorems about the dock, in specs/ and proofs/: the stepped dock is the flow, its counts stay within their bounds; there is no code.
+// Theorems about the dock, in specs/ and proofs/: stepped, it is the flow, its one result has the flow's counts, and they stay within their bounds; there is no code.

@@ -3,3 +3,4 @@ pub mod Refused
 pub mod Fed
 pub mod DockBack
 pub mod DockRefused
+pub mod DockEnded

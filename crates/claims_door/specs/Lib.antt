@@ -1,3 +1,4 @@
 pub mod Held
 pub mod Kept
 pub mod Docked
+pub mod Ended

@@ -1,1 +1,1 @@
-// Theorems about the door's layout: reading and writing it are inverse, and a refused call keeps the state; there is no code.
+// Theorems about the door: reading and writing its layouts are inverse, a refused call keeps the state, and a job's end is told once, with its counts; there is no code.
