@@ -43,8 +43,12 @@ twoBlockPart =
 abbrev pub twoBlockJob : Job
 twoBlockJob = record { part = twoBlockPart; start = 0x0000; end = 0x07FF; rate = 0x00; supply = 33; retries = 1 }
 
+-- Its image: eight pages that begin with 00h to 07h and have 255 bytes 5Ah after that.
+abbrev pub page : ℕ → List ℕ
+page b = b ∷ replicate 255 0x5A
+
 abbrev pub twoBlockImage : List ℕ
-twoBlockImage = replicate 1024 0x5A ++ replicate 1024 0xA5
+twoBlockImage = page 0x00 ++ page 0x01 ++ page 0x02 ++ page 0x03 ++ page 0x04 ++ page 0x05 ++ page 0x06 ++ page 0x07
 
 -- The frames that 01, 000 and 003 print, or that their SUM rule completes.
 pub record Frame : Type 0 where
@@ -53,6 +57,10 @@ pub record Frame : Type 0 where
 
 abbrev pub at : Stage → List ℕ → Frame
 at st f = record { gives = frameAt twoBlockJob twoBlockImage st; printed = f }
+
+-- A page's frame by its first byte, SUM and footer: "then 03h on the last frame, else 17h"; its LEN is 00h, for 256.
+abbrev pub pagePrinted : ℕ → ℕ → ℕ → List ℕ
+pagePrinted b sum footer = 0x02 ∷ 0x00 ∷ b ∷ replicate 255 0x5A ++ sum ∷ footer ∷ []
 
 unfoldable pub framesPrinted : List Frame
 framesPrinted =
@@ -63,6 +71,19 @@ framesPrinted =
     ∷ at (InBlock 1 Erase) (0x01 ∷ 0x04 ∷ 0x22 ∷ 0x00 ∷ 0x04 ∷ 0x00 ∷ 0xD6 ∷ 0x03 ∷ [])
     ∷ at (InBlock 0 Program) (0x01 ∷ 0x07 ∷ 0x40 ∷ 0x00 ∷ 0x00 ∷ 0x00 ∷ 0xFF ∷ 0x03 ∷ 0x00 ∷ 0xB7 ∷ 0x03 ∷ [])
     ∷ at (InBlock 0 VerifyBlock) (0x01 ∷ 0x07 ∷ 0x13 ∷ 0x00 ∷ 0x00 ∷ 0x00 ∷ 0xFF ∷ 0x03 ∷ 0x00 ∷ 0xE4 ∷ 0x03 ∷ [])
+    -- block 1: its addresses, low byte first
+    ∷ at (InBlock 1 Blank) (0x01 ∷ 0x08 ∷ 0x32 ∷ 0x00 ∷ 0x04 ∷ 0x00 ∷ 0xFF ∷ 0x07 ∷ 0x00 ∷ 0x00 ∷ 0xBC ∷ 0x03 ∷ [])
+    ∷ at (InBlock 1 Program) (0x01 ∷ 0x07 ∷ 0x40 ∷ 0x00 ∷ 0x04 ∷ 0x00 ∷ 0xFF ∷ 0x07 ∷ 0x00 ∷ 0xAF ∷ 0x03 ∷ [])
+    ∷ at (InBlock 1 VerifyBlock) (0x01 ∷ 0x07 ∷ 0x13 ∷ 0x00 ∷ 0x04 ∷ 0x00 ∷ 0xFF ∷ 0x07 ∷ 0x00 ∷ 0xDC ∷ 0x03 ∷ [])
+    -- the four pages of 40h in block 0, those of 13h in block 1: 17h, and 03h on the last
+    ∷ at (InBlock 0 (ProgramPage 0)) (pagePrinted 0x00 0x5A 0x17)
+    ∷ at (InBlock 0 (ProgramPage 1)) (pagePrinted 0x01 0x59 0x17)
+    ∷ at (InBlock 0 (ProgramPage 2)) (pagePrinted 0x02 0x58 0x17)
+    ∷ at (InBlock 0 (ProgramPage 3)) (pagePrinted 0x03 0x57 0x03)
+    ∷ at (InBlock 1 (VerifyPage 0)) (pagePrinted 0x04 0x56 0x17)
+    ∷ at (InBlock 1 (VerifyPage 1)) (pagePrinted 0x05 0x55 0x17)
+    ∷ at (InBlock 1 (VerifyPage 2)) (pagePrinted 0x06 0x54 0x17)
+    ∷ at (InBlock 1 (VerifyPage 3)) (pagePrinted 0x07 0x53 0x03)
     ∷ []
 
 -- Answers: one status, two, the three of 40h's last page; those to 9Ah and C0h.
