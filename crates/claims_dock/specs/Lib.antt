@@ -1,3 +1,4 @@
 pub mod Stepping
 pub mod Counted
 pub mod Examples
+pub mod Order
