@@ -211,13 +211,18 @@ frames-long j image k [] = refl
 frames-long j image k (b ∷ bs) =
     length-append (blockFrames j image k b) (framesFrom j image (k + 1) bs) ∙ rw (block-long j image k b, frames-long j image (k + 1) bs)
 
+all-long : (j : Job) (image : List ℕ) (bs : List Bool) → length (allFrames j image bs) ≡ 3 + blockCount bs
+all-long j image bs = omega (arith, frames-long j image 0 bs)
+
+pub flow-long : (j : Job) (image : List ℕ) (bs : List Bool) → Arrays (j .part) → length bs ≡ blocksOf j → length (flow j image (allAnswers j bs) .sent) ≡ 3 + blockCount bs
+flow-long j image bs a e = ap (λ (x : Flow). length (x .sent)) (undisturbed j image bs a e) ∙ all-long j image bs
+
 pub undisturbed-dock : UndisturbedDock
 unfolding resultAt
 undisturbed-dock j image room bs v r a e =
     let f = undisturbed j image bs a e in
     let c = dock-is-flow j image room (allAnswers j bs) v r in
-    let n : length (allFrames j image bs) ≡ 3 + blockCount bs = omega (arith, frames-long j image 0 bs) in
     record {
       frames = c .sameFrames ∙ ap (λ (x : Flow). x .sent) f;
-      result = c .sameResults ∙ ap (λ (x : Flow). resultsOf x) f ∙ ap (λ (m : ℕ). resultAt (Over Finished) m 0) n;
+      result = c .sameResults ∙ ap (λ (x : Flow). resultsOf x) f ∙ ap (λ (n : ℕ). resultAt (Over Finished) n 0) (all-long j image bs);
     }
