@@ -1,11 +1,11 @@
--- Document 01's whole case, computed on the definitions: the capture's four records, and the characters that their replay prints.
+-- Document 01's whole case, and an empty, a short and a bad capture, computed on the definitions: the characters that their replay prints.
 -- Assumes nothing.
-use mathlib.Core.List.{List, [], _++_, _∷_}
+use mathlib.Core.List.{[]}
 use mathlib.Core.Path.{_≡_, refl}
-use Prim.Native.Nat.{ℕ}
 use Rattle.replay_capture.specs.Capture.{bytesRecord, gapRecord, recordOf, recordsIn, recordsOf, unused}
 use Rattle.chip.specs.Step.{byteIn, frameDoes, freshChip, heardByte, modeByte, reactTo, settled, stepOf}
 use Rattle.chip_state.specs.Refusals.{goodAwaited, goodBegun, goodCollected, goodCore, goodPhase, goodPlaces, goodState, verdictOf}
+use Rattle.claims_replay.specs.Cases.{badFirst, endNone, shortCase, stoppedCase, wholeCase, wholePrinted}
 use Rattle.claims_replay.specs.Printed.{digitsIn, lastLine, linesIn, printed}
 use Rattle.chip_commands.specs.Commands.{allowedIn, commandDoes, readingDoes, work}
 use Rattle.commands.specs.Commands.{commandTable, fitted, readCommand, readIn}
@@ -31,71 +31,33 @@ use Rattle.frame.specs.Framing.{frames, framing}
 use Rattle.part.specs.Signature.{signature}
 use Rattle.chip_core.specs.Hearing.{hearing}
 
-abbrev pub wholeCase : List ℕ
-wholeCase =
-    0x01 ∷ 0x01 ∷ 0x3A ∷ 0x00 ∷ 0x00 ∷ 0x00 ∷ 0x00 ∷ 0x00
-    ∷ 0x01 ∷ 0x06 ∷ 0x01 ∷ 0x03 ∷ 0x9A ∷ 0x00 ∷ 0x21 ∷ 0x42
-    ∷ 0x01 ∷ 0x01 ∷ 0x03 ∷ 0x00 ∷ 0x00 ∷ 0x00 ∷ 0x00 ∷ 0x00
-    ∷ 0x01 ∷ 0x05 ∷ 0x01 ∷ 0x01 ∷ 0xA1 ∷ 0x5E ∷ 0x03 ∷ 0x00
-    ∷ []
+-- All four by one computation.
+record Computed : Type 0 where
+  whole : printed wholeCase ≡ wholePrinted
+  empty : printed [] ≡ endNone
+  short : printed shortCase ≡ badFirst
+  stopped : printed stoppedCase ≡ badFirst
 
--- "02 03 06 20 00 D7 03", "02 01 06 F9 03", "02 08 FF 03 00 00 0F 00 FF FF E9 03", "END 3": each line's bytes, and the last line as characters.
-abbrev pub wholePrinted : List ℕ
-wholePrinted =
-    lineOf (0x02 ∷ 0x03 ∷ 0x06 ∷ 0x20 ∷ 0x00 ∷ 0xD7 ∷ 0x03 ∷ [])
-    ++ lineOf (0x02 ∷ 0x01 ∷ 0x06 ∷ 0xF9 ∷ 0x03 ∷ [])
-    ++ lineOf (0x02 ∷ 0x08 ∷ 0xFF ∷ 0x03 ∷ 0x00 ∷ 0x00 ∷ 0x0F ∷ 0x00 ∷ 0xFF ∷ 0xFF ∷ 0xE9 ∷ 0x03 ∷ [])
-    ++ 0x45 ∷ 0x4E ∷ 0x44 ∷ 0x20 ∷ 0x33 ∷ 0x0A ∷ []
+computed : Computed
+unfolding byteIn frameDoes freshChip heardByte modeByte reactTo settled stepOf allowedIn commandDoes readingDoes work hearing blank eraseOf sumOfBytes
+    fixedBits freshOptions goodOptions isFresh lastBlock optionBytes optionsIn raises released rises security badData dataDoes footerOf goodData isLastPage
+    lengthOf nextPage pageIn pageStored programPage securityData storedReply verifyPage framesOf payloads saidOf goodAwaited goodBegun goodCollected goodCore
+    goodPhase goodPlaces goodState verdictOf blankCheck blockErase checksum erasedIn forbidden programming rangeBytes rateSet securityRelease verify digitsIn
+    lastLine linesIn printed commandTable fitted readCommand readIn fresh hear heard holding complete counted framed full isFrame payload frames framing
+    fitting judgeOf summed less lessAll sumOf allAre putAt putOf same lowFirst numberAt blockOf blockSize described endsBlock lastOf liesIn pageOf placeIn
+    placeOf rangeOf startsBlock stretch wholeBlocks acceptsRate modeOf firstOf signature bytesRecord gapRecord recordOf recordsIn recordsOf unused digitOf
+    lineOf separator answering endedBy eventsOf goesOn nextBy playBy playOf playWith played playedInto replayOf replayedFrom whileWhole _and_ _from_to_ _or_
+    if_then_else_
+computed = record { whole = refl; empty = refl; short = refl; stopped = refl }
 
 pub whole-case : printed wholeCase ≡ wholePrinted
-unfolding byteIn frameDoes freshChip heardByte modeByte reactTo settled stepOf allowedIn commandDoes readingDoes work hearing blank eraseOf sumOfBytes
-    fixedBits freshOptions goodOptions isFresh lastBlock optionBytes optionsIn raises released rises security badData dataDoes footerOf goodData isLastPage
-    lengthOf nextPage pageIn pageStored programPage securityData storedReply verifyPage framesOf payloads saidOf goodAwaited goodBegun goodCollected goodCore
-    goodPhase goodPlaces goodState verdictOf blankCheck blockErase checksum erasedIn forbidden programming rangeBytes rateSet securityRelease verify digitsIn
-    lastLine linesIn printed commandTable fitted readCommand readIn fresh hear heard holding complete counted framed full isFrame payload frames framing
-    fitting judgeOf summed less lessAll sumOf allAre putAt putOf same lowFirst numberAt blockOf blockSize described endsBlock lastOf liesIn pageOf placeIn
-    placeOf rangeOf startsBlock stretch wholeBlocks acceptsRate modeOf firstOf signature bytesRecord gapRecord recordOf recordsIn recordsOf unused digitOf
-    lineOf separator answering endedBy eventsOf goesOn nextBy playBy playOf playWith played playedInto replayOf replayedFrom whileWhole _and_ _from_to_ _or_
-    if_then_else_
-whole-case = refl
+whole-case = computed .whole
 
--- An empty capture prints "END 0", a short record "BAD" and its number.
-pub empty-case : printed [] ≡ 0x45 ∷ 0x4E ∷ 0x44 ∷ 0x20 ∷ 0x30 ∷ 0x0A ∷ []
-unfolding byteIn frameDoes freshChip heardByte modeByte reactTo settled stepOf allowedIn commandDoes readingDoes work hearing blank eraseOf sumOfBytes
-    fixedBits freshOptions goodOptions isFresh lastBlock optionBytes optionsIn raises released rises security badData dataDoes footerOf goodData isLastPage
-    lengthOf nextPage pageIn pageStored programPage securityData storedReply verifyPage framesOf payloads saidOf goodAwaited goodBegun goodCollected goodCore
-    goodPhase goodPlaces goodState verdictOf blankCheck blockErase checksum erasedIn forbidden programming rangeBytes rateSet securityRelease verify digitsIn
-    lastLine linesIn printed commandTable fitted readCommand readIn fresh hear heard holding complete counted framed full isFrame payload frames framing
-    fitting judgeOf summed less lessAll sumOf allAre putAt putOf same lowFirst numberAt blockOf blockSize described endsBlock lastOf liesIn pageOf placeIn
-    placeOf rangeOf startsBlock stretch wholeBlocks acceptsRate modeOf firstOf signature bytesRecord gapRecord recordOf recordsIn recordsOf unused digitOf
-    lineOf separator answering endedBy eventsOf goesOn nextBy playBy playOf playWith played playedInto replayOf replayedFrom whileWhole _and_ _from_to_ _or_
-    if_then_else_
-empty-case = refl
+pub empty-case : printed [] ≡ endNone
+empty-case = computed .empty
 
-pub short-case : printed (0x00 ∷ []) ≡ 0x42 ∷ 0x41 ∷ 0x44 ∷ 0x20 ∷ 0x30 ∷ 0x0A ∷ []
-unfolding byteIn frameDoes freshChip heardByte modeByte reactTo settled stepOf allowedIn commandDoes readingDoes work hearing blank eraseOf sumOfBytes
-    fixedBits freshOptions goodOptions isFresh lastBlock optionBytes optionsIn raises released rises security badData dataDoes footerOf goodData isLastPage
-    lengthOf nextPage pageIn pageStored programPage securityData storedReply verifyPage framesOf payloads saidOf goodAwaited goodBegun goodCollected goodCore
-    goodPhase goodPlaces goodState verdictOf blankCheck blockErase checksum erasedIn forbidden programming rangeBytes rateSet securityRelease verify digitsIn
-    lastLine linesIn printed commandTable fitted readCommand readIn fresh hear heard holding complete counted framed full isFrame payload frames framing
-    fitting judgeOf summed less lessAll sumOf allAre putAt putOf same lowFirst numberAt blockOf blockSize described endsBlock lastOf liesIn pageOf placeIn
-    placeOf rangeOf startsBlock stretch wholeBlocks acceptsRate modeOf firstOf signature bytesRecord gapRecord recordOf recordsIn recordsOf unused digitOf
-    lineOf separator answering endedBy eventsOf goesOn nextBy playBy playOf playWith played playedInto replayOf replayedFrom whileWhole _and_ _from_to_ _or_
-    if_then_else_
-short-case = refl
+pub short-case : printed shortCase ≡ badFirst
+short-case = computed .short
 
--- "and stops there": the gap after a bad record is not played.
-pub stopped-case : printed
-    (0x02 ∷ 0x00 ∷ 0x00 ∷ 0x00 ∷ 0x00 ∷ 0x00 ∷ 0x00 ∷ 0x00
-    ∷ 0x00 ∷ 0x00 ∷ 0x00 ∷ 0x00 ∷ 0x00 ∷ 0x00 ∷ 0x00 ∷ 0x00 ∷ [])
-    ≡ 0x42 ∷ 0x41 ∷ 0x44 ∷ 0x20 ∷ 0x30 ∷ 0x0A ∷ []
-unfolding byteIn frameDoes freshChip heardByte modeByte reactTo settled stepOf allowedIn commandDoes readingDoes work hearing blank eraseOf sumOfBytes
-    fixedBits freshOptions goodOptions isFresh lastBlock optionBytes optionsIn raises released rises security badData dataDoes footerOf goodData isLastPage
-    lengthOf nextPage pageIn pageStored programPage securityData storedReply verifyPage framesOf payloads saidOf goodAwaited goodBegun goodCollected goodCore
-    goodPhase goodPlaces goodState verdictOf blankCheck blockErase checksum erasedIn forbidden programming rangeBytes rateSet securityRelease verify digitsIn
-    lastLine linesIn printed commandTable fitted readCommand readIn fresh hear heard holding complete counted framed full isFrame payload frames framing
-    fitting judgeOf summed less lessAll sumOf allAre putAt putOf same lowFirst numberAt blockOf blockSize described endsBlock lastOf liesIn pageOf placeIn
-    placeOf rangeOf startsBlock stretch wholeBlocks acceptsRate modeOf firstOf signature bytesRecord gapRecord recordOf recordsIn recordsOf unused digitOf
-    lineOf separator answering endedBy eventsOf goesOn nextBy playBy playOf playWith played playedInto replayOf replayedFrom whileWhole _and_ _from_to_ _or_
-    if_then_else_
-stopped-case = refl
+pub stopped-case : printed stoppedCase ≡ badFirst
+stopped-case = computed .stopped
