@@ -5,14 +5,14 @@ use mathlib.Core.Path.{_∙_, _≡_, ap, refl, sym}
 use Prim.Native.Nat.{_≤_, ℕ}
 use lib.ListN.{drop, length}
 use lib.Seq.{take-append-seam}
-use Rattle.chip.specs.Run.{answers, bytesSaid, onward, run, spokenIn}
+use Rattle.chip.specs.Run.{answers, bytesSaid, onward, spokenIn}
 use Rattle.chip.specs.Step.{Outcome, Reaction, reactTo, replied, settled}
 use Rattle.chip.specs.declared.Answer.the-variants.{Replied}
 use Rattle.chip_state.specs.declared.Chip.{Chip}
 use Rattle.chip.specs.declared.Event.{Event}
 use Rattle.claims_good.proofs.Stays.{onward-is, stays}
 use Rattle.chip_state.proofs.Laws.{accepted, accepts}
-use Rattle.claims_good.specs.Good.{Alike, AllAnswered, AllProper, Answered, SameChip, SameStep, Stands, Utterance, andAnswer, andEvent, noAnswer, noEvent, utterances, uttered}
+use Rattle.claims_good.specs.Good.{Alike, AllAnswered, AllProper, Answered, SameChip, SameStep, Stands, Utterance, andAnswer, andEvent, noAnswer, noEvent, uttered}
 use Rattle.chip_core.specs.Effect.{Flash}
 use Rattle.chip_core.specs.declared.Core.{Core}
 use Rattle.frame.proofs.Laws.Collector.{heard-holding}
@@ -115,22 +115,6 @@ module _ (p : Part) (o u : Outcome) (v : Event) (so : Stands p o) (su : Stands p
 
   pub alike-says : uttered (spokenIn (onward p o v)) ≡ uttered (spokenIn (onward p u v))
   alike-says = says-reaction p o v so ∙ ap (utteranceOf p) same-reaction ∙ sym (says-reaction p u v su)
-
--- The same for runs.
-pub alike-run : (p : Part) (vs : List Event) (o u : Outcome) → Stands p o → Stands p u → AllProper vs → Alike o u → Alike (run p vs o) (run p vs u)
-unfolding run
-alike-run p [] o u so su noEvent a = a
-alike-run p (v ∷ vs) o u so su (andEvent h q) a =
-    alike-run p vs (onward p o v) (onward p u v) (stays p o v so h) (stays p u v su h) q (alike-onward p o u v so su a)
-
-pub alike-utterances : (p : Part) (vs : List Event) (o u : Outcome) → Stands p o → Stands p u → AllProper vs → Alike o u
-    → utterances p vs o ≡ utterances p vs u
-unfolding utterances answers
-alike-utterances p [] o u so su noEvent a = refl
-alike-utterances p (v ∷ vs) o u so su (andEvent h q) a =
-    ap (λ (x : Utterance). x ∷ utterances p vs (onward p o v)) (alike-says p o u v so su a)
-    ∙ ap (λ (xs : List Utterance). uttered (spokenIn (onward p u v)) ∷ xs)
-    (alike-utterances p vs (onward p o v) (onward p u v) (stays p o v so h) (stays p u v su h) q (alike-onward p o u v so su a))
 
 -- The room does not matter: with any other of at least 32 bytes the chip stands, and an event leaves the same chip and flash and says the same.
 pub stands-anywhere : (p : Part) (o u : Outcome) → Stands p o → SameChip o u → 32 ≤ length (u .room) → Stands p u

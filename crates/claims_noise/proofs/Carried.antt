@@ -17,10 +17,11 @@ use Rattle.claims_noise.proofs.Allowed.{allowed-or-none, done-completes
 use Rattle.claims_noise.proofs.Claims.{over-stands}
 use Rattle.claims_fed.proofs.Frames.{Completed, bytes-proper, completed, does-same, fed-is-done, no-frame}
 use Rattle.claims_fed.specs.Fed.{FedIsDone, doesIn}
-use Rattle.claims_noise.proofs.Noise.{Left, as-if, leftCore, leftIn, noise-run, run-by}
+use Rattle.claims_noise.proofs.Noise.{Left, leftCore, leftIn, noise-run, run-by}
 use Rattle.claims_noise.proofs.OneByte.{footerIn, good-judged}
 use Rattle.claims_fed.specs.Awaits.{Awaits, AwaitsFrame, awaitsIn, command, eventOf, goodFor, headerIn, headerOf, inReady, inSetup, page}
 use Rattle.claims_fed.proofs.Steps.{stepped}
+use Rattle.claims_noise.proofs.Rooms.{as-if}
 use Rattle.claims_noise.specs.Claims.{AsIf, Carried, Line, Noise, OneFrameCarried, OnlyThis, commandOver, frameCame, lastGood, leftAt, leftBy, lineAfter, noiseOnly, noneGood, runBy}
 use Rattle.claims_noise.specs.Noise.{dataCompleted, empty, noFrame, thenAwaits}
 use Rattle.chip_core.specs.Effect.{Effect}

@@ -14,7 +14,8 @@ use Rattle.claims_good.proofs.Core.{core-is, is-core, made-ready}
 use Rattle.claims_good.proofs.Stays.{stays}
 use Rattle.chip_state.proofs.Laws.{accepted, accepts}
 use Rattle.claims_good.specs.Good.{Alike, Stands}
-use Rattle.claims_noise.proofs.Noise.{NoiseLeaves, as-if, leftCore, leftIn, noise-leaves, run-by}
+use Rattle.claims_noise.proofs.Noise.{NoiseLeaves, leftCore, leftIn, noise-leaves, run-by}
+use Rattle.claims_noise.proofs.Rooms.{as-if}
 use Rattle.claims_noise.specs.Claims.{AsIf, Noise, NoiseAtCommand, NoiseAtData, NoiseBranches, commandOver, leftBy, runBy}
 use Rattle.claims_fed.specs.Awaits.{AwaitsCommand, command, inReady, inSetup, page}
 use Rattle.claims_noise.specs.Noise.{dataCompleted, empty, noFrame, thenGap}

@@ -1,3 +1,4 @@
+pub mod Rooms
 pub mod Noise
 pub mod Claims
 pub mod OneByte

@@ -4,21 +4,20 @@ use mathlib.Core.Bool.{Bool, false, false≢true, not, true}
 use mathlib.Core.List.{List, [], _++_, _∷_, map}
 use mathlib.Core.Path.{_∙_, _≡_, ap, refl, sym}
 use Prim.Native.Nat.{ℕ}
-use denote.Ref.{now}
 use Rattle.chip.proofs.Runs.{run-append}
 use Rattle.chip.specs.Run.{answers, onward, run, spokenIn}
 use Rattle.chip.specs.Step.{Outcome, reactTo, stepOf}
 use Rattle.chip.specs.declared.Event.{Event}
 use Rattle.chip.specs.declared.Event.the-variants.{Gap}
 use Rattle.claims_frame.proofs.Framing.{Same, nothing}
-use Rattle.claims_good.proofs.Rooms.{alike-run, alike-utterances, leaves, reactionOf}
+use Rattle.claims_good.proofs.Rooms.{leaves, reactionOf}
 use Rattle.claims_good.proofs.Stays.{run-stands, stays}
-use Rattle.claims_good.specs.Good.{Alike, AllProper, Proper, Stands, Utterance, aGap, andEvent, noEvent, utterances, uttered}
+use Rattle.claims_good.specs.Good.{AllProper, Proper, Stands, Utterance, aGap, andEvent, noEvent, utterances, uttered}
 use Rattle.claims_fed.proofs.Bad.{bad-frame-does}
 use Rattle.claims_fed.specs.Fed.{badCore}
 use Rattle.claims_fed.proofs.Steps.{Stepped, frameDone, onlyHeard, stepped}
 use Rattle.claims_fed.specs.Awaits.{Awaits, AwaitsFrame, awaitsIn, command, eventOf, goodFor, headerIn, inReady, inSetup, page}
-use Rattle.claims_noise.specs.Claims.{AsIf, Line, Noise, lineAfter, runBy, saysBy}
+use Rattle.claims_noise.specs.Claims.{Line, Noise, lineAfter, runBy, saysBy}
 use Rattle.claims_noise.specs.Noise.{allows, completesOnly, empty, noFrame, permitted, thenAwaits, thenGap}
 use Rattle.chip_pages.specs.Pages.{ready}
 use Rattle.chip_core.specs.declared.Core.{Core}
@@ -42,15 +41,6 @@ pub says-by : (p : Part) (vs : List Event) (o : Outcome) → saysBy stepOf p vs 
 unfolding saysBy utterances answers
 says-by p [] o = refl
 says-by p (v ∷ vs) o = ap (λ (xs : List Utterance). uttered (spokenIn (onward p o v)) ∷ xs) (says-by p vs (onward p o v))
-
--- What is alike is as if it were the same.
-pub as-if : (p : Part) (o u : Outcome) → Stands p o → Stands p u → Alike o u → AsIf stepOf p o u
-as-if p o u s t a =
-    record {
-      now = a;
-      answers = λ vs q. says-by p vs o ∙ alike-utterances p vs o u s t q a ∙ sym (says-by p vs u);
-      later = λ vs q. rw (run-by p vs o, run-by p vs u) (alike-run p vs o u s t q a);
-    }
 
 -- The record that noise leaves, from a place in a frame.
 unfoldable pub leftIn : Phase → Core → Framing → List Sound → Core

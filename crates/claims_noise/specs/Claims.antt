@@ -7,8 +7,9 @@ use mathlib.Core.Path.{_≡_}
 use Prim.Native.Nat.{_-_, _<_, _≤_, ℕ}
 use lib.ListN.{getD, length, replicate, set}
 use Rattle.claims_fed.specs.Fed.{Blame, blames, silence}
-use Rattle.chip.specs.Run.{spokenIn}
+use Rattle.chip.specs.Run.{Spoken, spokenIn}
 use Rattle.chip.specs.Step.{Outcome}
+use Rattle.chip.specs.declared.Answer.the-variants.{Refused}
 use Rattle.chip_state.specs.declared.Chip.{Chip}
 use Rattle.chip.specs.declared.Event.{Event}
 use Rattle.chip.specs.declared.Event.the-variants.{Byte}
@@ -24,6 +25,7 @@ use Rattle.frame.proofs.Laws.Sum.{Below}
 use Rattle.frame.specs.Frame.{headerByte}
 use Rattle.frame.specs.Framing.{Framing, Sound, byte, frames, framing, idle}
 use Rattle.part.specs.declared.Part.{Part}
+use Rattle.part.specs.declared.refusal.Refusal.the-variants.{ShortRoom}
 use Rattle.words.specs.Words.{if_then_else_}
 
 -- A chip, its runs, and what it says to each event.
@@ -41,12 +43,38 @@ unfoldable pub saysBy : Machine → Part → List Event → Outcome → List Utt
 saysBy M p [] o = []
 saysBy M p (v ∷ vs) o = uttered (spokenIn (onwardBy M p o v)) ∷ saysBy M p vs (onwardBy M p o v)
 
+-- A call: an event, and the room lent for it. A room is lent anew for every event, and it may be a short one.
+pub record Call : Type 0 where
+  pub event : Event
+  pub room : List ℕ
+
+abbrev pub calledBy : Machine → Part → Outcome → Call → Outcome
+calledBy M p o c = M p (o .chip) (c .event) (o .memory) (c .room)
+
+unfoldable pub callsBy : Machine → Part → List Call → Outcome → Outcome
+callsBy M p [] o = o
+callsBy M p (c ∷ cs) o = callsBy M p cs (calledBy M p o c)
+
+-- The answer to each call, with its room afterwards.
+unfoldable pub answersBy : Machine → Part → List Call → Outcome → List Spoken
+answersBy M p [] o = []
+answersBy M p (c ∷ cs) o = spokenIn (calledBy M p o c) ∷ answersBy M p cs (calledBy M p o c)
+
+abbrev pub eventsIn : List Call → List Event
+eventsIn cs = map (λ c. c .event) cs
+
 -- u is as if it were o: flash, options, rate and phase are the same, and nothing more or else is collected; "every later event gets the answer" that o
--- would give, and after any later events flash, options, rate and phase are those of o.
+-- would give, whatever room is lent for each, and every byte of each room is the same; after any later events flash, options, rate and phase are those of o.
 pub record AsIf (M : Machine) (p : Part) (o u : Outcome) : Type 0 where
   pub now : Alike o u
-  pub answers : (vs : List Event) → AllProper vs → saysBy M p vs o ≡ saysBy M p vs u
-  pub later : (vs : List Event) → AllProper vs → Alike (runBy M p vs o) (runBy M p vs u)
+  pub answers : (cs : List Call) → AllProper (eventsIn cs) → answersBy M p cs o ≡ answersBy M p cs u
+  pub later : (cs : List Call) → AllProper (eventsIn cs) → Alike (callsBy M p cs o) (callsBy M p cs u)
+
+-- A room under 32 bytes is refused (4), and changes nothing: such a call may stand anywhere among the later ones.
+abbrev pub ShortRefused : Machine → Type 0
+ShortRefused M =
+    (p : Part) (o : Outcome) (v : Event) (room : List ℕ) → Stands p o → length room < 32
+    → M p (o .chip) v (o .memory) room ≡ record { answer = Refused ShortRoom; chip = o .chip; memory = o .memory; room = room }
 
 -- "Take a chip that awaits a command (`AwaitsCommand`), with nothing collected. Let it hear any bytes and gaps in which the framing rule of demand 2 completes
 -- no good frame": g is the one good frame allowed, or none.

@@ -11,7 +11,7 @@ use lib.Dec.{eqb}
 use lib.ListN.{drop, getD}
 use borrow.Author.Tests.{eqb-true}
 use Rattle.numbers.specs.Numbers.{lowFirst, numberAt}
-use Rattle.chip.specs.Run.{spokenIn}
+use Rattle.chip.specs.Run.{Spoken, spokenIn}
 use Rattle.chip.specs.Step.{Outcome, byteIn, frameDoes, heardByte, reactTo, settled, stepOf}
 use Rattle.chip_state.specs.Refusals.{goodAwaited, goodBegun, goodCollected, goodCore, goodPhase, goodPlaces, goodState, verdictOf}
 use Rattle.chip.specs.declared.Answer.{Answer}
@@ -22,8 +22,7 @@ use Rattle.chip.specs.declared.Event.the-variants.{Byte}
 use Rattle.claims_good.proofs.Rooms.{same-alike}
 use Rattle.claims_good.specs.Good.{SameChip, Utterance, uttered}
 use Rattle.claims_noise.proofs.Examples.{wrong-page, wrong-page-completes-one}
-use Rattle.claims_noise.specs.Claims.{AsIf, Machine, NoiseAtCommand, NoiseAtData, commandOver, leftBy, onwardBy, runBy, saysBy}
-use Rattle.claims_fed.specs.Fed.{silence}
+use Rattle.claims_noise.specs.Claims.{AsIf, Call, Machine, NoiseAtCommand, NoiseAtData, answersBy, calledBy, callsBy, commandOver, leftBy, onwardBy, runBy, saysBy}
 use Rattle.claims_noise.specs.Examples.{reset, secondPage, writingChip, wrongPage}
 use Rattle.claims_noise.specs.Noise.{thenGap}
 use Rattle.claims_stars.specs.Table.{readyChip, thePart}
@@ -58,10 +57,16 @@ unfolding runBy deaf
 deaf-same p [] o = record { chip = refl; memory = refl }
 deaf-same p (v ∷ vs) o = let r = deaf-same p vs (onwardBy deaf p o v) in record { chip = r .chip; memory = r .memory }
 
-deaf-says : (p : Part) (vs : List Event) (o u : Outcome) → saysBy deaf p vs o ≡ saysBy deaf p vs u
-unfolding saysBy deaf
-deaf-says p [] o u = refl
-deaf-says p (v ∷ vs) o u = ap (λ (xs : List Utterance). silence ∷ xs) (deaf-says p vs (onwardBy deaf p o v) (onwardBy deaf p u v))
+deaf-called : (p : Part) (cs : List Call) (o : Outcome) → SameChip o (callsBy deaf p cs o)
+unfolding callsBy deaf
+deaf-called p [] o = record { chip = refl; memory = refl }
+deaf-called p (c ∷ cs) o = let r = deaf-called p cs (calledBy deaf p o c) in record { chip = r .chip; memory = r .memory }
+
+deaf-answers : (p : Part) (cs : List Call) (o u : Outcome) → answersBy deaf p cs o ≡ answersBy deaf p cs u
+unfolding answersBy deaf
+deaf-answers p [] o u = refl
+deaf-answers p (c ∷ cs) o u =
+    ap (λ (xs : List Spoken). spokenIn (calledBy deaf p o c) ∷ xs) (deaf-answers p cs (calledBy deaf p o c) (calledBy deaf p u c))
 
 same-trans : {o u t : Outcome} → SameChip u o → SameChip u t → SameChip o t
 same-trans e f = record { chip = sym (e .chip) ∙ f .chip; memory = sym (e .memory) ∙ f .memory }
@@ -75,8 +80,8 @@ deaf-as-if p o vs =
     let u = runBy deaf p vs o in
     record {
       now = same-alike (deaf-same p vs o);
-      answers = λ ws q. deaf-says p ws o u;
-      later = λ ws q. same-alike (same-trans (deaf-same p ws o) (same-join (deaf-same p vs o) (deaf-same p ws u)));
+      answers = λ cs q. deaf-answers p cs o u;
+      later = λ cs q. same-alike (same-trans (deaf-called p cs o) (same-join (deaf-same p vs o) (deaf-called p cs u)));
     }
 
 -- So it satisfies the claim, ..
