@@ -1,6 +1,6 @@
 -- At most one good frame came: the proof of `OneFrameCarried` for the definition of demand 2.
 -- Assumes nothing.
-use mathlib.Core.Bool.{Bool, false, not, true}
+use mathlib.Core.Bool.{true}
 use mathlib.Core.List.{List, [], _++_, _∷_, map}
 use mathlib.Core.Path.{_∙_, _≡_, ap, refl, sym}
 use Prim.Native.Nat.{_+_, _-_, ℕ}
@@ -14,32 +14,26 @@ use Rattle.claims_good.proofs.Rooms.{utteranceOf}
 use Rattle.claims_good.proofs.Stays.{run-stands, stays}
 use Rattle.claims_good.specs.Good.{Alike, AllProper, Proper, Stands, andEvent, noEvent, uttered}
 use Rattle.claims_noise.proofs.Allowed.{allowed-or-none, done-completes}
-use Rattle.claims_noise.proofs.Claims.{over-stands}
+use Rattle.claims_noise.proofs.Claims.{LeftAt, left-at}
 use Rattle.claims_fed.proofs.Frames.{Completed, bytes-proper, completed, does-same, fed-is-done, no-frame}
 use Rattle.claims_fed.specs.Fed.{FedIsDone, doesIn}
-use Rattle.claims_noise.proofs.Noise.{Left, leftCore, leftIn, noise-run, run-by}
+use Rattle.claims_noise.proofs.Noise.{Left, noise-run, run-by}
 use Rattle.claims_noise.proofs.OneByte.{footerIn, good-judged}
-use Rattle.claims_fed.specs.Awaits.{Awaits, AwaitsFrame, awaitsIn, command, eventOf, goodFor, headerIn, headerOf, inReady, inSetup, page}
+use Rattle.claims_fed.specs.Awaits.{Awaits, AwaitsFrame, awaitsIn, eventOf, goodFor, headerIn, headerOf}
 use Rattle.claims_fed.proofs.Steps.{stepped}
 use Rattle.claims_noise.proofs.Rooms.{as-if}
-use Rattle.claims_noise.specs.Claims.{AsIf, Carried, Line, Noise, OneFrameCarried, OnlyThis, commandOver, frameCame, lastGood, leftAt, leftBy, lineAfter, noiseOnly, noneGood, runBy}
-use Rattle.claims_noise.specs.Noise.{dataCompleted, empty, noFrame, thenAwaits}
+use Rattle.claims_noise.specs.Claims.{AsIf, Carried, Line, Noise, OneFrameCarried, OnlyThis, frameCame, lastGood, leftAt, lineAfter, noiseOnly, noneGood, runBy}
+use Rattle.claims_noise.specs.Noise.{noFrame, thenAwaits}
 use Rattle.chip_core.specs.Effect.{Effect}
-use Rattle.chip_pages.specs.Pages.{ready}
-use Rattle.chip_core.specs.declared.Awaited.{Awaited}
 use Rattle.chip_core.specs.declared.Core.{Core}
-use Rattle.chip_core.specs.declared.Phase.{Phase}
-use Rattle.chip_core.specs.declared.Phase.the-variants.{Awaiting}
 use Rattle.frame.proofs.Laws.Collector.{heard-none}
 use Rattle.frame.proofs.Laws.Judgement.{good-is}
 use Rattle.frame.proofs.Laws.Sum.{Below}
 use Rattle.frame.specs.Frame.{counted, headerByte}
-use Rattle.frame.specs.Framing.{Framed, Framing, Sound, begun, byte, frames, framing, gap, idle, inside, quiet}
+use Rattle.frame.specs.Framing.{Framed, Framing, Sound, begun, byte, framing, gap, idle, inside, quiet}
 use Rattle.frame.specs.declared.Header.{Header}
-use Rattle.frame.specs.declared.Header.the-variants.{Data}
 use Rattle.part.specs.declared.Part.{Part}
 use Rattle.words.proofs.Laws.{if-all}
-use Rattle.words.specs.Words.{if_then_else_}
 
 -- A frame that is begun is begun by the awaited header.
 data Headed (h : Header) : Framing → Type 0 where
@@ -85,37 +79,6 @@ run-front : (p : Part) (us : List Sound) (v : Sound) (o : Outcome) → run p (ma
 unfolding run
 run-front p [] v o = refl
 run-front p (u ∷ us) v o = run-front p us v (onward p o (eventOf u))
-
--- The state that the noise before the frame leaves.
-record LeftAt (p : Part) (o : Outcome) (us : List Sound) (q : Outcome) : Type 0 where
-  core : q .chip .core ≡ leftCore (o .chip .core) idle us
-  memory : q .memory ≡ o .memory
-  count : q .chip .collector .len ≡ 0
-  stands : Stands p q
-
-left-data : (p : Part) (o : Outcome) (us : List Sound) (w : Awaited) → Stands p o → o .chip .collector .len ≡ 0 → o .chip .core .phase ≡ Awaiting w
-    → LeftAt p o us (leftBy us o)
-unfolding leftBy dataCompleted leftCore leftIn commandOver if_then_else_
-left-data p o us w s n e = go (empty (frames Data idle us)) refl
-  where
-    core-is-left : (t : Bool) → empty (frames Data idle us) ≡ t
-        → (if t then o .chip .core else ready (o .chip .core)) ≡ leftIn (o .chip .core .phase) (o .chip .core) idle us
-    core-is-left t q =
-        sym (ap (λ (f : Phase). leftIn f (o .chip .core) idle us) e ∙ ap (λ (t : Bool). if t then o .chip .core else ready (o .chip .core)) q)
-
-    go : (t : Bool) → empty (frames Data idle us) ≡ t → LeftAt p o us (if not t then commandOver o else o)
-    go true q = record { core = core-is-left true q; memory = refl; count = n; stands = s }
-    go false q = record { core = core-is-left false q; memory = refl; count = n; stands = over-stands p o s n }
-
-left-at : (p : Part) (o : Outcome) (us : List Sound) → Stands p o → o .chip .collector .len ≡ 0 → AwaitsFrame (o .chip .core .phase)
-    → LeftAt p o us (leftAt (o .chip .core .phase) us o)
-unfolding leftCore leftIn
-left-at p o us s n a = go (o .chip .core .phase) refl a
-  where
-    go : (f : Phase) → o .chip .core .phase ≡ f → AwaitsFrame f → LeftAt p o us (leftAt f us o)
-    go f e (command inSetup) = record { core = sym (ap (λ (f : Phase). leftIn f (o .chip .core) idle us) e); memory = refl; count = n; stands = s }
-    go f e (command inReady) = record { core = sym (ap (λ (f : Phase). leftIn f (o .chip .core) idle us) e); memory = refl; count = n; stands = s }
-    go f e (page w) = left-data p o us w s n e
 
 -- The frame came, after the noise us, with the sound v.
 module _ (p : Part) (o : Outcome) (f : List ℕ) (us : List Sound) (v : Sound) (below : Below 256 f) (a : AwaitsFrame (o .chip .core .phase))

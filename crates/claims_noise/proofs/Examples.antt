@@ -8,23 +8,28 @@ use native.Mathlib.Omega.{arith}
 use lib.Dec.{ltb}
 use lib.ListN.{getD, length-replicate, replicate, set, take}
 use borrow.Author.Tests.{ltb-true}
-use Rattle.chip.specs.Step.{byteIn, frameDoes, heardByte, reactTo, settled, stepOf}
+use Rattle.chip.specs.Run.{run}
+use Rattle.chip.specs.Step.{Outcome, byteIn, frameDoes, heardByte, reactTo, settled, stepOf}
 use Rattle.chip_state.specs.Refusals.{goodAwaited, goodBegun, goodCollected, goodCore, goodPhase, goodPlaces, goodState, verdictOf}
 use Rattle.chip.specs.declared.Event.the-variants.{Byte}
 use Rattle.claims_frame.proofs.Framing.{header, nothing}
+use Rattle.claims_fed.proofs.Frames.{bytes-proper}
 use Rattle.claims_good.proofs.Fresh.{new-stands, the-part-is}
+use Rattle.claims_good.proofs.Stays.{run-stands}
 use Rattle.part.specs.Part.{Arrays, blockOf, blockSize, described, liesIn, pageOf, placeIn, placeOf}
 use Rattle.claims_good.specs.Good.{AllProper, Stands, aByte, aGap, andEvent, noEvent}
-use Rattle.claims_noise.proofs.Claims.{noise-at-command}
+use Rattle.claims_noise.proofs.Claims.{noise-at-command, noise-branches}
 use Rattle.claims_noise.proofs.OneByte.{one-byte-changed}
-use Rattle.claims_noise.specs.Claims.{AsIf, IsBad, Noise, OneByte, commandOver, runBy, saysBy}
+use Rattle.claims_noise.specs.Claims.{AsIf, IsBad, Noise, NoiseAfter, OneByte, commandOver, runBy, saysBy, withCollected}
 use Rattle.claims_fed.specs.Awaits.{aCommand, eventOf, goodFor, inReady, page}
-use Rattle.claims_noise.specs.Examples.{allSaid, cutPage, eraseFrame, innerReset, longNoise, pageFrame, reset, secondPage, writingChip, wrongPage}
+use Rattle.claims_noise.specs.Examples.{allSaid, begunErase, begunPage, cutPage, damagedHalf, damagedRest, eraseFrame, innerReset, longNoise, pageFrame, reset, restOfErase, secondPage, writingChip, wrongPage}
 use Rattle.claims_noise.specs.Noise.{allows, completesOnly, dataCompleted, empty, noFrame, only, permitted, thenAwaits, thenGap}
 use Rattle.claims_stars.specs.Table.{readyChip, thePart}
 use Rattle.chip_commands.specs.Commands.{commandDoes}
 use Rattle.chip_core.specs.Hearing.{hearing}
 use Rattle.chip_core.specs.Effect.{Flash}
+use Rattle.chip_core.specs.declared.Phase.{Phase}
+use Rattle.chip_core.specs.declared.Phase.the-variants.{Awaiting, Ready}
 use Rattle.chip_pages.specs.Pages.{badData, dataDoes, footerOf, goodData, isLastPage, lengthOf, nextPage, pageIn, pageStored, programPage, storedReply}
 use Rattle.chip_flash.specs.Flash.{blank}
 use Rattle.frame.proofs.Laws.Sum.{Below, more, none}
@@ -192,3 +197,57 @@ page-changed-is-bad = one-byte-changed thePart writingChip pageFrame 259 0x03 (p
 pub page-changed-not-stored : getD (runBy stepOf thePart (map Byte (set pageFrame 259 0x03)) writingChip .memory .codeFlash) 0x0500 0 ≡ 0xFF
 unfolding commandOver
 page-changed-not-stored = ap (λ (m : Flash). getD (m .codeFlash) 0x0500 0) (sym (page-changed-is-bad .leaves .now .memory))
+
+-- Something was collected: three bytes of a frame, half of a page.
+record Begun (o : Outcome) (f : Phase) (bs : List ℕ) : Type 0 where
+  phase : o .chip .core .phase ≡ f
+  heard-so : heard (o .chip .collector) ≡ bs
+
+record BegunFrames : Type 0 where
+  erase : Begun begunErase Ready (take 3 eraseFrame)
+  page : Begun begunPage (Awaiting secondPage) (take 130 pageFrame)
+
+begun-frames : BegunFrames
+unfolding run eraseFrame pageFrame goodAwaited goodPlaces stepOf settled verdictOf firstOf described _from_to_ _and_ _or_ if_then_else_ goodState goodCollected
+    goodBegun goodCore goodOptions fixedBits goodPhase lastBlock freshOptions fresh heard holding hear complete full counted isFrame reactTo byteIn hearing
+    heardByte frameDoes sumOf lessAll less placeOf liesIn placeIn blockOf pageOf blockSize saidOf framesOf framed payloads
+begun-frames = record { erase = record { phase = refl; heard-so = refl }; page = record { phase = refl; heard-so = refl } }
+
+-- With the rest of the frame damaged it is noise.
+pub damaged-rest : NoiseAfter thePart begunErase damagedRest
+unfolding eraseFrame damagedRest allBelow bytesOnly completesOnly permitted thenAwaits framing goodFor allows empty counted judgeOf isFrame summed sumOf lessAll
+    less _and_ _or_ if_then_else_
+damaged-rest =
+    record {
+      stands = run-stands thePart (map Byte (take 3 eraseFrame)) readyChip ready-stands (bytes-proper (below-by (take 3 eraseFrame) refl));
+      bytes = proper-by damagedRest refl;
+      quiet = rw (begun-frames .erase .phase, begun-frames .erase .heard-so);
+    }
+
+-- With the rest undamaged it is not, though the rest alone completes nothing: what is collected belongs to the premise.
+pub rest-alone : completesOnly noFrame aCommand idle restOfErase ≡ true
+unfolding eraseFrame restOfErase completesOnly permitted thenAwaits framing empty counted _and_ if_then_else_
+rest-alone = refl
+
+pub rest-completes : completesOnly noFrame aCommand idle (withCollected begunErase restOfErase) ≡ false
+unfolding eraseFrame restOfErase completesOnly permitted thenAwaits framing goodFor allows empty counted judgeOf isFrame summed sumOf lessAll less _and_ _or_
+    if_then_else_
+rest-completes = rw (begun-frames .erase .heard-so)
+
+-- The rest of the page, with 03h where 17h is awaited, completes a data frame, and the command is over.
+pub damaged-half : NoiseAfter thePart begunPage damagedHalf
+unfolding pageFrame damagedHalf allBelow bytesOnly completesOnly permitted thenAwaits framing goodFor allows empty footerOf lengthOf isLastPage fitting counted
+    judgeOf isFrame summed framed sumOf lessAll less _and_ _or_ if_then_else_
+damaged-half =
+    record {
+      stands = run-stands thePart (map Byte (take 130 pageFrame)) writingChip writing-stands (bytes-proper (below-by (take 130 pageFrame) refl));
+      bytes = proper-by damagedHalf refl;
+      quiet = rw (begun-frames .page .phase, begun-frames .page .heard-so);
+    }
+
+pub damaged-half-completes : dataCompleted (withCollected begunPage damagedHalf) ≡ true
+unfolding pageFrame damagedHalf dataCompleted frames framing empty counted framed sumOf lessAll less if_then_else_
+damaged-half-completes = rw (begun-frames .page .heard-so)
+
+pub damaged-half-ends : runBy stepOf thePart (thenGap damagedHalf) begunPage .chip .core .phase ≡ Ready
+damaged-half-ends = noise-branches thePart begunPage secondPage damagedHalf (begun-frames .page .phase) damaged-half .ends damaged-half-completes

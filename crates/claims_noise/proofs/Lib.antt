@@ -1,4 +1,5 @@
 pub mod Rooms
+pub mod Collected
 pub mod Noise
 pub mod Claims
 pub mod OneByte

@@ -2,9 +2,8 @@
 -- Assumes nothing.
 use mathlib.Core.Bool.{Bool, false, false≢true, not, true}
 use mathlib.Core.List.{List, [], _++_, _∷_, map}
-use mathlib.Core.Path.{_∙_, _≡_, ap, refl, sym}
+use mathlib.Core.Path.{_∙_, _≡_, ap, refl, subst, sym}
 use Prim.Native.Nat.{ℕ}
-use Rattle.chip.proofs.Runs.{run-append}
 use Rattle.chip.specs.Run.{answers, onward, run, spokenIn}
 use Rattle.chip.specs.Step.{Outcome, reactTo, stepOf}
 use Rattle.chip.specs.declared.Event.{Event}
@@ -12,12 +11,13 @@ use Rattle.chip.specs.declared.Event.the-variants.{Gap}
 use Rattle.claims_frame.proofs.Framing.{Same, nothing}
 use Rattle.claims_good.proofs.Rooms.{leaves, reactionOf}
 use Rattle.claims_good.proofs.Stays.{run-stands, stays}
-use Rattle.claims_good.specs.Good.{AllProper, Proper, Stands, Utterance, aGap, andEvent, noEvent, utterances, uttered}
+use Rattle.claims_good.specs.Good.{AllProper, Proper, Stands, Utterance, aGap, andEvent, utterances, uttered}
 use Rattle.claims_fed.proofs.Bad.{bad-frame-does}
 use Rattle.claims_fed.specs.Fed.{badCore}
 use Rattle.claims_fed.proofs.Steps.{Stepped, frameDone, onlyHeard, stepped}
 use Rattle.claims_fed.specs.Awaits.{Awaits, AwaitsFrame, awaitsIn, command, eventOf, goodFor, headerIn, inReady, inSetup, page}
-use Rattle.claims_noise.specs.Claims.{Line, Noise, lineAfter, runBy, saysBy}
+use Rattle.claims_noise.proofs.Collected.{Leads, chip-stood, leads-frames, leads-quiet}
+use Rattle.claims_noise.specs.Claims.{Line, Noise, NoiseAfter, lineAfter, runBy, saysBy, withCollected}
 use Rattle.claims_noise.specs.Noise.{allows, completesOnly, empty, noFrame, permitted, thenAwaits, thenGap}
 use Rattle.chip_pages.specs.Pages.{ready}
 use Rattle.chip_core.specs.declared.Core.{Core}
@@ -25,7 +25,7 @@ use Rattle.chip_core.specs.declared.Phase.{Phase}
 use Rattle.chip_core.specs.declared.Phase.the-variants.{Awaiting, ModeByte, Ready, Setup}
 use Rattle.frame.proofs.Laws.Collector.{heard-none}
 use Rattle.frame.specs.Collector.{heard}
-use Rattle.frame.specs.Framing.{Framing, Sound, frames, framing, idle}
+use Rattle.frame.specs.Framing.{Framing, Sound, byte, frames, framing, idle}
 use Rattle.frame.specs.declared.Header.the-variants.{Data}
 use Rattle.part.specs.declared.Part.{Part}
 use Rattle.words.proofs.Laws.{and-left, and-right}
@@ -189,38 +189,77 @@ noise-run p [] u w s a m q e = record { core = sym (left-none (u .chip .core) w)
 noise-run p (v ∷ vs) u w s a m (andEvent h q) e =
     one-sound p v vs u w s a h (λ w′ s′ a′ m′ e′. noise-run p vs (onward p u (eventOf v)) w′ s′ a′ m′ q e′) e (stepped p u v w s a m)
 
--- And the gap after it.
-gap-leaves : (p : Part) (t : Outcome) → Stands p t → (onward p t Gap .chip .core ≡ t .chip .core) × (onward p t Gap .memory ≡ t .memory)
-    × (onward p t Gap .chip .collector .len ≡ 0) × (heard (onward p t Gap .chip .collector) ≡ [])
-unfolding reactionOf reactTo
-gap-leaves p t s = let l = leaves p t Gap s in (l .core, l .memory, l .count, l .hears)
+-- What is collected leads to where the noise begins.
+left-leads : {x : Framing} {us : List Sound} (k : Core) (vs : List Sound) → AwaitsFrame (k .phase) → Leads (headerIn (k .phase)) idle us x
+    → leftCore k x vs ≡ leftCore k idle (us ++ vs)
+unfolding leftCore leftIn
+left-leads {x} {us} k vs a l = go (k .phase) a l
+  where
+    go : (f : Phase) → AwaitsFrame f → Leads (headerIn f) idle us x → leftIn f k x vs ≡ leftIn f k idle (us ++ vs)
+    go f (command inSetup) l = refl
+    go f (command inReady) l = refl
+    go f (page w) l = ap (λ (ds : List (List ℕ)). if empty ds then k else ready k) (sym (leads-frames l vs))
 
-proper-append : {us vs : List Event} → AllProper us → AllProper vs → AllProper (us ++ vs)
-proper-append noEvent r = r
-proper-append (andEvent h q) r = andEvent h (proper-append q r)
+-- The chip after the noise, before what ends it.
+pub record NoiseHeard (p : Part) (o : Outcome) (vs : List Sound) (t : Outcome) : Type 0 where
+  pub core : t .chip .core ≡ leftCore (o .chip .core) idle (withCollected o vs)
+  pub memory : t .memory ≡ o .memory
+  pub stands : Stands p t
+
+pub noise-heard : (p : Part) (o : Outcome) (vs : List Sound) → AwaitsFrame (o .chip .core .phase) → NoiseAfter p o vs → NoiseHeard p o vs (run p (map eventOf vs) o)
+noise-heard p o vs a n =
+    let c = chip-stood p o (n .stands) a in
+    let l = noise-run p vs o (c .at) (n .stands) a (c .same) (n .bytes) (leads-quiet (awaitsIn (o .chip .core .phase)) (c .leads) vs (n .quiet)) in
+    record {
+      core = l .core ∙ left-leads (o .chip .core) vs a (c .leads);
+      memory = l .memory;
+      stands = run-stands p (map eventOf vs) o (n .stands) (n .bytes);
+    }
+
+-- And the gap after it.
+pub record Forgets (t u : Outcome) : Type 0 where
+  pub core : u .chip .core ≡ t .chip .core
+  pub memory : u .memory ≡ t .memory
+  pub count : u .chip .collector .len ≡ 0
+
+pub gap-forgets : (p : Part) (t : Outcome) → Stands p t → Forgets t (onward p t Gap)
+unfolding reactionOf reactTo
+gap-forgets p t s = let l = leaves p t Gap s in record { core = l .core; memory = l .memory; count = l .count }
+
+pub run-last : (p : Part) (us : List Event) (v : Event) (o : Outcome) → run p (us ++ v ∷ []) o ≡ onward p (run p us o) v
+unfolding run
+run-last p [] v o = refl
+run-last p (u ∷ us) v o = run-last p us v (onward p o u)
 
 pub record NoiseLeaves (p : Part) (o : Outcome) (vs : List Sound) (t : Outcome) : Type 0 where
   pub core : t .chip .core ≡ leftCore (o .chip .core) idle vs
   pub memory : t .memory ≡ o .memory
   pub count : t .chip .collector .len ≡ 0
-  pub hears : heard (t .chip .collector) ≡ []
   pub stands : Stands p t
 
-pub noise-leaves : (p : Part) (o : Outcome) (vs : List Sound) → AwaitsFrame (o .chip .core .phase) → Noise noFrame p o vs
-    → NoiseLeaves p o vs (run p (thenGap vs) o)
-unfolding thenGap run
+pub noise-leaves : (p : Part) (o : Outcome) (vs : List Sound) → AwaitsFrame (o .chip .core .phase) → NoiseAfter p o vs
+    → NoiseLeaves p o (withCollected o vs) (run p (thenGap vs) o)
+unfolding thenGap
 noise-leaves p o vs a n =
-    let z : heard (o .chip .collector) ≡ [] = heard-none (o .chip .collector) (n .nothing) in
     let t : Outcome = run p (map eventOf vs) o in
-    let l = noise-run p vs o idle (n .stands) a (rw z nothing) (n .bytes) (n .quiet) in
-    let st = run-stands p (map eventOf vs) o (n .stands) (n .bytes) in
-    let g = gap-leaves p t st in
-    let e : run p (thenGap vs) o ≡ onward p t Gap = run-append p (map eventOf vs) (Gap ∷ []) o in
-    rw e
-    (record {
-      core = g .0 ∙ l .core;
-      memory = g .1 ∙ l .memory;
-      count = g .2;
-      hears = g .3;
-      stands = stays p t Gap st aGap;
-    })
+    let l = noise-heard p o vs a n in
+    let g = gap-forgets p t (l .stands) in
+    let e : run p (thenGap vs) o ≡ onward p t Gap = run-last p (map eventOf vs) Gap o in
+    rw e (record { core = g .core ∙ l .core; memory = g .memory ∙ l .memory; count = g .count; stands = stays p t Gap (l .stands) aGap })
+
+-- Where nothing is collected, the rule hears the noise alone.
+pub none-collected : (o : Outcome) (vs : List Sound) → o .chip .collector .len ≡ 0 → withCollected o vs ≡ vs
+none-collected o vs e = ap (λ (hs : List ℕ). map byte hs ++ vs) (heard-none (o .chip .collector) e)
+
+pub noise-after : (p : Part) (o : Outcome) (vs : List Sound) → Noise noFrame p o vs → NoiseAfter p o vs
+noise-after p o vs n =
+    record {
+      stands = n .stands;
+      bytes = n .bytes;
+      quiet = ap (completesOnly noFrame (awaitsIn (o .chip .core .phase)) idle) (none-collected o vs (n .nothing)) ∙ n .quiet;
+    }
+
+pub from-nothing : (p : Part) (o : Outcome) (vs : List Sound) → AwaitsFrame (o .chip .core .phase) → Noise noFrame p o vs
+    → NoiseLeaves p o vs (run p (thenGap vs) o)
+from-nothing p o vs a n =
+    subst (λ (us : List Sound). NoiseLeaves p o us (run p (thenGap vs) o)) (none-collected o vs (n .nothing)) (noise-leaves p o vs a (noise-after p o vs n))

@@ -12,9 +12,9 @@ use Rattle.chip.specs.Step.{Outcome}
 use Rattle.chip.specs.declared.Answer.the-variants.{Refused}
 use Rattle.chip_state.specs.declared.Chip.{Chip}
 use Rattle.chip.specs.declared.Event.{Event}
-use Rattle.chip.specs.declared.Event.the-variants.{Byte}
+use Rattle.chip.specs.declared.Event.the-variants.{Byte, Gap, PowerOn}
 use Rattle.claims_good.specs.Good.{Alike, AllProper, Stands, Utterance, uttered}
-use Rattle.claims_noise.specs.Noise.{Allowed, completesOnly, dataCompleted, noFrame, only, thenAwaits, thenGap}
+use Rattle.claims_noise.specs.Noise.{Allowed, completesOnly, dataCompleted, noFrame, only, thenAwaits, thenGap, thenPowerOn}
 use Rattle.claims_fed.specs.Awaits.{Awaits, AwaitsCommand, AwaitsFrame, awaitsIn, eventOf, goodFor, headerOf}
 use Rattle.chip_core.specs.Effect.{Flash, flash}
 use Rattle.chip_pages.specs.Pages.{ready}
@@ -22,6 +22,7 @@ use Rattle.chip_core.specs.declared.Awaited.{Awaited}
 use Rattle.chip_core.specs.declared.Phase.{Phase}
 use Rattle.chip_core.specs.declared.Phase.the-variants.{Awaiting, ModeByte, Ready, Setup}
 use Rattle.frame.proofs.Laws.Sum.{Below}
+use Rattle.frame.specs.Collector.{heard}
 use Rattle.frame.specs.Frame.{headerByte}
 use Rattle.frame.specs.Framing.{Framing, Sound, byte, frames, framing, idle}
 use Rattle.part.specs.declared.Part.{Part}
@@ -108,16 +109,44 @@ NoiseAtData M =
     (p : Part) (o : Outcome) (w : Awaited) (vs : List Sound) → o .chip .core .phase ≡ Awaiting w → Noise noFrame p o vs
     → AsIf M p (leftBy vs o) (runBy M p (thenGap vs) o)
 
--- The branch is an if-and-only-if: the chip still awaits data exactly when no data frame was completed, else it is ready.
+-- What noise leaves before a gap, but for what is collected: as before, or, where data was awaited and a data frame was completed, the command over.
+abbrev pub leftAt : Phase → List Sound → Outcome → Outcome
+leftAt ModeByte vs o = o
+leftAt Setup vs o = o
+leftAt Ready vs o = o
+leftAt (Awaiting w) vs o = leftBy vs o
+
+-- Demand 3 takes a chip with nothing collected. Where something is, the rule has heard that too: what is collected, and then the noise, complete no good frame.
+abbrev pub withCollected : Outcome → List Sound → List Sound
+withCollected o vs = map byte (heard (o .chip .collector)) ++ vs
+
+pub record NoiseAfter (p : Part) (o : Outcome) (vs : List Sound) : Type 0 where
+  pub stands : Stands p o
+  pub bytes : AllProper (map eventOf vs)
+  pub quiet : completesOnly noFrame (awaitsIn (o .chip .core .phase)) idle (withCollected o vs) ≡ true
+
+-- Then a gap leaves the chip as if it had heard only the gap; or, where it awaited a data frame and one was completed, the command is over.
+abbrev pub GapEndsNoise : Machine → Type 0
+GapEndsNoise M =
+    (p : Part) (o : Outcome) (vs : List Sound) → AwaitsFrame (o .chip .core .phase) → NoiseAfter p o vs
+    → AsIf M p (leftAt (o .chip .core .phase) (withCollected o vs) (onwardBy M p o Gap)) (runBy M p (thenGap vs) o)
+
+-- And power-on leaves it as if it had heard only the power-on: "returns to the first phase", the command over or not.
+abbrev pub PowerOnEndsNoise : Machine → Type 0
+PowerOnEndsNoise M =
+    (p : Part) (o : Outcome) (vs : List Sound) → AwaitsFrame (o .chip .core .phase) → NoiseAfter p o vs
+    → AsIf M p (onwardBy M p o PowerOn) (runBy M p (thenPowerOn vs) o)
+
+-- The branch is an if-and-only-if, whether something was collected or not: the chip still awaits data exactly when no data frame was completed, else it is ready.
 pub record Branch (M : Machine) (p : Part) (o : Outcome) (w : Awaited) (vs : List Sound) : Type 0 where
-  pub stays : dataCompleted vs ≡ false → runBy M p (thenGap vs) o .chip .core .phase ≡ Awaiting w
-  pub ends : dataCompleted vs ≡ true → runBy M p (thenGap vs) o .chip .core .phase ≡ Ready
-  pub stayed : runBy M p (thenGap vs) o .chip .core .phase ≡ Awaiting w → dataCompleted vs ≡ false
-  pub ended : runBy M p (thenGap vs) o .chip .core .phase ≡ Ready → dataCompleted vs ≡ true
+  pub stays : dataCompleted (withCollected o vs) ≡ false → runBy M p (thenGap vs) o .chip .core .phase ≡ Awaiting w
+  pub ends : dataCompleted (withCollected o vs) ≡ true → runBy M p (thenGap vs) o .chip .core .phase ≡ Ready
+  pub stayed : runBy M p (thenGap vs) o .chip .core .phase ≡ Awaiting w → dataCompleted (withCollected o vs) ≡ false
+  pub ended : runBy M p (thenGap vs) o .chip .core .phase ≡ Ready → dataCompleted (withCollected o vs) ≡ true
 
 abbrev pub NoiseBranches : Machine → Type 0
 NoiseBranches M =
-    (p : Part) (o : Outcome) (w : Awaited) (vs : List Sound) → o .chip .core .phase ≡ Awaiting w → Noise noFrame p o vs → Branch M p o w vs
+    (p : Part) (o : Outcome) (w : Awaited) (vs : List Sound) → o .chip .core .phase ≡ Awaiting w → NoiseAfter p o vs → Branch M p o w vs
 
 -- "A good frame with exactly one byte after its length byte changed": f is good where it is awaited, and its byte i becomes v.
 pub record OneByte (p : Part) (o : Outcome) (f : List ℕ) (i v : ℕ) : Type 0 where
@@ -169,13 +198,6 @@ pub data OnlyThis (f : List ℕ) (a : Awaits) (w : Framing) (vs : List Sound) : 
 
 abbrev pub AllowedOrNone : Type 0
 AllowedOrNone = (f : List ℕ) (a : Awaits) (w : Framing) (vs : List Sound) → completesOnly (only f) a w vs ≡ true → OnlyThis f a w vs
-
--- What noise leaves before a gap, but for what is collected: as before, or, where data was awaited and a data frame was completed, the command over.
-abbrev pub leftAt : Phase → List Sound → Outcome → Outcome
-leftAt ModeByte vs o = o
-leftAt Setup vs o = o
-leftAt Ready vs o = o
-leftAt (Awaiting w) vs o = leftBy vs o
 
 -- A line on which at most the frame f came: only noise came, or noise and then f. In the second case all is as if f had come alone, byte by byte, to the chip
 -- that the noise before it leaves, and the same is said to its last byte.

@@ -1,11 +1,12 @@
 -- Worked noise, on the part of document 01's examples: inputs that meet the premises of demand 3's claims, and one that does not.
 use mathlib.Core.List.{List, [], _++_, _∷_, map}
 use Prim.Native.Nat.{ℕ}
-use lib.ListN.{replicate}
-use Rattle.chip.specs.Run.{before}
+use lib.ListN.{drop, replicate, set, take}
+use Rattle.chip.specs.Run.{before, run}
 use Rattle.chip.specs.Step.{Outcome}
+use Rattle.chip.specs.declared.Event.the-variants.{Byte}
 use Rattle.claims_good.specs.Good.{Utterance}
-use Rattle.claims_stars.specs.Table.{thePart}
+use Rattle.claims_stars.specs.Table.{readyChip, thePart}
 use Rattle.chip_core.specs.Effect.{flash}
 use Rattle.chip_core.specs.declared.Awaited.{Awaited}
 use Rattle.chip_core.specs.declared.Phase.the-variants.{Awaiting}
@@ -53,6 +54,23 @@ eraseFrame = 0x01 ∷ 0x04 ∷ 0x22 ∷ 0x00 ∷ 0x04 ∷ 0x00 ∷ 0xD6 ∷ 0x03
 
 unfoldable pub pageFrame : List ℕ
 pageFrame = dataFrame (replicate 256 0xAA) More
+
+-- Something collected already: the first three bytes of "Erase 0400h"; its rest, and the rest with a wrong SUM.
+abbrev pub begunErase : Outcome
+begunErase = run thePart (map Byte (take 3 eraseFrame)) readyChip
+
+unfoldable pub restOfErase : List Sound
+restOfErase = map byte (drop 3 eraseFrame)
+
+unfoldable pub damagedRest : List Sound
+damagedRest = map byte (set (drop 3 eraseFrame) 3 0xD7)
+
+-- The first half of a page, and its rest with 03h where 17h is awaited.
+abbrev pub begunPage : Outcome
+begunPage = run thePart (map Byte (take 130 pageFrame)) writingChip
+
+unfoldable pub damagedHalf : List Sound
+damagedHalf = map byte (set (drop 130 pageFrame) 129 0x03)
 
 -- All that is said, one after the other.
 unfoldable pub allSaid : List Utterance → List ℕ

@@ -5,7 +5,7 @@ use mathlib.Core.List.{List, [], _++_, _∷_, map}
 use Prim.Native.Nat.{ℕ}
 use Rattle.claims_fed.specs.Awaits.{Awaits, aCommand, eventOf, goodFor, headerOf}
 use Rattle.chip.specs.declared.Event.{Event}
-use Rattle.chip.specs.declared.Event.the-variants.{Gap}
+use Rattle.chip.specs.declared.Event.the-variants.{Gap, PowerOn}
 use Rattle.lent.specs.Lent.{same}
 use Rattle.frame.specs.Framing.{Framing, Sound, frames, framing, idle}
 use Rattle.frame.specs.declared.Header.the-variants.{Data}
@@ -45,6 +45,9 @@ completesOnly g a w (v ∷ vs) =
 unfoldable pub dataCompleted : List Sound → Bool
 dataCompleted vs = not (empty (frames Data idle vs))
 
--- "then a gap".
+-- "then a gap"; or power-on.
 unfoldable pub thenGap : List Sound → List Event
 thenGap vs = map eventOf vs ++ Gap ∷ []
+
+unfoldable pub thenPowerOn : List Sound → List Event
+thenPowerOn vs = map eventOf vs ++ PowerOn ∷ []
