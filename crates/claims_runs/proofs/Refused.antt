@@ -1,0 +1,205 @@
+-- The proofs of `RefusedWork` and `RefusedChangesNothing`.
+-- Assumes nothing.
+use mathlib.Core.Bool.{Bool, false, false≢true, not, true}
+use mathlib.Core.List.{List, []}
+use mathlib.Core.Path.{_∙_, _≡_, ap, refl, sym}
+use Prim.Native.Nat.{ℕ}
+use lib.Dec.{eqb}
+use lib.ListN.{length}
+use Rattle.chip.specs.Run.{onward}
+use Rattle.chip.specs.Step.{Reaction, frameDoes, reaction, silent}
+use Rattle.chip_commands.specs.Commands.{commandDoes, readingDoes, work}
+use Rattle.chip_core.specs.Effect.{Effect, Flash, effect, told}
+use Rattle.chip_core.specs.Hearing.{hearing}
+use Rattle.chip_core.specs.declared.Awaited.{Awaited}
+use Rattle.chip_core.specs.declared.Core.{Core}
+use Rattle.chip_core.specs.declared.Phase.{Phase}
+use Rattle.chip_core.specs.declared.Phase.the-variants.{Awaiting, ModeByte, Ready, Setup}
+use Rattle.chip_options.specs.declared.Options.{Options}
+use Rattle.chip_pages.specs.Pages.{badData, dataDoes, goodData, programPage, ready, securityData, storedReply, verifyPage}
+use Rattle.chip_reply.specs.Reply.{framesOf, payloads}
+use Rattle.chip_reply.specs.declared.Reply.{Reply}
+use Rattle.chip_reply.specs.declared.Reply.the-variants.{LastStored, Pair, Rate, Security, Signature, Silence, Status, Sum}
+use Rattle.chip_work.specs.Work.{blankCheck, blockErase, checksum, programming, rateSet, securityRelease, verify}
+use Rattle.claims_fed.specs.Fed.{does, doesIn}
+use Rattle.claims_good.proofs.Rooms.{Leaves, leaves, reactionOf, says-reaction, utteranceOf}
+use Rattle.claims_runs.proofs.Taken.{Went, frameDone, onlyHeard, quietCore, went}
+use Rattle.claims_runs.specs.Refused.{NothingChanged, RefusedChangesNothing, RefusedWork, SameRecord, phaseOver, refuses, statusesSaid}
+use Rattle.claims_runs.specs.Taken.{takenBy}
+use Rattle.commands.specs.declared.Command.{Command}
+use Rattle.commands.specs.declared.Command.the-variants.{BlankCheck, BlockErase, Checksum, Programming, RateSet, Reset, SecurityGet, SecurityRelease, SecuritySet, SignatureGet, Verify}
+use Rattle.commands.specs.declared.Reading.{Reading}
+use Rattle.commands.specs.declared.Reading.the-variants.{Meant, UnfitLen, Unknown}
+use Rattle.frame.specs.Frame.{framed}
+use Rattle.lent.specs.Lent.{allAre}
+use Rattle.part.specs.declared.Part.{Part}
+use Rattle.part.specs.declared.Place.{Place}
+use Rattle.part.specs.declared.Place.the-variants.{In, Outside}
+use Rattle.part.specs.declared.Range.{Range}
+use Rattle.part.specs.declared.Range.the-variants.{Bad, Blocks}
+use Rattle.words.proofs.Laws.{and-true, if-all}
+use Rattle.words.specs.Words.{_and_, if_then_else_}
+
+-- The same of a reply: only a status and a pair can be another than 06h.
+denies : Reply → Bool
+denies Silence = false
+denies (Status s) = not (eqb s 0x06)
+denies (Rate mode) = false
+denies (Pair s t) = not (eqb s 0x06 and eqb t 0x06)
+denies LastStored = false
+denies (Sum n) = false
+denies Signature = false
+denies Security = false
+
+said-denies : (p : Part) (o : Options) (r : Reply) → not (allAre 0x06 (statusesSaid (framesOf (payloads p o r)))) ≡ denies r
+unfolding statusesSaid payloads framesOf framed allAre denies _and_ if_then_else_
+said-denies p o Silence = refl
+said-denies p o (Status s) = ap not (and-true (eqb s 0x06))
+said-denies p o (Rate mode) = refl
+said-denies p o (Pair s t) = ap (λ (x : Bool). not (eqb s 0x06 and x)) (and-true (eqb t 0x06))
+said-denies p o LastStored = refl
+said-denies p o (Sum n) = refl
+said-denies p o Signature = refl
+said-denies p o Security = refl
+
+refuses-denies : (p : Part) (x : Reaction) → refuses (utteranceOf p x) ≡ denies (x .does .reply)
+unfolding refuses utteranceOf
+refuses-denies p x = said-denies p (x .does .core .options) (x .does .reply)
+
+-- What a frame did is no refusal, or it left the record k and the flash m.
+record Same (k : Core) (m : Flash) (x : Effect) : Type 0 where
+  so : denies (x .reply) ≡ true → SameRecord k (x .core) m (x .memory)
+
+stays : (k : Core) (m : Flash) (r : Reply) → Same k m (effect (told r k) m)
+stays k m r = record { so = λ e. record { core = refl; memory = refl } }
+
+-- What is answered 06h alone is no refusal.
+allows : {k : Core} {m : Flash} {x : Effect} → denies (x .reply) ≡ false → Same k m x
+allows e = record { so = λ d. absurd (false≢true (sym e ∙ d)) }
+
+module _ (p : Part) (k : Core) (m : Flash) where
+  -- What is left of k and m after a refusal in a phase.
+  record Over (f : Phase) (x : Effect) : Type 0 where
+    memory : x .memory ≡ m
+    options : x .core .options ≡ k .options
+    rate : x .core .rate ≡ k .rate
+    phase : x .core .phase ≡ phaseOver f
+
+  rate-set : (rate supply : ℕ) → Same k m (effect (rateSet p k rate supply) m)
+  unfolding rateSet denies
+  rate-set rate supply = if-all (λ d. Same k m (effect d m)) _ (λ t. stays k m _) (λ t. allows refl)
+
+  erases : (x : Place) → Same k m (blockErase p k x m)
+  unfolding blockErase denies
+  erases Outside = stays k m _
+  erases (In a offset block page) = if-all (Same k m) _ (λ t. stays k m _) (λ t. if-all (Same k m) _ (λ u. stays k m _) (λ u. allows refl))
+
+  checks : (r : Range) (d01 : ℕ) → Same k m (effect (blankCheck p k r d01 m) m)
+  unfolding blankCheck
+  checks Bad d01 = stays k m _
+  checks (Blocks a block count) d01 =
+      if-all (λ d. Same k m (effect d m)) _ (λ t. stays k m _)
+      (λ t. if-all (λ d. Same k m (effect d m)) _ (λ u. stays k m _) (λ u. if-all (λ d. Same k m (effect d m)) _ (λ v. stays k m _) (λ v. stays k m _)))
+
+  programs : (r : Range) (start end : ℕ) → Same k m (effect (programming k r start end) m)
+  unfolding programming denies
+  programs Bad start end = stays k m _
+  programs (Blocks a block count) start end = if-all (λ d. Same k m (effect d m)) _ (λ t. stays k m _) (λ t. allows refl)
+
+  verifies : (r : Range) (start end : ℕ) → Same k m (effect (verify k r start end) m)
+  unfolding verify denies
+  verifies Bad start end = stays k m _
+  verifies (Blocks a block count) start end = allows refl
+
+  sums : (r : Range) → Same k m (effect (checksum p k r m) m)
+  unfolding checksum
+  sums Bad = stays k m _
+  sums (Blocks a block count) = stays k m _
+
+  releases : Same k m (effect (securityRelease p k m) m)
+  unfolding securityRelease denies
+  releases = if-all (λ d. Same k m (effect d m)) _ (λ t. stays k m _) (λ t. if-all (λ d. Same k m (effect d m)) _ (λ u. stays k m _) (λ u. allows refl))
+
+  works : (c : Command) → Same k m (work c p k m)
+  unfolding work denies
+  works (RateSet rate supply) = rate-set rate supply
+  works Reset = stays k m _
+  works (BlockErase start) = erases _
+  works (BlankCheck start end d01) = checks _ d01
+  works (Programming start end) = programs _ start end
+  works (Verify start end) = verifies _ start end
+  works (Checksum start end) = sums _
+  works SignatureGet = stays k m _
+  works SecurityGet = stays k m _
+  works SecuritySet = allows refl
+  works SecurityRelease = releases
+
+  reading-does : (r : Reading) → Same k m (readingDoes r p k m)
+  unfolding readingDoes
+  reading-does Unknown = stays k m _
+  reading-does UnfitLen = stays k m _
+  reading-does (Meant c) = works c
+
+  command-does : (f : List ℕ) → Same k m (commandDoes p k f m)
+  unfolding commandDoes
+  command-does f = if-all (Same k m) _ (λ t. stays k m _) (λ t. if-all (Same k m) _ (λ u. stays k m _) (λ u. reading-does _))
+
+  -- A data frame: its command is over.
+  stored-allowed : (w : Awaited) → denies (storedReply w) ≡ false
+  unfolding storedReply denies _and_
+  stored-allowed w = if-all (λ r. denies r ≡ false) _ (λ t. refl) (λ t. refl)
+
+  data-does : (w : Awaited) (f : List ℕ) → Same (ready k) m (dataDoes p k w f m)
+  unfolding dataDoes goodData badData securityData programPage verifyPage denies _and_
+  data-does w f =
+      if-all (Same (ready k) m) _ (λ t. if-all (λ d. Same (ready k) m (effect d m)) _ (λ u. stays (ready k) m _) (λ u. stays (ready k) m _))
+      (λ t. if-all (Same (ready k) m) _
+      (λ u. if-all (λ d. Same (ready k) m (effect d m)) _ (λ v. stays (ready k) m _)
+      (λ v. if-all (λ d. Same (ready k) m (effect d m)) _ (λ w. stays (ready k) m _) (λ w. allows refl)))
+      (λ u. if-all (Same (ready k) m) _
+      (λ v. if-all (Same (ready k) m) _ (λ x. stays (ready k) m _) (λ x. allows (stored-allowed w)))
+      (λ v. if-all (λ d. Same (ready k) m (effect d m)) _ (λ x. stays (ready k) m _) (λ x. allows refl))))
+
+  -- A frame in its phase.
+  over : (f : Phase) (l : Core) (x : Effect) → l .options ≡ k .options → l .rate ≡ k .rate → l .phase ≡ phaseOver f → SameRecord l (x .core) m (x .memory)
+      → Over f x
+  over f l x o r e s =
+      record {
+        memory = s .memory;
+        options = ap (λ (c : Core). c .options) (s .core) ∙ o;
+        rate = ap (λ (c : Core). c .rate) (s .core) ∙ r;
+        phase = ap (λ (c : Core). c .phase) (s .core) ∙ e;
+      }
+
+  frame-does : (f : Phase) (g : List ℕ) → k .phase ≡ f → denies (frameDoes (hearing f) p k g m .reply) ≡ true → Over f (frameDoes (hearing f) p k g m)
+  unfolding frameDoes hearing denies
+  frame-does ModeByte g e d = absurd (false≢true d)
+  frame-does Setup g e d = over Setup k _ refl refl e (command-does g .so d)
+  frame-does Ready g e d = over Ready k _ refl refl e (command-does g .so d)
+  frame-does (Awaiting w) g e d = over (Awaiting w) (ready k) _ refl refl refl (data-does w g .so d)
+
+pub refused-work : RefusedWork
+refused-work c p k m e = works p k m c .so (sym (refuses-denies p (reaction [] (work c p k m))) ∙ e)
+
+pub refused-changes-nothing : RefusedChangesNothing
+unfolding denies doesIn does
+refused-changes-nothing p o v s e =
+    let d : denies (reactionOf p o v .does .reply) ≡ true = sym (ap refuses (says-reaction p o v s) ∙ refuses-denies p (reactionOf p o v)) ∙ e in
+    go d (went p o v)
+  where
+    l : Leaves p o v
+    l = leaves p o v s
+
+    go : denies (reactionOf p o v .does .reply) ≡ true
+        → Went (takenBy o v) (λ f. doesIn p f (o .chip .core) (o .memory)) (silent (quietCore v (o .chip .core)) (o .memory)) (reactionOf p o v)
+        → NothingChanged o (onward p o v)
+    go d (onlyHeard t q) = absurd (false≢true (ap (λ (x : Effect). denies (x .reply)) (sym q) ∙ d))
+    go d (frameDone f t q) =
+        let x = frame-does p (o .chip .core) (o .memory) (o .chip .core .phase) f refl (ap (λ (r : Reaction). denies (r .does .reply)) (sym q) ∙ d) in
+        record {
+          memory = l .memory ∙ ap (λ (r : Reaction). r .does .memory) q ∙ x .memory;
+          options = ap (λ (c : Core). c .options) (l .core) ∙ ap (λ (r : Reaction). r .does .core .options) q ∙ x .options;
+          rate = ap (λ (c : Core). c .rate) (l .core) ∙ ap (λ (r : Reaction). r .does .core .rate) q ∙ x .rate;
+          phase = ap (λ (c : Core). c .phase) (l .core) ∙ ap (λ (r : Reaction). r .does .core .phase) q ∙ x .phase;
+          count = l .count ∙ ap (λ (r : Reaction). length (r .hears)) q;
+        }
