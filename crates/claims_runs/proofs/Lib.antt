@@ -1,3 +1,4 @@
 pub mod Sum
 pub mod Taken
 pub mod Refused
+pub mod Options
