@@ -2,3 +2,4 @@ pub mod Sum
 pub mod Taken
 pub mod Refused
 pub mod Options
+pub mod Window
