@@ -7,7 +7,7 @@ use native.Mathlib.Omega.{arith}
 use lib.ListN.{drop, getD, length, length-append, length-map, replicate, replicate-append-replicate, take}
 use lib.Seq.{append-snoc, drop-at, take-at}
 use borrow.Author.Tests.{eqb-true}
-use Rattle.chip.proofs.Feeding.{run-append}
+use Rattle.chip.proofs.Runs.{run-append}
 use Rattle.chip.specs.Run.{answers, onward, run, spokenIn}
 use Rattle.chip.specs.Step.{Outcome, Reaction, byteIn, heardByte, reactTo, reaction, silent, stepOf}
 use Rattle.chip.specs.declared.Event.{Event}
@@ -24,7 +24,7 @@ use Rattle.claims_fed.specs.Fed.{silence}
 use Rattle.claims_good.proofs.Rooms.{leaves, reactionOf, says-reaction, utteranceOf}
 use Rattle.claims_good.proofs.Stays.{run-stands, stays}
 use Rattle.claims_good.specs.Good.{Alike, AllProper, Stands, Utterance, aGap, andEvent, noEvent, utterances, uttered}
-use Rattle.claims_noise.proofs.Noise.{as-if}
+use Rattle.claims_noise.proofs.Rooms.{as-if}
 use Rattle.claims_noise.specs.Claims.{AsIf}
 use Rattle.claims_runs.specs.Unfinished.{CutAnywhere, CutShort, finished, finishedTo, unfinished}
 use Rattle.frame.proofs.Laws.Collector.{heard-none}
