@@ -19,18 +19,18 @@ lastBlock p = blocks p CodeFlash - 1
 unfoldable pub freshOptions : Part → Options
 freshOptions p = record { flags = 0xFF; boot = 0x03; start = 0; end = lastBlock p }
 
--- "Flags (003): bit 1 boot rewriting allowed, bit 2 block erase allowed, bit 4 writing allowed; 0 forbids."
+-- "Flags (003): bit 1 boot rewriting allowed, bit 2 block erase allowed, bit 4 writing allowed; 0 forbids.", of every part
 abbrev pub bit0 : ℕ → Bool
 bit0 flags = eqb (flags % 2) 1
 
-abbrev pub bootAllowed : ℕ → Bool
-bootAllowed flags = eqb (flags / 2 % 2) 1
+abbrev pub bootAllowed : Part → ℕ → Bool
+bootAllowed p flags = eqb (flags / 2 % 2) 1
 
-abbrev pub eraseAllowed : ℕ → Bool
-eraseAllowed flags = eqb (flags / 4 % 2) 1
+abbrev pub eraseAllowed : Part → ℕ → Bool
+eraseAllowed p flags = eqb (flags / 4 % 2) 1
 
-abbrev pub writeAllowed : ℕ → Bool
-writeAllowed flags = eqb (flags / 16 % 2) 1
+abbrev pub writeAllowed : Part → ℕ → Bool
+writeAllowed p flags = eqb (flags / 16 % 2) 1
 
 -- "bits 0, 3, 5, 6, 7 .. all 1", of every part
 unfoldable pub fixedBits : Part → ℕ → Bool
@@ -51,7 +51,7 @@ rises old new = not old and new
 
 unfoldable pub raises : Part → ℕ → ℕ → Bool
 raises p old new =
-    rises (bootAllowed old) (bootAllowed new) or rises (eraseAllowed old) (eraseAllowed new) or rises (writeAllowed old) (writeAllowed new)
+    rises (bootAllowed p old) (bootAllowed p new) or rises (eraseAllowed p old) (eraseAllowed p new) or rises (writeAllowed p old) (writeAllowed p new)
 
 -- A2h: "fresh flags and window"; the last boot block stays.
 unfoldable pub released : Part → Options → Options

@@ -13,20 +13,20 @@ pub struct Options {
     pub end: u32,
 }
 
-pub fn boot_allowed(flags: u8) -> bool
-    ensures { λ r. ⌜ r ≡ bootAllowed flags ⌝ }
+pub fn boot_allowed(part: Part, flags: u8) -> bool
+    ensures { λ r. ⌜ r ≡ bootAllowed part flags ⌝ }
 {
     flags / 2 % 2 == 1
 }
 
-pub fn erase_allowed(flags: u8) -> bool
-    ensures { λ r. ⌜ r ≡ eraseAllowed flags ⌝ }
+pub fn erase_allowed(part: Part, flags: u8) -> bool
+    ensures { λ r. ⌜ r ≡ eraseAllowed part flags ⌝ }
 {
     flags / 4 % 2 == 1
 }
 
-pub fn write_allowed(flags: u8) -> bool
-    ensures { λ r. ⌜ r ≡ writeAllowed flags ⌝ }
+pub fn write_allowed(part: Part, flags: u8) -> bool
+    ensures { λ r. ⌜ r ≡ writeAllowed part flags ⌝ }
 {
     flags / 16 % 2 == 1
 }
@@ -68,13 +68,13 @@ fn rises(old: bool, new: bool) -> bool
 pub fn raises(part: Part, old: u8, new: u8) -> bool
     ensures { λ r. ⌜ r ≡ raises part old new ⌝ }
 {
-    if rises(boot_allowed(old), boot_allowed(new)) {
+    if rises(boot_allowed(part, old), boot_allowed(part, new)) {
         return true;
     }
-    if rises(erase_allowed(old), erase_allowed(new)) {
+    if rises(erase_allowed(part, old), erase_allowed(part, new)) {
         return true;
     }
-    rises(write_allowed(old), write_allowed(new))
+    rises(write_allowed(part, old), write_allowed(part, new))
 }
 
 impl Options {

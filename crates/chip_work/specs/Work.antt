@@ -46,7 +46,7 @@ unfoldable pub blockErase : Part → Core → Place → Flash → Effect
 blockErase p k Outside m = effect (says parameterError k) m
 blockErase p k (In a offset block page) m =
     if not (eqb (offset % blockSize p a) 0) then effect (says parameterError k) m
-    else if forbidden (eraseAllowed (k .options .flags)) (isBoot a block) (bootAllowed (k .options .flags)) then effect (says protectError k) m
+    else if forbidden (eraseAllowed p (k .options .flags)) (isBoot a block) (bootAllowed p (k .options .flags)) then effect (says protectError k) m
     else effect (says acknowledge k) (erasedIn a offset (blockSize p a) m)
 
 -- The bytes of a good range.
@@ -63,10 +63,10 @@ blankCheck p k (Blocks a block count) d01 m =
     else says acknowledge k
 
 -- 40h: "range; 06h, then pages"; 10h "if bit 4 is 0, or the range holds a boot block and bit 1 is 0"
-unfoldable pub programming : Core → Range → ℕ → ℕ → Done
-programming k Bad start end = says parameterError k
-programming k (Blocks a block count) start end =
-    if forbidden (writeAllowed (k .options .flags)) (isBoot a block) (bootAllowed (k .options .flags)) then says protectError k
+unfoldable pub programming : Part → Core → Range → ℕ → ℕ → Done
+programming p k Bad start end = says parameterError k
+programming p k (Blocks a block count) start end =
+    if forbidden (writeAllowed p (k .options .flags)) (isBoot a block) (bootAllowed p (k .options .flags)) then says protectError k
     else says acknowledge (awaiting 0x40 start end k)
 
 -- 13h: "range; 06h, then pages"
@@ -82,6 +82,6 @@ checksum p k (Blocks a block count) m = told (Sum (sumOfBytes (rangeBytes p a bl
 -- A2h: "fresh flags and window"; 10h "if bit 1 or bit 2 is 0. Then A2h answers 1Bh unless all flash is blank."
 unfoldable pub securityRelease : Part → Core → Flash → Done
 securityRelease p k m =
-    if not (bootAllowed (k .options .flags) and eraseAllowed (k .options .flags)) then says protectError k
+    if not (bootAllowed p (k .options .flags) and eraseAllowed p (k .options .flags)) then says protectError k
     else if not (blank (m .codeFlash) and blank (m .dataFlash)) then says notBlank k
     else says acknowledge (record { options = released p (k .options); rate = k .rate; phase = k .phase })

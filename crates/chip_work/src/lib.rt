@@ -95,9 +95,9 @@ pub fn block_erase(part: Part, core: Core, start: usize, code: &mut [u8], data: 
                 let options = core.options;
                 let flags = options.flags;
                 if is_forbidden(
-                    chip_options::erase_allowed(flags),
+                    chip_options::erase_allowed(part, flags),
                     is_boot(area, block),
-                    chip_options::boot_allowed(flags),
+                    chip_options::boot_allowed(part, flags),
                 ) {
                     return Done {
                         reply: Reply::Status(0x10),
@@ -185,7 +185,7 @@ pub fn blank_check<'a>(
 }
 
 pub fn programming(part: Part, core: Core, start: usize, end: usize) -> Done
-    ensures { λ r. ⌜ r ≡ programming core (rangeOf part start end) start end ⌝ }
+    ensures { λ r. ⌜ r ≡ programming part core (rangeOf part start end) start end ⌝ }
 {
     let range = part.range(start, end);
     match range {
@@ -193,9 +193,9 @@ pub fn programming(part: Part, core: Core, start: usize, end: usize) -> Done
             let options = core.options;
             let flags = options.flags;
             if is_forbidden(
-                chip_options::write_allowed(flags),
+                chip_options::write_allowed(part, flags),
                 is_boot(area, block),
-                chip_options::boot_allowed(flags),
+                chip_options::boot_allowed(part, flags),
             ) {
                 return says(core, 0x10);
             }
@@ -247,11 +247,11 @@ fn is_all_blank(code: &[u8], data: &[u8]) -> bool
     false
 }
 
-fn is_releasable(flags: u8) -> bool
-    ensures { λ r. ⌜ r ≡ (bootAllowed flags and eraseAllowed flags) ⌝ }
+fn is_releasable(part: Part, flags: u8) -> bool
+    ensures { λ r. ⌜ r ≡ (bootAllowed part flags and eraseAllowed part flags) ⌝ }
 {
-    if chip_options::boot_allowed(flags) {
-        return chip_options::erase_allowed(flags);
+    if chip_options::boot_allowed(part, flags) {
+        return chip_options::erase_allowed(part, flags);
     }
     false
 }
@@ -260,7 +260,7 @@ pub fn release(part: Part, core: Core, code: &[u8], data: &[u8]) -> Done
     ensures { λ r. ⌜ r ≡ securityRelease part core (flash (now (code .entry)) (now («data» .entry))) ⌝ }
 {
     let options = core.options;
-    if is_releasable(options.flags) {
+    if is_releasable(part, options.flags) {
         if is_all_blank(code, data) {
             let released = options.released(part);
             let phase = core.phase;

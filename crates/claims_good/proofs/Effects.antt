@@ -84,7 +84,7 @@ module _ (p : Part) (k : Core) (part : described p ≡ true) (good : GoodCore p 
   unfolding goodPhase
   awaits w g = enters (Awaiting w) good g
 
-  program : (r : Range) (start end : ℕ) → rangeOf p start end ≡ r → GoodDone p (programming k r start end)
+  program : (r : Range) (start end : ℕ) → rangeOf p start end ≡ r → GoodDone p (programming p k r start end)
   unfolding programming _or_
   program Bad start end e = done-so good
   program (Blocks a block count) start end e =

@@ -76,7 +76,7 @@ module _ (p : Part) (k : Core) (m : Flash) (f : List ℕ) where
       (λ t. if-all (λ d. Sets p k ph f (effect d m)) _ (λ u. leaves-them refl)
       (λ u. if-all (λ d. Sets p k ph f (effect d m)) _ (λ v. leaves-them refl) (λ v. leaves-them refl)))
 
-  programs : (ph : Phase) (r : Range) (start end : ℕ) → Sets p k ph f (effect (programming k r start end) m)
+  programs : (ph : Phase) (r : Range) (start end : ℕ) → Sets p k ph f (effect (programming p k r start end) m)
   unfolding programming
   programs ph Bad start end = leaves-them refl
   programs ph (Blocks a block count) start end = if-all (λ d. Sets p k ph f (effect d m)) _ (λ t. leaves-them refl) (λ t. leaves-them refl)

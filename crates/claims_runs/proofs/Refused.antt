@@ -101,7 +101,7 @@ module _ (p : Part) (k : Core) (m : Flash) where
       if-all (λ d. Same k m (effect d m)) _ (λ t. stays k m _)
       (λ t. if-all (λ d. Same k m (effect d m)) _ (λ u. stays k m _) (λ u. if-all (λ d. Same k m (effect d m)) _ (λ v. stays k m _) (λ v. stays k m _)))
 
-  programs : (r : Range) (start end : ℕ) → Same k m (effect (programming k r start end) m)
+  programs : (r : Range) (start end : ℕ) → Same k m (effect (programming p k r start end) m)
   unfolding programming denies
   programs Bad start end = stays k m _
   programs (Blocks a block count) start end = if-all (λ d. Same k m (effect d m)) _ (λ t. stays k m _) (λ t. allows refl)

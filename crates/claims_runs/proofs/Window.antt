@@ -143,7 +143,7 @@ module _ (p : Part) (f : List ℕ) (k : Core) (m : Flash) (s e : ℕ) where
       if-two (λ x y. Beside p f (effect x m) (effect y m)) _ (λ t. so k _ m refl)
       (λ t. if-two (λ x y. Beside p f (effect x m) (effect y m)) _ (λ u. so k _ m refl) (λ u. fresh start end d01 c (eqb d01 0x01) refl))
 
-  programs : (r : Range) (start end : ℕ) → Beside p f (effect (programming k r start end) m) (effect (programming (withWindow s e k) r start end) m)
+  programs : (r : Range) (start end : ℕ) → Beside p f (effect (programming p k r start end) m) (effect (programming p (withWindow s e k) r start end) m)
   unfolding programming reads
   programs Bad start end = so k _ m refl
   programs (Blocks a block count) start end = if-two (λ x y. Beside p f (effect x m) (effect y m)) _ (λ t. so k _ m refl) (λ t. so _ _ m refl)
