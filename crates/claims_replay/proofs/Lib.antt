@@ -1,2 +1,3 @@
 pub mod NeverRefused
 pub mod WholeCase
+pub mod Pieces

@@ -143,10 +143,18 @@ goes-on p r rs x n k g b e =
       enough = omega (arith, o, g .enough, f .short n k e);
     }
 
-pub replayed-never-halted : (p : Part) (rs : List (List ℕ)) (x : Replaying) → AllBelow rs → Goes p rs x → (q : Refusal) → replayedFrom p rs x .ended ≡ Ended.Refused q → ⊥
+-- What it leaves: no refusal, and a chip that stands.
+pub record Unhalted (p : Part) (x : Replaying) : Type 0 where
+  pub stands : Stands p (before (x .chip) (x .memory) (x .room))
+  pub unrefused : (q : Refusal) → x .ended ≡ Ended.Refused q → ⊥
+
+not-whole : {x : Ended} (q : Refusal) → x ≡ Whole → x ≡ Ended.Refused q → ⊥
+not-whole q e f = let z : _≡_ {A = Ended} Whole (Ended.Refused q) = sym e ∙ f in let y : _≡_ {A = ℕ} 0 1 = cc in omega arith
+
+pub replayed-unhalted : (p : Part) (rs : List (List ℕ)) (x : Replaying) → AllBelow rs → Goes p rs x → Unhalted p (replayedFrom p rs x)
 unfolding replayedFrom whileWhole nextBy
-replayed-never-halted p [] x noRecord g q h = let z : _≡_ {A = Ended} Whole (Ended.Refused q) = sym (g .whole) ∙ h in let y : _≡_ {A = ℕ} 0 1 = cc in omega arith
-replayed-never-halted p (r ∷ rs) x (andRecord b bs) g q h = go (t .ended) refl (λ y w. replayed-never-halted p rs y bs w q) h
+replayed-unhalted p [] x noRecord g = record { stands = g .stands; unrefused = λ q e. not-whole q (g .whole) e }
+replayed-unhalted p (r ∷ rs) x (andRecord b bs) g = go (t .ended) refl (λ y w. replayed-unhalted p rs y bs w)
   where
     t : RecordPlaying
     t = playOf p r (x .chip) (x .memory) (x .room) (drop (x .bytes) (x .output))
@@ -154,11 +162,14 @@ replayed-never-halted p (r ∷ rs) x (andRecord b bs) g q h = go (t .ended) refl
     room : outputLeast ≤ length (drop (x .bytes) (x .output))
     room = let w : length (drop (x .bytes) (x .output)) ≡ length (x .output) - x .bytes = length-drop (x .bytes) (x .output) in omega (arith, w, g .enough)
 
-    go : (a : RecordEnded) → t .ended ≡ a → ((y : Replaying) → Goes p rs y → replayedFrom p rs y .ended ≡ Ended.Refused q → ⊥)
-        → whileWhole (nextBy a t x .ended) (replayedFrom p rs (nextBy a t x)) (nextBy a t x) .ended ≡ Ended.Refused q → ⊥
-    go (Played n k) e rest h = rest (afterRecord Whole 1 n k t x) (goes-on p r rs x n k g b e) h
-    go NotGood e rest h = let z : _≡_ {A = ℕ} 0 1 = cc in omega arith
-    go (RecordEnded.Refused s) e rest h = turn-plays p r (x .chip) (x .memory) (x .room) (drop (x .bytes) (x .output)) (g .stands) b room .goes s e
+    turns : Turns p t
+    turns = turn-plays p r (x .chip) (x .memory) (x .room) (drop (x .bytes) (x .output)) (g .stands) b room
+
+    go : (a : RecordEnded) → t .ended ≡ a → ((y : Replaying) → Goes p rs y → Unhalted p (replayedFrom p rs y))
+        → Unhalted p (whileWhole (nextBy a t x .ended) (replayedFrom p rs (nextBy a t x)) (nextBy a t x))
+    go (Played n k) e rest = rest (afterRecord Whole 1 n k t x) (goes-on p r rs x n k g b e)
+    go NotGood e rest = record { stands = turns .stands; unrefused = λ q f. let z : _≡_ {A = ℕ} 0 1 = cc in omega arith }
+    go (RecordEnded.Refused s) e rest = absurd (turns .goes s e)
 
 records-below : (most : ℕ) (bs : List ℕ) → Below 256 bs → AllBelow (recordsIn recordSize most bs)
 unfolding recordsIn
@@ -166,11 +177,15 @@ records-below zero bs b = noRecord
 records-below (suc most) [] b = noRecord
 records-below (suc most) (x ∷ bs) b = andRecord (below-take 256 recordSize b) (records-below most (drop recordSize (x ∷ bs)) (below-drop 256 recordSize b))
 
-pub never-halted : (p : Part) (capture : List ℕ) (c : Chip) (m : Flash) (room output : List ℕ) → Stands p (before c m room) → Below 256 capture
-    → outputLeast * length (recordsOf recordSize capture) ≤ length output → (q : Refusal) → replayOf p capture c m room output .ended ≡ Ended.Refused q → ⊥
+pub replay-unhalted : (p : Part) (capture : List ℕ) (c : Chip) (m : Flash) (room output : List ℕ) → Stands p (before c m room) → Below 256 capture
+    → outputLeast * length (recordsOf recordSize capture) ≤ length output → Unhalted p (replayOf p capture c m room output)
 unfolding replayOf recordsOf
-never-halted p capture c m room output s b h q e =
-    replayed-never-halted p (recordsIn recordSize (length capture) capture)
+replay-unhalted p capture c m room output s b h =
+    replayed-unhalted p (recordsIn recordSize (length capture) capture)
     (record { ended = Whole; records = 0; bytes = 0; frames = 0; chip = c; memory = m; room = room; output = output })
     (records-below (length capture) capture b)
-    (record { stands = s; whole = refl; within = omega arith; enough = omega (arith, h) }) q e
+    (record { stands = s; whole = refl; within = omega arith; enough = omega (arith, h) })
+
+pub never-halted : (p : Part) (capture : List ℕ) (c : Chip) (m : Flash) (room output : List ℕ) → Stands p (before c m room) → Below 256 capture
+    → outputLeast * length (recordsOf recordSize capture) ≤ length output → (q : Refusal) → replayOf p capture c m room output .ended ≡ Ended.Refused q → ⊥
+never-halted p capture c m room output s b h q e = replay-unhalted p capture c m room output s b h .unrefused q e

@@ -2,6 +2,8 @@
 -- of its characters, and no definition of a digit, a space or a line has a part in it.
 use mathlib.Core.List.{List, [], _∷_}
 use Prim.Native.Nat.{ℕ}
+use lib.ListN.{drop, replicate, take}
+use Rattle.claims_replay.specs.Pieces.{Piece}
 
 abbrev pub wholeCase : List ℕ
 wholeCase =
@@ -10,6 +12,13 @@ wholeCase =
     ∷ 0x01 ∷ 0x01 ∷ 0x03 ∷ 0x00 ∷ 0x00 ∷ 0x00 ∷ 0x00 ∷ 0x00
     ∷ 0x01 ∷ 0x05 ∷ 0x01 ∷ 0x01 ∷ 0xA1 ∷ 0x5E ∷ 0x03 ∷ 0x00
     ∷ []
+
+-- The same bytes in two pieces, cut in the middle of the frame of 9Ah, each with output of its own, whatever that holds.
+abbrev pub firstPiece : Piece
+firstPiece = record { capture = take 16 wholeCase; output = replicate 384 0xEE }
+
+abbrev pub secondPiece : Piece
+secondPiece = record { capture = drop 16 wholeCase; output = replicate 384 0x5A }
 
 -- '0' to '9' are 30h to 39h, 'A' to 'F' 41h to 46h, a space is 20h, a newline 0Ah.
 abbrev pub wholePrinted : List ℕ

@@ -1,0 +1,313 @@
+-- A capture in pieces: the proofs of `InPieces` and `PiecesStand`. A report is followed record by record, without the output; with enough output a replay has that
+-- report, and reports of records one after the other add up.
+-- Assumes nothing.
+use mathlib.Core.List.{List, [], _++_, _∷_, append-assoc, append-nil}
+use mathlib.Core.Path.{_∙_, _≡_, ap, refl, sym}
+use Prim.Native.Nat.{_%_, _*_, _+_, _-_, _≤_, suc, zero, ℕ}
+use native.Mathlib.Omega.{arith}
+use lib.ListN.{drop, length, length-append, length-drop, length-replicate, replicate, take}
+use lib.Seq.{drop-append-le, length-take-le, take-append-add, take-append-le, take-append-seam}
+use borrow.Author.Tests.{le-ltb}
+use Rattle.replay_capture.specs.Capture.{recordOf, recordSize, recordsIn, recordsOf}
+use Rattle.replay_capture.specs.declared.Record.{Record}
+use Rattle.replay_capture.specs.declared.Record.the-variants.{BadRecord, BytesRecord, GapRecord}
+use Rattle.chip.specs.declared.Answer.{Answer}
+use Rattle.chip.specs.declared.Answer.the-variants.{Replied}
+use Rattle.chip.specs.declared.Answer.the-variants as Answer
+use Rattle.chip.specs.declared.Event.{Event}
+use Rattle.chip_state.specs.declared.Chip.{Chip}
+use Rattle.chip_core.specs.Effect.{Flash}
+use Rattle.claims_replay.proofs.NeverRefused.{replay-unhalted}
+use Rattle.claims_replay.specs.Cases.{firstPiece, secondPiece}
+use Rattle.claims_replay.specs.Pieces.{InPieces, Piece, Pieces, PiecesStand, Report, andPiece, andThen, inPieces, joined, lastPiece, noPiece, reported, starting, whileOn, withPiece}
+use Rattle.part.specs.Part.{Arrays}
+use Rattle.part.specs.declared.Part.{Part}
+use Rattle.replay_records.proofs.Laws.{play-fits, play-keeps}
+use Rattle.replay_records.specs.Records.{Playing, RecordPlaying, Replaying, afterRecord, beforePlaying, endedBy, eventsOf, nextBy, nextOf, outputLeast, playBy, playOf, playWith, played, playedInto, replayOf, replayedFrom, whileWhole}
+use Rattle.replay_records.specs.declared.Ended.{Ended}
+use Rattle.replay_records.specs.declared.Ended.the-variants.{AtBadRecord, Whole}
+use Rattle.replay_records.specs.declared.Ended.the-variants as Ended
+use Rattle.replay_records.specs.declared.RecordEnded.{RecordEnded}
+use Rattle.replay_records.specs.declared.RecordEnded.the-variants.{NotGood, Played}
+use Rattle.replay_records.specs.declared.RecordEnded.the-variants as RecordEnded
+use Rattle.words.specs.Words.{if_then_else_}
+
+-- The report of one more record.
+playedReport : Answer → Playing → Report → Report
+playedReport (Replied n k) y g =
+    record {
+      ended = Whole;
+      records = g .records + 1;
+      frames = g .frames + y .frames;
+      said = g .said ++ y .said;
+      chip = y .left .chip;
+      memory = y .left .memory;
+      room = y .left .room;
+    }
+playedReport (Answer.Refused r) y g =
+    record {
+      ended = Ended.Refused r;
+      records = g .records + 0;
+      frames = g .frames + 0;
+      said = g .said;
+      chip = y .left .chip;
+      memory = y .left .memory;
+      room = y .left .room;
+    }
+
+eventsReport : Part → List Event → Report → Report
+eventsReport p vs g = let y = played p vs (beforePlaying (g .chip) (g .memory) (g .room)) in playedReport (y .left .answer) y g
+
+recordReport : Record → Part → List ℕ → Report → Report
+recordReport GapRecord p bs g = eventsReport p (eventsOf GapRecord bs) g
+recordReport (BytesRecord n) p bs g = eventsReport p (eventsOf (BytesRecord n) bs) g
+recordReport BadRecord p bs g =
+    record {
+      ended = AtBadRecord;
+      records = g .records + 0;
+      frames = g .frames + 0;
+      said = g .said;
+      chip = g .chip;
+      memory = g .memory;
+      room = g .room;
+    }
+
+nextReport : Part → List ℕ → Report → Report
+nextReport p r g = recordReport (recordOf recordSize r) p r g
+
+reportFrom : Part → List (List ℕ) → Report → Report
+reportFrom p [] g = g
+reportFrom p (r ∷ rs) g = whileOn (nextReport p r g .ended) (reportFrom p rs (nextReport p r g)) (nextReport p r g)
+
+-- Two reports that agree in what they count and say.
+same-report : (e : Ended) (c : Chip) (m : Flash) (room : List ℕ) {i j k l : ℕ} {s t : List ℕ} → i ≡ j → k ≡ l → s ≡ t
+    → _≡_ {A = Report} (record { ended = e; records = i; frames = k; said = s; chip = c; memory = m; room = room })
+    (record { ended = e; records = j; frames = l; said = t; chip = c; memory = m; room = room })
+same-report e c m room p q r = rw (p, q, r)
+
+-- The output's first bytes after a record's replies.
+grown : (l z : List ℕ) (b n : ℕ) → b ≤ length l → take (b + n) (take b l ++ z) ≡ take b l ++ take n z
+grown l z b n h =
+    ap (λ (k : ℕ). take (k + n) (take b l ++ z)) (sym (length-take-le b l h)) ∙ take-append-add (take b l) z n
+
+grown-none : (l z : List ℕ) (b : ℕ) → b ≤ length l → take (b + 0) (take b l ++ z) ≡ take b l
+grown-none l z b h = grown l z b 0 h ∙ append-nil (take b l)
+
+module _ (p : Part) (r : List ℕ) (x : Replaying) (within : x .bytes ≤ length (x .output)) (roomy : outputLeast ≤ length (drop (x .bytes) (x .output))) where
+  rest : List ℕ
+  rest = drop (x .bytes) (x .output)
+
+  played-reports : (a : Answer) (y : Playing) → reported (nextBy (endedBy a y) (playedInto y rest) x) ≡ playedReport a y (reported x)
+  unfolding nextBy endedBy playedInto playedReport
+  played-reports (Replied n k) y =
+      same-report Whole _ _ _ refl refl
+      (grown (x .output) (y .said ++ drop (length (y .said)) rest) (x .bytes) (length (y .said)) within
+      ∙ ap (λ (s : List ℕ). take (x .bytes) (x .output) ++ s) (take-append-seam (y .said) (drop (length (y .said)) rest)))
+  played-reports (Answer.Refused q) y = same-report (Ended.Refused q) _ _ _ refl refl (grown-none (x .output) _ (x .bytes) within)
+
+  events-report : (vs : List Event) → let t = playWith vs p (x .chip) (x .memory) (x .room) rest in reported (nextBy (t .ended) t x) ≡ eventsReport p vs (reported x)
+  unfolding rest playWith playedInto eventsReport if_then_else_
+  events-report vs =
+      let y = played p vs (beforePlaying (x .chip) (x .memory) (x .room)) in
+      rw (le-ltb (length (drop (x .bytes) (x .output))) 192 roomy) (played-reports (y .left .answer) y)
+
+  record-reports : (k : Record) → let t = playBy k p r (x .chip) (x .memory) (x .room) rest in reported (nextBy (t .ended) t x) ≡ recordReport k p r (reported x)
+  unfolding playBy recordReport nextBy
+  record-reports GapRecord = events-report (eventsOf GapRecord r)
+  record-reports (BytesRecord n) = events-report (eventsOf (BytesRecord n) r)
+  record-reports BadRecord = same-report AtBadRecord _ _ _ refl refl (grown-none (x .output) rest (x .bytes) within)
+
+  next-reports : reported (nextOf p r x) ≡ nextReport p r (reported x)
+  unfolding rest playOf nextReport
+  next-reports = record-reports (recordOf recordSize r)
+
+-- Output with room for the replies of the records to come.
+record Enough (rs : List (List ℕ)) (x : Replaying) : Type 0 where
+  within : x .bytes ≤ length (x .output)
+  enough : outputLeast * length rs + x .bytes ≤ length (x .output)
+
+room-left : (r : List ℕ) (rs : List (List ℕ)) (x : Replaying) → Enough (r ∷ rs) x → outputLeast ≤ length (drop (x .bytes) (x .output))
+room-left r rs x g = omega (arith, length-drop (x .bytes) (x .output), g .enough)
+
+enough-next : (p : Part) (r : List ℕ) (rs : List (List ℕ)) (x : Replaying) (n k : ℕ) → Arrays p → Enough (r ∷ rs) x
+    → playOf p r (x .chip) (x .memory) (x .room) (drop (x .bytes) (x .output)) .ended ≡ Played n k
+    → Enough rs (afterRecord Whole 1 n k (playOf p r (x .chip) (x .memory) (x .room) (drop (x .bytes) (x .output))) x)
+enough-next p r rs x n k a g e =
+    let l = drop (x .bytes) (x .output) in
+    let w : length l ≡ length (x .output) - x .bytes = length-drop (x .bytes) (x .output) in
+    let t = playOf p r (x .chip) (x .memory) (x .room) l in
+    let f = play-fits p r (x .chip) (x .memory) (x .room) l a in
+    let o : length (take (x .bytes) (x .output) ++ t .output) ≡ length (x .output) =
+    length-append (take (x .bytes) (x .output)) (t .output)
+    ∙ (rw (length-take-le (x .bytes) (x .output) (g .within), play-keeps p r (x .chip) (x .memory) (x .room) l a) (omega (arith, w, g .within))) in
+    record { within = omega (arith, o, w, f .bytes n k e, g .within); enough = omega (arith, o, g .enough, f .short n k e) }
+
+-- A replay with enough output has the report of its records.
+abbrev thenReport : Part → List (List ℕ) → Report → Report
+thenReport p rs g = whileOn (g .ended) (reportFrom p rs g) g
+
+replayed-reports : (p : Part) (rs : List (List ℕ)) (x : Replaying) → Arrays p → Enough rs x → reported (replayedFrom p rs x) ≡ reportFrom p rs (reported x)
+unfolding replayedFrom reportFrom whileWhole nextBy whileOn
+replayed-reports p [] x a g = refl
+replayed-reports p (r ∷ rs) x a g =
+    go (t .ended) refl (λ y w. replayed-reports p rs y a w)
+    ∙ ap (thenReport p rs) (next-reports p r x (g .within) (room-left r rs x g))
+  where
+    t : RecordPlaying
+    t = playOf p r (x .chip) (x .memory) (x .room) (drop (x .bytes) (x .output))
+
+    go : (b : RecordEnded) → t .ended ≡ b → ((y : Replaying) → Enough rs y → reported (replayedFrom p rs y) ≡ reportFrom p rs (reported y))
+        → reported (whileWhole (nextBy b t x .ended) (replayedFrom p rs (nextBy b t x)) (nextBy b t x)) ≡ thenReport p rs (reported (nextBy b t x))
+    go (Played n k) e rest = rest (afterRecord Whole 1 n k t x) (enough-next p r rs x n k a g e)
+    go NotGood e rest = refl
+    go (RecordEnded.Refused s) e rest = refl
+
+replay-reports : (p : Part) (capture : List ℕ) (c : Chip) (m : Flash) (room output : List ℕ) → Arrays p → outputLeast * length (recordsOf recordSize capture) ≤ length output
+    → reported (replayOf p capture c m room output) ≡ reportFrom p (recordsOf recordSize capture) (starting c m room)
+unfolding replayOf
+replay-reports p capture c m room output a h =
+    replayed-reports p (recordsOf recordSize capture)
+    (record { ended = Whole; records = 0; bytes = 0; frames = 0; chip = c; memory = m; room = room; output = output }) a
+    (record { within = omega arith; enough = omega (arith, h) })
+
+-- Reports add up: what came before a record has no part in what it adds.
+played-adds : (a : Answer) (y : Playing) (g h : Report) → playedReport a y (andThen g h) ≡ andThen g (playedReport a y h)
+unfolding playedReport
+played-adds (Replied n k) y g h = same-report Whole _ _ _ (omega arith) (omega arith) (append-assoc (g .said) (h .said) (y .said))
+played-adds (Answer.Refused r) y g h = same-report (Ended.Refused r) _ _ _ (omega arith) (omega arith) refl
+
+record-adds : (k : Record) (p : Part) (r : List ℕ) (g h : Report) → recordReport k p r (andThen g h) ≡ andThen g (recordReport k p r h)
+unfolding recordReport eventsReport
+record-adds GapRecord p r g h = played-adds _ _ g h
+record-adds (BytesRecord n) p r g h = played-adds _ _ g h
+record-adds BadRecord p r g h = same-report AtBadRecord _ _ _ (omega arith) (omega arith) refl
+
+while-adds : (e : Ended) (g x y : Report) → whileOn e (andThen g x) (andThen g y) ≡ andThen g (whileOn e x y)
+unfolding whileOn
+while-adds Whole g x y = refl
+while-adds AtBadRecord g x y = refl
+while-adds (Ended.Refused r) g x y = refl
+
+next-adds : (p : Part) (r : List ℕ) (g h : Report) → nextReport p r (andThen g h) ≡ andThen g (nextReport p r h)
+unfolding nextReport
+next-adds p r g h = record-adds (recordOf recordSize r) p r g h
+
+reports-add : (p : Part) (rs : List (List ℕ)) (g h : Report) → reportFrom p rs (andThen g h) ≡ andThen g (reportFrom p rs h)
+unfolding reportFrom
+reports-add p [] g h = refl
+reports-add p (r ∷ rs) g h =
+    let k = nextReport p r h in
+    ap (thenReport p rs) (next-adds p r g h)
+    ∙ ap (λ (z : Report). whileOn (k .ended) z (andThen g k)) (reports-add p rs g k)
+    ∙ while-adds (k .ended) g (reportFrom p rs k) k
+
+-- Records and then more records.
+reports-append : (p : Part) (rs ss : List (List ℕ)) (g : Report) → g .ended ≡ Whole → reportFrom p (rs ++ ss) g ≡ thenReport p ss (reportFrom p rs g)
+unfolding reportFrom whileOn
+reports-append p [] ss g e = sym (ap (λ (z : Ended). whileOn z (reportFrom p ss g) g) e)
+reports-append p (r ∷ rs) ss g e = go (k .ended) refl (λ q. reports-append p rs ss k q)
+  where
+    k : Report
+    k = nextReport p r g
+
+    go : (z : Ended) → k .ended ≡ z → (k .ended ≡ Whole → reportFrom p (rs ++ ss) k ≡ thenReport p ss (reportFrom p rs k))
+        → whileOn z (reportFrom p (rs ++ ss) k) k ≡ thenReport p ss (whileOn z (reportFrom p rs k) k)
+    go Whole q next = next q
+    go AtBadRecord q next = sym (ap (λ (z : Ended). whileOn z (reportFrom p ss k) k) q)
+    go (Ended.Refused x) q next = sym (ap (λ (z : Ended). whileOn z (reportFrom p ss k) k) q)
+
+-- The records of a capture whose first piece is whole records.
+fuel : (m n : ℕ) (bs : List ℕ) → length bs ≤ m → length bs ≤ n → recordsIn recordSize m bs ≡ recordsIn recordSize n bs
+unfolding recordsIn
+fuel zero zero bs h k = refl
+fuel zero (suc n) [] h k = refl
+fuel (suc m) zero [] h k = refl
+fuel (suc m) (suc n) [] h k = refl
+fuel zero (suc n) (b ∷ bs) h k = absurd (omega arith)
+fuel (suc m) zero (b ∷ bs) h k = absurd (omega arith)
+fuel (suc m) (suc n) (b ∷ bs) h k =
+    let l = length-drop recordSize (b ∷ bs) in
+    ap (λ (rs : List (List ℕ)). take recordSize (b ∷ bs) ∷ rs) (fuel m n (drop recordSize (b ∷ bs)) (omega (arith, l, h)) (omega (arith, l, k)))
+
+cut-at : (most : ℕ) (a b : List ℕ) → length a ≤ most → length a % recordSize ≡ 0
+    → recordsIn recordSize (length (a ++ b)) (a ++ b) ≡ recordsIn recordSize (length a) a ++ recordsIn recordSize (length b) b
+unfolding recordsIn
+cut-at zero [] b h e = refl
+cut-at zero (x ∷ a) b h e = absurd (omega arith)
+cut-at (suc most) [] b h e = refl
+cut-at (suc most) (x ∷ a) b h e =
+    let w : recordSize ≤ length (x ∷ a) = omega (arith, e) in
+    let l : length (drop recordSize (x ∷ a)) ≡ length (x ∷ a) - recordSize = length-drop recordSize (x ∷ a) in
+    let j : length (drop recordSize (x ∷ a) ++ b) ≡ length (drop recordSize (x ∷ a)) + length b = length-append (drop recordSize (x ∷ a)) b in
+    let i : length (a ++ b) ≡ length a + length b = length-append a b in
+    let first : take recordSize (x ∷ (a ++ b)) ≡ take recordSize (x ∷ a) = take-append-le recordSize (x ∷ a) b w in
+    let behind : drop recordSize (x ∷ (a ++ b)) ≡ drop recordSize (x ∷ a) ++ b = drop-append-le recordSize (x ∷ a) b w in
+    let rest : recordsIn recordSize (length (a ++ b)) (drop recordSize (x ∷ a) ++ b) ≡ recordsIn recordSize (length a) (drop recordSize (x ∷ a)) ++ recordsIn recordSize (length b) b =
+    fuel (length (a ++ b)) (length (drop recordSize (x ∷ a) ++ b)) (drop recordSize (x ∷ a) ++ b) (omega (arith, i, j, l)) (omega arith)
+    ∙ cut-at most (drop recordSize (x ∷ a)) b (omega (arith, l)) (omega (arith, l, e))
+    ∙ ap (λ (rs : List (List ℕ)). rs ++ recordsIn recordSize (length b) b) (fuel (length (drop recordSize (x ∷ a))) (length a) (drop recordSize (x ∷ a)) (omega arith) (omega (arith, l))) in
+    ap (λ (r : List ℕ). r ∷ recordsIn recordSize (length (a ++ b)) (drop recordSize (x ∷ (a ++ b)))) first
+    ∙ ap (λ (rs : List (List ℕ)). take recordSize (x ∷ a) ∷ rs) (ap (recordsIn recordSize (length (a ++ b))) behind ∙ rest)
+
+records-append : (a b : List ℕ) → length a % recordSize ≡ 0 → recordsOf recordSize (a ++ b) ≡ recordsOf recordSize a ++ recordsOf recordSize b
+unfolding recordsOf
+records-append a b e = cut-at (length a) a b (omega arith) e
+
+-- One more piece is its records.
+and-start : (g : Report) → g .ended ≡ Whole → andThen g (starting (g .chip) (g .memory) (g .room)) ≡ g
+and-start g e =
+    same-report Whole (g .chip) (g .memory) (g .room) (omega arith) (omega arith) (append-nil (g .said))
+    ∙ ap {B = Report}
+    (λ (z : Ended). record { ended = z; records = g .records; frames = g .frames; said = g .said; chip = g .chip; memory = g .memory; room = g .room }) (sym e)
+
+piece-reports : (p : Part) (g : Report) (q : Piece) → Arrays p → g .ended ≡ Whole → outputLeast * length (recordsOf recordSize (q .capture)) ≤ length (q .output)
+    → withPiece p g q ≡ reportFrom p (recordsOf recordSize (q .capture)) g
+piece-reports p g q a e h =
+    ap (λ (x : Report). andThen g x) (replay-reports p (q .capture) (g .chip) (g .memory) (g .room) (q .output) a h)
+    ∙ sym (reports-add p (recordsOf recordSize (q .capture)) g (starting (g .chip) (g .memory) (g .room)))
+    ∙ ap (reportFrom p (recordsOf recordSize (q .capture))) (and-start g e)
+
+while-same : (e : Ended) (g : Report) → whileOn e g g ≡ g
+unfolding whileOn
+while-same Whole g = refl
+while-same AtBadRecord g = refl
+while-same (Ended.Refused r) g = refl
+
+pieces-report : (p : Part) (qs : List Piece) (g : Report) → Arrays p → Pieces qs → g .ended ≡ Whole → inPieces p qs g ≡ reportFrom p (recordsOf recordSize (joined qs)) g
+unfolding inPieces joined recordsOf recordsIn reportFrom whileOn
+pieces-report p [] g a noPiece e = refl
+pieces-report p (q ∷ []) g a (lastPiece x h) e =
+    while-same (withPiece p g q .ended) (withPiece p g q)
+    ∙ piece-reports p g q a e h
+    ∙ ap (λ (bs : List ℕ). reportFrom p (recordsOf recordSize bs) g) (sym (append-nil (q .capture)))
+pieces-report p (q ∷ qs) g a (andPiece x xs w h r) e =
+    ap (λ (z : Report). whileOn (z .ended) (inPieces p qs z) z) (piece-reports p g q a e h)
+    ∙ go (k .ended) refl (λ z. pieces-report p qs k a r z)
+    ∙ sym (reports-append p (recordsOf recordSize (q .capture)) (recordsOf recordSize (joined qs)) g e)
+    ∙ ap (λ (rs : List (List ℕ)). reportFrom p rs g) (sym (records-append (q .capture) (joined qs) w))
+  where
+    k : Report
+    k = reportFrom p (recordsOf recordSize (q .capture)) g
+
+    go : (z : Ended) → k .ended ≡ z → (k .ended ≡ Whole → inPieces p qs k ≡ reportFrom p (recordsOf recordSize (joined qs)) k)
+        → whileOn z (inPieces p qs k) k ≡ whileOn z (reportFrom p (recordsOf recordSize (joined qs)) k) k
+    go Whole y next = next y
+    go AtBadRecord y next = refl
+    go (Ended.Refused x) y next = refl
+
+pub in-pieces : InPieces
+in-pieces p qs c m room output a r h =
+    pieces-report p qs (starting c m room) a r refl ∙ sym (replay-reports p (joined qs) c m room output a h)
+
+pub pieces-stand : PiecesStand
+pieces-stand p qs c m room s b r =
+    let n : ℕ = outputLeast * length (recordsOf recordSize (joined qs)) in
+    let output : List ℕ = replicate n 0 in
+    let h : n ≤ length output = omega (arith, length-replicate {A = ℕ} n 0) in
+    let u = replay-unhalted p (joined qs) c m room output s b h in
+    rw (in-pieces p qs c m room output (s .arrays) r h) (record { stands = u .stands; unrefused = u .unrefused })
+
+-- The whole case, cut in the middle of a frame, meets the premise.
+pub whole-case-cut : Pieces (firstPiece ∷ secondPiece ∷ [])
+unfolding recordsOf recordsIn
+whole-case-cut = andPiece firstPiece (secondPiece ∷ []) refl (omega arith) (lastPiece secondPiece (omega arith))

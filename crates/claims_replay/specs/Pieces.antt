@@ -1,0 +1,104 @@
+-- A capture replayed in pieces, as the program reads it: document 01, "Replay". Every piece but the last is whole records; each has output of its own, with
+-- whatever bytes in it, and goes to the chip that the pieces before it left. Nothing of the program's own is in it, only what `replay_records::replay` does.
+use mathlib.Core.List.{List, [], _++_, _∷_}
+use mathlib.Core.Path.{_≡_}
+use Prim.Native.Nat.{_%_, _*_, _+_, _≤_, ℕ}
+use lib.ListN.{length, take}
+use Rattle.replay_capture.specs.Capture.{recordSize, recordsOf}
+use Rattle.chip.specs.Run.{before}
+use Rattle.chip_state.specs.declared.Chip.{Chip}
+use Rattle.claims_good.specs.Good.{Stands}
+use Rattle.chip_core.specs.Effect.{Flash}
+use Rattle.frame.proofs.Laws.Sum.{Below}
+use Rattle.part.specs.Part.{Arrays}
+use Rattle.part.specs.declared.Part.{Part}
+use Rattle.part.specs.declared.refusal.Refusal.{Refusal}
+use Rattle.replay_records.specs.Records.{Replaying, outputLeast, replayOf}
+use Rattle.replay_records.specs.declared.Ended.{Ended}
+use Rattle.replay_records.specs.declared.Ended.the-variants.{AtBadRecord, Refused, Whole}
+
+-- What a replay reports: how it ended, how many records were played, the reply frames end to end and their number, and what it leaves.
+pub record Report : Type 0 where
+  pub ended : Ended
+  pub records : ℕ
+  pub frames : ℕ
+  pub said : List ℕ
+  pub chip : Chip
+  pub memory : Flash
+  pub room : List ℕ
+
+abbrev pub starting : Chip → Flash → List ℕ → Report
+starting c m room = record { ended = Whole; records = 0; frames = 0; said = []; chip = c; memory = m; room = room }
+
+abbrev pub reported : Replaying → Report
+reported x =
+    record {
+      ended = x .ended;
+      records = x .records;
+      frames = x .frames;
+      said = take (x .bytes) (x .output);
+      chip = x .chip;
+      memory = x .memory;
+      room = x .room;
+    }
+
+-- One report after another: the numbers add up, the frames follow each other, and the last one says how it ended and what is left.
+abbrev pub andThen : Report → Report → Report
+andThen g h =
+    record {
+      ended = h .ended;
+      records = g .records + h .records;
+      frames = g .frames + h .frames;
+      said = g .said ++ h .said;
+      chip = h .chip;
+      memory = h .memory;
+      room = h .room;
+    }
+
+pub record Piece : Type 0 where
+  pub capture : List ℕ
+  pub output : List ℕ
+
+-- One more piece, to the chip that was left.
+abbrev pub withPiece : Part → Report → Piece → Report
+withPiece p g q = andThen g (reported (replayOf p (q .capture) (g .chip) (g .memory) (g .room) (q .output)))
+
+-- Only a piece that was replayed whole is followed by the next.
+unfoldable pub whileOn : Ended → Report → Report → Report
+whileOn Whole rest g = rest
+whileOn AtBadRecord rest g = g
+whileOn (Refused r) rest g = g
+
+unfoldable pub inPieces : Part → List Piece → Report → Report
+inPieces p [] g = g
+inPieces p (q ∷ qs) g = whileOn (withPiece p g q .ended) (inPieces p qs (withPiece p g q)) (withPiece p g q)
+
+unfoldable pub joined : List Piece → List ℕ
+joined [] = []
+joined (q ∷ qs) = q .capture ++ joined qs
+
+-- Output with room for the replies of every record.
+abbrev pub Suffices : List ℕ → List ℕ → Type 0
+Suffices capture output = outputLeast * length (recordsOf recordSize capture) ≤ length output
+
+-- Cut between records, with enough output for each piece.
+pub data Pieces : List Piece → Type 0 where
+  noPiece : Pieces []
+  lastPiece : (q : Piece) → Suffices (q .capture) (q .output) → Pieces (q ∷ [])
+  andPiece : (q : Piece) (qs : List Piece) → length (q .capture) % recordSize ≡ 0 → Suffices (q .capture) (q .output) → Pieces qs → Pieces (q ∷ qs)
+
+-- The pieces together report what the whole reports, its record numbers included: a bad record's number is that in the whole capture.
+abbrev pub InPieces : Type 0
+InPieces =
+    (p : Part) (qs : List Piece) (c : Chip) (m : Flash) (room output : List ℕ) → Arrays p → Pieces qs → Suffices (joined qs) output
+    → inPieces p qs (starting c m room) ≡ reported (replayOf p (joined qs) c m room output)
+
+-- From a chip that stands, no piece is refused, and the chip stands after each.
+pub record Standing (p : Part) (g : Report) : Type 0 where
+  pub stands : Stands p (before (g .chip) (g .memory) (g .room))
+  pub unrefused : (r : Refusal) → g .ended ≡ Refused r → ⊥
+
+abbrev pub PiecesStand : Type 0
+PiecesStand =
+    (p : Part) (qs : List Piece) (c : Chip) (m : Flash) (room : List ℕ) → Stands p (before c m room) → Below 256 (joined qs) → Pieces qs
+    → Standing p (inPieces p qs (starting c m room))
