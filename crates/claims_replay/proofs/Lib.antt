@@ -1,3 +1,4 @@
 pub mod NeverRefused
 pub mod WholeCase
+pub mod Lines
 pub mod Pieces

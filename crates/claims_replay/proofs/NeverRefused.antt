@@ -39,7 +39,7 @@ use Rattle.replay_play.specs.declared.RecordEnded.the-variants as RecordEnded
 use Rattle.words.specs.Words.{if_then_else_}
 
 -- An outcome stands whatever its last answer was.
-again : {p : Part} {o : Outcome} → Stands p o → Stands p (before (o .chip) (o .memory) (o .room))
+pub again : {p : Part} {o : Outcome} → Stands p o → Stands p (before (o .chip) (o .memory) (o .room))
 again s = record { accepted = s .accepted; places = s .places; bytes = s .bytes; arrays = s .arrays }
 
 one-answered : (p : Part) (v : Event) (o : Outcome) → Stands p o → Proper v → Answered (spokenIn (onward p o v))
@@ -78,7 +78,7 @@ plays p (v ∷ vs) x w (andEvent e es) =
     } in
     subst (λ (q : Playing). Plays p q) (sym (goes-replied (o .answer) (a .count) (a .frames) (played p vs y) y (a .replied))) (plays p vs y z es)
 
-all-bytes : (bs : List ℕ) → Below 256 bs → AllProper (map Byte bs)
+pub all-bytes : (bs : List ℕ) → Below 256 bs → AllProper (map Byte bs)
 all-bytes [] none = noEvent
 all-bytes (b ∷ bs) (more h r) = andEvent (aByte h) (all-bytes bs r)
 
@@ -171,7 +171,7 @@ replayed-unhalted p (r ∷ rs) x (andRecord b bs) g = go (t .ended) refl (λ y w
     go NotGood e rest = record { stands = turns .stands; unrefused = λ q f. let z : _≡_ {A = ℕ} 0 1 = cc in omega arith }
     go (RecordEnded.Refused s) e rest = absurd (turns .goes s e)
 
-records-below : (most : ℕ) (bs : List ℕ) → Below 256 bs → AllBelow (recordsIn recordSize most bs)
+pub records-below : (most : ℕ) (bs : List ℕ) → Below 256 bs → AllBelow (recordsIn recordSize most bs)
 unfolding recordsIn
 records-below zero bs b = noRecord
 records-below (suc most) [] b = noRecord

@@ -1,29 +1,37 @@
--- A capture in pieces: the proofs of `InPieces` and `PiecesStand`. A report is followed record by record, without the output; with enough output a replay has that
+-- A capture in pieces: the proofs of `InPieces`, `PiecesStand` and `PrintedInPieces`. A report is followed record by record, without the output; with enough output a replay has that
 -- report, and reports of records one after the other add up.
 -- Assumes nothing.
-use mathlib.Core.List.{List, [], _++_, _∷_, append-assoc, append-nil}
-use mathlib.Core.Path.{_∙_, _≡_, ap, refl, sym}
+use mathlib.Core.List.{List, [], _++_, _∷_, append-assoc, append-nil, map}
+use mathlib.Core.Path.{_∙_, _≡_, ap, refl, subst, sym}
 use Prim.Native.Nat.{_%_, _*_, _+_, _-_, _≤_, suc, zero, ℕ}
 use native.Mathlib.Omega.{arith}
 use lib.ListN.{drop, length, length-append, length-drop, length-replicate, replicate, take}
-use lib.Seq.{drop-append-le, length-take-le, take-append-add, take-append-le, take-append-seam}
+use lib.Seq.{drop-append-le, drop-append-seam, length-take-le, take-append-add, take-append-le, take-append-seam}
 use borrow.Author.Tests.{le-ltb}
-use Rattle.replay_capture.specs.Capture.{recordOf, recordSize, recordsIn, recordsOf}
+use Rattle.replay_capture.specs.Capture.{carriedBytes, recordOf, recordSize, recordsIn, recordsOf}
 use Rattle.replay_capture.specs.declared.Record.{Record}
 use Rattle.replay_capture.specs.declared.Record.the-variants.{BadRecord, BytesRecord, GapRecord}
+use Rattle.chip.specs.Run.{before}
+use Rattle.chip.specs.Step.{freshChip}
 use Rattle.chip.specs.declared.Answer.{Answer}
 use Rattle.chip.specs.declared.Answer.the-variants.{Replied}
 use Rattle.chip.specs.declared.Answer.the-variants as Answer
 use Rattle.chip.specs.declared.Event.{Event}
+use Rattle.chip.specs.declared.Event.the-variants.{Byte, Gap}
 use Rattle.chip_state.specs.declared.Chip.{Chip}
 use Rattle.chip_core.specs.Effect.{Flash}
-use Rattle.claims_replay.proofs.NeverRefused.{replay-unhalted}
+use Rattle.claims_good.proofs.Fresh.{fresh-stands, the-part-is}
+use Rattle.claims_good.specs.Good.{AllProper, Stands, aGap, andEvent, noEvent}
+use Rattle.claims_replay.proofs.Lines.{FramesIn, frames-append, lines-append, noFrame, played-frames}
+use Rattle.claims_replay.proofs.NeverRefused.{AllBelow, again, all-bytes, andRecord, noRecord, plays, records-below, replay-unhalted}
 use Rattle.claims_replay.specs.Cases.{firstPiece, secondPiece}
-use Rattle.claims_replay.specs.Pieces.{InPieces, Piece, Pieces, PiecesStand, Report, andPiece, andThen, inPieces, joined, lastPiece, noPiece, reported, starting, whileOn, withPiece}
-use Rattle.part.specs.Part.{Arrays}
+use Rattle.claims_replay.specs.Printed.{Report, freshFlash, lastLine, lines, linesIn, printed, reported}
+use Rattle.claims_replay.specs.Pieces.{InPieces, Piece, Pieces, PiecesStand, PrintedInPieces, andPiece, andThen, freshStart, inPieces, joined, lastPiece, linesInPieces, noPiece, ofPiece, onlyOn, printedInPieces, starting, whileOn, withPiece}
+use Rattle.frame.proofs.Laws.Sum.{Below, below-drop, below-take}
+use Rattle.part.specs.Part.{Arrays, blockSize}
 use Rattle.part.specs.declared.Part.{Part}
 use Rattle.replay_records.proofs.Laws.{play-fits, play-keeps}
-use Rattle.replay_records.specs.Records.{Playing, RecordPlaying, Replaying, afterRecord, beforePlaying, endedBy, eventsOf, nextBy, nextOf, outputLeast, playBy, playOf, playWith, played, playedInto, replayOf, replayedFrom, whileWhole}
+use Rattle.replay_records.specs.Records.{Playing, RecordPlaying, Replaying, afterRecord, beforePlaying, endedBy, eventsOf, nextBy, nextOf, outputLeast, playBy, playOf, playWith, played, playedInto, replayOf, replayPart, replayedFrom, whileWhole}
 use Rattle.replay_records.specs.declared.Ended.{Ended}
 use Rattle.replay_records.specs.declared.Ended.the-variants.{AtBadRecord, Whole}
 use Rattle.replay_records.specs.declared.Ended.the-variants as Ended
@@ -306,6 +314,117 @@ pieces-stand p qs c m room s b r =
     let h : n ≤ length output = omega (arith, length-replicate {A = ℕ} n 0) in
     let u = replay-unhalted p (joined qs) c m room output s b h in
     rw (in-pieces p qs c m room output (s .arrays) r h) (record { stands = u .stands; unrefused = u .unrefused })
+
+-- A report of whole frames and a chip that stands stays one.
+record Kept (p : Part) (g : Report) : Type 0 where
+  stands : Stands p (before (g .chip) (g .memory) (g .room))
+  frames : FramesIn (g .said)
+
+played-kept : (p : Part) (a : Answer) (y : Playing) (g : Report) → Stands p (y .left) → FramesIn (y .said) → Kept p g → Kept p (playedReport a y g)
+unfolding playedReport
+played-kept p (Replied n i) y g s f k = record { stands = again s; frames = frames-append (k .frames) f }
+played-kept p (Answer.Refused r) y g s f k = record { stands = again s; frames = k .frames }
+
+events-kept : (p : Part) (vs : List Event) (g : Report) → AllProper vs → Kept p g → Kept p (eventsReport p vs g)
+unfolding eventsReport
+events-kept p vs g q k =
+    let b = beforePlaying (g .chip) (g .memory) (g .room) in
+    let w = plays p vs b (record { bytes = 0; frames = 0; replied = refl; stands = k .stands }) q in
+    played-kept p _ (played p vs b) g (w .stands) (played-frames p vs b (k .stands) q noFrame) k
+
+record-kept : (e : Record) (p : Part) (r : List ℕ) (g : Report) → Below 256 r → Kept p g → Kept p (recordReport e p r g)
+unfolding recordReport eventsOf
+record-kept GapRecord p r g b k = events-kept p (Gap ∷ []) g (andEvent aGap noEvent) k
+record-kept (BytesRecord n) p r g b k = events-kept p (map Byte (carriedBytes n r)) g (all-bytes (carriedBytes n r) (below-take 256 n (below-drop 256 2 b))) k
+record-kept BadRecord p r g b k = record { stands = k .stands; frames = k .frames }
+
+while-kept : (p : Part) (e : Ended) (x y : Report) → Kept p x → Kept p y → Kept p (whileOn e x y)
+unfolding whileOn
+while-kept p Whole x y k l = k
+while-kept p AtBadRecord x y k l = l
+while-kept p (Ended.Refused r) x y k l = l
+
+reports-kept : (p : Part) (rs : List (List ℕ)) (g : Report) → AllBelow rs → Kept p g → Kept p (reportFrom p rs g)
+unfolding reportFrom nextReport
+reports-kept p [] g noRecord k = k
+reports-kept p (r ∷ rs) g (andRecord b bs) k =
+    let l = record-kept (recordOf recordSize r) p r g b k in
+    while-kept p _ _ _ (reports-kept p rs (nextReport p r g) bs l) l
+
+capture-kept : (p : Part) (capture : List ℕ) (g : Report) → Below 256 capture → Kept p g → Kept p (reportFrom p (recordsOf recordSize capture) g)
+unfolding recordsOf
+capture-kept p capture g b k = reports-kept p (recordsIn recordSize (length capture) capture) g (records-below (length capture) capture b) k
+
+-- The lines of the pieces.
+module _ (p : Part) (q : Piece) (qs : List Piece) (g : Report) (kept : Kept p g) (e : g .ended ≡ Whole)
+    (h : outputLeast * length (recordsOf recordSize (q .capture)) ≤ length (q .output)) (b : Below 256 (q .capture))
+    (rest : (k : Report) → Kept p k → k .ended ≡ Whole → lines (k .said) ++ linesInPieces p qs k ≡ lines (inPieces p qs k .said)) where
+  piece-kept : Kept p (withPiece p g q)
+  piece-kept = rw (piece-reports p g q (kept .stands .arrays) e h) (capture-kept p (q .capture) g b kept)
+
+  piece-lines : lines (g .said) ++ linesInPieces p (q ∷ qs) g ≡ lines (inPieces p (q ∷ qs) g .said)
+  unfolding linesInPieces inPieces onlyOn whileOn
+  piece-lines = go (k .ended) refl
+    where
+      k : Report
+      k = withPiece p g q
+
+      shown : lines (k .said) ≡ lines (g .said) ++ lines (ofPiece p g q .said)
+      shown = lines-append (kept .frames) (ofPiece p g q .said)
+
+      go : (z : Ended) → k .ended ≡ z
+          → lines (g .said) ++ (lines (ofPiece p g q .said) ++ onlyOn z (linesInPieces p qs k)) ≡ lines (whileOn z (inPieces p qs k) k .said)
+      go Whole y =
+          sym (append-assoc (lines (g .said)) (lines (ofPiece p g q .said)) (linesInPieces p qs k))
+          ∙ ap (λ (t : List ℕ). t ++ linesInPieces p qs k) (sym shown)
+          ∙ rest k piece-kept y
+      go AtBadRecord y = ap (λ (t : List ℕ). lines (g .said) ++ t) (append-nil (lines (ofPiece p g q .said))) ∙ sym shown
+      go (Ended.Refused r) y = ap (λ (t : List ℕ). lines (g .said) ++ t) (append-nil (lines (ofPiece p g q .said))) ∙ sym shown
+
+below-front : (xs ys : List ℕ) → Below 256 (xs ++ ys) → Below 256 xs
+below-front xs ys b = subst (λ (l : List ℕ). Below 256 l) (take-append-seam xs ys) (below-take 256 (length xs) b)
+
+below-back : (xs ys : List ℕ) → Below 256 (xs ++ ys) → Below 256 ys
+below-back xs ys b = subst (λ (l : List ℕ). Below 256 l) (drop-append-seam xs ys) (below-drop 256 (length xs) b)
+
+pieces-lines : (p : Part) (qs : List Piece) (g : Report) → Pieces qs → Below 256 (joined qs) → Kept p g → g .ended ≡ Whole
+    → lines (g .said) ++ linesInPieces p qs g ≡ lines (inPieces p qs g .said)
+unfolding joined linesInPieces inPieces
+pieces-lines p [] g noPiece b k e = append-nil (lines (g .said))
+pieces-lines p (q ∷ []) g (lastPiece x h) b k e =
+    piece-lines p q [] g k e h (below-front (q .capture) [] b) (λ l m z. append-nil (lines (l .said)))
+pieces-lines p (q ∷ qs) g (andPiece x xs w h r) b k e =
+    piece-lines p q qs g k e h (below-front (q .capture) (joined qs) b) (λ l m z. pieces-lines p qs l r (below-back (q .capture) (joined qs) b) m z)
+
+-- From a fresh chip.
+records-few : (most : ℕ) (bs : List ℕ) → length (recordsIn recordSize most bs) ≤ most
+unfolding recordsIn
+records-few zero bs = omega arith
+records-few (suc most) [] = omega arith
+records-few (suc most) (b ∷ bs) = omega (arith, records-few most (drop recordSize (b ∷ bs)))
+
+fresh-output : (capture : List ℕ) → outputLeast * length (recordsOf recordSize capture) ≤ length (replicate {A = ℕ} (outputLeast * length capture) 0x00)
+unfolding recordsOf
+fresh-output capture = omega (arith, length-replicate {A = ℕ} (outputLeast * length capture) 0x00, records-few (length capture) capture)
+
+fresh-kept : Kept replayPart freshStart
+unfolding blockSize
+fresh-kept =
+    record {
+      stands =
+          fresh-stands replayPart freshFlash (replicate 32 0x00) the-part-is (record { deviceLong = refl; nameLong = refl; versionLong = refl })
+          (length-replicate {A = ℕ} 16384 0xFF) (length-replicate {A = ℕ} 4096 0xFF) (omega (arith, length-replicate {A = ℕ} 32 0x00));
+      frames = noFrame;
+    }
+
+pub printed-in-pieces : PrintedInPieces
+unfolding printedInPieces printed linesIn
+printed-in-pieces qs b r =
+    let g = inPieces replayPart qs freshStart in
+    ap (λ (t : List ℕ). t ++ lastLine g (g .ended)) (pieces-lines replayPart qs freshStart r b fresh-kept refl)
+    ∙ ap (λ (z : Report). lines (z .said) ++ lastLine z (z .ended))
+    (in-pieces replayPart qs (freshChip replayPart) freshFlash (replicate 32 0x00) (replicate (outputLeast * length (joined qs)) 0x00) (fresh-kept .stands .arrays) r
+    (fresh-output (joined qs)))
 
 -- The whole case, cut in the middle of a frame, meets the premise.
 pub whole-case-cut : Pieces (firstPiece ∷ secondPiece ∷ [])

@@ -3,44 +3,24 @@
 use mathlib.Core.List.{List, [], _++_, _∷_}
 use mathlib.Core.Path.{_≡_}
 use Prim.Native.Nat.{_%_, _*_, _+_, _≤_, ℕ}
-use lib.ListN.{length, take}
+use lib.ListN.{length, replicate}
 use Rattle.replay_capture.specs.Capture.{recordSize, recordsOf}
 use Rattle.chip.specs.Run.{before}
+use Rattle.chip.specs.Step.{freshChip}
 use Rattle.chip_state.specs.declared.Chip.{Chip}
 use Rattle.claims_good.specs.Good.{Stands}
 use Rattle.chip_core.specs.Effect.{Flash}
+use Rattle.claims_replay.specs.Printed.{Report, freshFlash, lastLine, lines, printed, reported}
 use Rattle.frame.proofs.Laws.Sum.{Below}
 use Rattle.part.specs.Part.{Arrays}
 use Rattle.part.specs.declared.Part.{Part}
 use Rattle.part.specs.declared.refusal.Refusal.{Refusal}
-use Rattle.replay_records.specs.Records.{Replaying, outputLeast, replayOf}
+use Rattle.replay_records.specs.Records.{outputLeast, replayOf, replayPart}
 use Rattle.replay_records.specs.declared.Ended.{Ended}
 use Rattle.replay_records.specs.declared.Ended.the-variants.{AtBadRecord, Refused, Whole}
 
--- What a replay reports: how it ended, how many records were played, the reply frames end to end and their number, and what it leaves.
-pub record Report : Type 0 where
-  pub ended : Ended
-  pub records : ℕ
-  pub frames : ℕ
-  pub said : List ℕ
-  pub chip : Chip
-  pub memory : Flash
-  pub room : List ℕ
-
 abbrev pub starting : Chip → Flash → List ℕ → Report
 starting c m room = record { ended = Whole; records = 0; frames = 0; said = []; chip = c; memory = m; room = room }
-
-abbrev pub reported : Replaying → Report
-reported x =
-    record {
-      ended = x .ended;
-      records = x .records;
-      frames = x .frames;
-      said = take (x .bytes) (x .output);
-      chip = x .chip;
-      memory = x .memory;
-      room = x .room;
-    }
 
 -- One report after another: the numbers add up, the frames follow each other, and the last one says how it ended and what is left.
 abbrev pub andThen : Report → Report → Report
@@ -60,8 +40,11 @@ pub record Piece : Type 0 where
   pub output : List ℕ
 
 -- One more piece, to the chip that was left.
+abbrev pub ofPiece : Part → Report → Piece → Report
+ofPiece p g q = reported (replayOf p (q .capture) (g .chip) (g .memory) (g .room) (q .output))
+
 abbrev pub withPiece : Part → Report → Piece → Report
-withPiece p g q = andThen g (reported (replayOf p (q .capture) (g .chip) (g .memory) (g .room) (q .output)))
+withPiece p g q = andThen g (ofPiece p g q)
 
 -- Only a piece that was replayed whole is followed by the next.
 unfoldable pub whileOn : Ended → Report → Report → Report
@@ -102,3 +85,23 @@ abbrev pub PiecesStand : Type 0
 PiecesStand =
     (p : Part) (qs : List Piece) (c : Chip) (m : Flash) (room : List ℕ) → Stands p (before c m room) → Below 256 (joined qs) → Pieces qs
     → Standing p (inPieces p qs (starting c m room))
+
+-- What is printed of the pieces: the lines of each one's reply frames as it is replayed, and the last line, of the numbers added up.
+unfoldable pub onlyOn : Ended → List ℕ → List ℕ
+onlyOn Whole text = text
+onlyOn AtBadRecord text = []
+onlyOn (Refused r) text = []
+
+unfoldable pub linesInPieces : Part → List Piece → Report → List ℕ
+linesInPieces p [] g = []
+linesInPieces p (q ∷ qs) g = lines (ofPiece p g q .said) ++ onlyOn (withPiece p g q .ended) (linesInPieces p qs (withPiece p g q))
+
+abbrev pub freshStart : Report
+freshStart = starting (freshChip replayPart) freshFlash (replicate 32 0x00)
+
+unfoldable pub printedInPieces : List Piece → List ℕ
+printedInPieces qs = let g = inPieces replayPart qs freshStart in linesInPieces replayPart qs freshStart ++ lastLine g (g .ended)
+
+-- It is what the whole prints.
+abbrev pub PrintedInPieces : Type 0
+PrintedInPieces = (qs : List Piece) → Below 256 (joined qs) → Pieces qs → printedInPieces qs ≡ printed (joined qs)

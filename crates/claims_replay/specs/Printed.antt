@@ -4,7 +4,8 @@ use Prim.Native.Nat.{_%_, _*_, _+_, _/_, suc, zero, ℕ}
 use lib.Dec.{ltb}
 use lib.ListN.{drop, getD, length, replicate, take}
 use Rattle.chip.specs.Step.{freshChip}
-use Rattle.chip_core.specs.Effect.{flash}
+use Rattle.chip_state.specs.declared.Chip.{Chip}
+use Rattle.chip_core.specs.Effect.{Flash, flash}
 use Rattle.frame.specs.Frame.{counted}
 use Rattle.replay_hex.specs.Hex.{lineOf}
 use Rattle.replay_records.specs.Records.{Replaying, replayOf, replayPart}
@@ -32,17 +33,41 @@ digitsIn (suc most) n = if ltb n 10 then (0x30 + n) ∷ [] else digitsIn most (n
 abbrev pub decimal : ℕ → List ℕ
 decimal n = digitsIn (suc n) n
 
+-- What a replay reports: how it ended, how many records were played, the reply frames end to end and their number, and what it leaves.
+pub record Report : Type 0 where
+  pub ended : Ended
+  pub records : ℕ
+  pub frames : ℕ
+  pub said : List ℕ
+  pub chip : Chip
+  pub memory : Flash
+  pub room : List ℕ
+
+abbrev pub reported : Replaying → Report
+reported x =
+    record {
+      ended = x .ended;
+      records = x .records;
+      frames = x .frames;
+      said = take (x .bytes) (x .output);
+      chip = x .chip;
+      memory = x .memory;
+      room = x .room;
+    }
+
 -- "a bad or short record prints `BAD`, a space and its number from 0, and stops there; else the last line is `END` and the count of reply frames"
-unfoldable pub lastLine : Replaying → Ended → List ℕ
+unfoldable pub lastLine : Report → Ended → List ℕ
 lastLine x Whole = 0x45 ∷ 0x4E ∷ 0x44 ∷ 0x20 ∷ decimal (x .frames) ++ 0x0A ∷ []
 lastLine x AtBadRecord = 0x42 ∷ 0x41 ∷ 0x44 ∷ 0x20 ∷ decimal (x .records) ++ 0x0A ∷ []
 lastLine x (Refused r) = []
 
 -- "The chip has 16 code and 4 data blocks, clock 32, all fresh." The output has room for every record's replies.
+abbrev pub freshFlash : Flash
+freshFlash = flash (replicate 16384 0xFF) (replicate 4096 0xFF)
+
 abbrev pub freshReplay : List ℕ → Replaying
 freshReplay capture =
-    replayOf replayPart capture (freshChip replayPart) (flash (replicate 16384 0xFF) (replicate 4096 0xFF)) (replicate 32 0x00)
-    (replicate (outputLeast * length capture) 0x00)
+    replayOf replayPart capture (freshChip replayPart) freshFlash (replicate 32 0x00) (replicate (outputLeast * length capture) 0x00)
 
 unfoldable pub printed : List ℕ → List ℕ
-printed capture = let x = freshReplay capture in lines (take (x .bytes) (x .output)) ++ lastLine x (x .ended)
+printed capture = let g = reported (freshReplay capture) in lines (g .said) ++ lastLine g (g .ended)
