@@ -80,7 +80,7 @@ fitting-long n bs WrongFooter e = absurd (false≢true e)
 fitting-long n bs WrongSum e = absurd (false≢true e)
 fitting-long n bs UnfitLength e = absurd (false≢true e)
 
-page-long : (w : Awaited) (f : List ℕ) → eqb (w .command) 0xA0 ≡ false → isGood (fitting (lengthOf w) f (judgeOf (footerOf w) f)) ≡ true
+pub page-long : (w : Awaited) (f : List ℕ) → eqb (w .command) 0xA0 ≡ false → isGood (fitting (lengthOf w) f (judgeOf (footerOf w) f)) ≡ true
     → length (payload f) ≡ 256
 unfolding lengthOf if_then_else_
 page-long w f n g =

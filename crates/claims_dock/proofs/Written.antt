@@ -33,11 +33,11 @@ use Rattle.part.specs.declared.Range.the-variants.{Bad, Blocks}
 use Rattle.part.specs.declared.refusal.Verdict.the-variants.{Accepted}
 
 -- The addresses of a block of a described job are three bytes.
-record Short (j : Job) (k : ℕ) : Type 0 where
-  starts : firstOfBlock j k < 256 ^ 3
-  ends : lastOfBlock j k < 256 ^ 3
+pub record Short (j : Job) (k : ℕ) : Type 0 where
+  pub starts : firstOfBlock j k < 256 ^ 3
+  pub ends : lastOfBlock j k < 256 ^ 3
 
-short : (j : Job) (k : ℕ) → described (j .part) ≡ true → k < blocksOf j → Short j k
+pub short : (j : Job) (k : ℕ) → described (j .part) ≡ true → k < blocksOf j → Short j k
 unfolding firstOfBlock lastOfBlock blockSize blocksIn
 short j k d h = go (jobRange j) refl h
   where
@@ -50,7 +50,7 @@ short j k d h = go (jobRange j) refl h
     go Bad e h = absurd (omega arith)
 
 -- A command in its frame is read as it is.
-framed-read : (c : Command) → startOf c < 256 ^ 3 → endOf c < 256 ^ 3 → readCommand (payload (frameOf c)) ≡ Meant c
+pub framed-read : (c : Command) → startOf c < 256 ^ 3 → endOf c < 256 ^ 3 → readCommand (payload (frameOf c)) ≡ Meant c
 framed-read c s e = ap readCommand (payload-framed Header.Command (payloadOf c) Last) ∙ read-back c s e
 
 module _ (j : Job) (image : List ℕ) (d : described (j .part) ≡ true) where
