@@ -28,7 +28,7 @@ use Rattle.chip_state.specs.Refusals.{goodAwaited, goodPhase, goodState}
 use Rattle.chip_state.proofs.Laws.{accepts}
 use Rattle.chip_work.specs.Work.{blankCheck, blockErase, erasedIn, programming, rateSet, verify}
 use Rattle.claims_confined.proofs.Outside.{block-inside, put-outside}
-use Rattle.claims_confined.specs.Confined.{Confined, JobCommand, JobConfined, OutsideSame, Within, atMode, atPages, atReady, atSetup, heard}
+use Rattle.claims_confined.specs.Confined.{Confined, JobCommand, JobConfined, OutsideSame, Within, andOne, atMode, atPages, atReady, atSetup}
 use Rattle.claims_cut.proofs.Cut.{page-long}
 use Rattle.claims_dock.proofs.Written.{framed-read, short}
 use Rattle.claims_fed.specs.Awaits.{AwaitsCommand, aCommand, goodFor, inReady, inSetup}
@@ -243,7 +243,7 @@ module _ (j : Job) (o : Outcome) (v : Event) (s : Stands (j .part) o) (w : Withi
 pub job-confined : JobConfined
 unfolding run
 job-confined j o [] s q w c = record { outside = λ a i out. refl; options = refl; within = w }
-job-confined j o (v ∷ vs) s (andEvent h q) w (heard ok c) =
+job-confined j o (v ∷ vs) s (andEvent h q) w (andOne ok c) =
     let e = one-event j o v s w ok in
     let r = job-confined j (onward (j .part) o v) vs (stays (j .part) o v s h) q (e .within) c in
     record { outside = λ a i out. r .outside a i out ∙ e .outside a i out; options = r .options ∙ e .options; within = r .within }

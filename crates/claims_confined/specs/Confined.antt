@@ -37,8 +37,8 @@ pub record JobCommand (j : Job) (f : List ℕ) : Type 0 where
 -- Every good command frame that a run completes is one of these, in any order and number. Nothing is asked of a frame that is not good, of bytes that form
 -- none, or of a page: where a page goes is settled by the command before it.
 pub data CommandsOnly (ok : List ℕ → Type 0) (p : Part) : Outcome → List Event → Type 0 where
-  atEnd : {o : Outcome} → CommandsOnly ok p o []
-  heard : {o : Outcome} {v : Event} {vs : List Event}
+  noMore : {o : Outcome} → CommandsOnly ok p o []
+  andOne : {o : Outcome} {v : Event} {vs : List Event}
       → ((f : List ℕ) → takenBy o v ≡ f ∷ [] → AwaitsCommand (o .chip .core .phase) → goodFor aCommand f ≡ true → ok f)
       → CommandsOnly ok p (onward p o v) vs → CommandsOnly ok p o (v ∷ vs)
 

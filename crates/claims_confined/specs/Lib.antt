@@ -1,1 +1,2 @@
 pub mod Confined
+pub mod Line
