@@ -1,6 +1,6 @@
--- The proofs of `OptionsChange` and `OptionsStay`.
+-- The proofs of `OptionsChange`, `OptionsStay` and `FlagsStay`.
 -- Assumes nothing.
-use mathlib.Core.Bool.{false, false≢true, true}
+use mathlib.Core.Bool.{Bool, false, false≢true, true, true≢false}
 use mathlib.Core.List.{List, [], _∷_, append-nil}
 use mathlib.Core.Path.{_∙_, _≡_, ap, refl, sym}
 use Prim.Native.Nat.{ℕ}
@@ -21,7 +21,7 @@ use Rattle.chip_core.specs.declared.Hearing.{Hearing}
 use Rattle.chip_core.specs.declared.Hearing.the-variants.{HearsCommands, HearsData, HearsNothing}
 use Rattle.chip_core.specs.declared.Phase.{Phase}
 use Rattle.chip_core.specs.declared.Phase.the-variants.{Awaiting, ModeByte, Ready, Setup}
-use Rattle.chip_options.specs.Options.{optionsIn, raises, released}
+use Rattle.chip_options.specs.Options.{optionsIn, raises, released, rises}
 use Rattle.chip_options.specs.declared.Options.{Options}
 use Rattle.chip_pages.specs.Pages.{badData, dataDoes, goodData, nextPage, programPage, securityData, verifyPage}
 use Rattle.chip_reply.specs.Reply.{framesOf, payloads}
@@ -33,7 +33,7 @@ use Rattle.claims_good.proofs.Rooms.{Leaves, leaves, reactionOf, says-reaction,
 use Rattle.claims_good.proofs.Stays.{stays}
 use Rattle.claims_good.specs.Good.{Utterance, andEvent}
 use Rattle.claims_runs.proofs.Taken.{Went, frameDone, onlyHeard, quietCore, quietIn, went}
-use Rattle.claims_runs.specs.Options.{Acknowledged, OptionsAfter, OptionsChange, OptionsStay, notHere, byData, byRelease, kept, optionsOf, set}
+use Rattle.claims_runs.specs.Options.{Acknowledged, FlagsStay, OptionsAfter, OptionsChange, OptionsStay, notHere, byData, byRelease, kept, optionsOf, set}
 use Rattle.claims_runs.specs.Taken.{takenBy}
 use Rattle.commands.proofs.Laws.{com-read}
 use Rattle.commands.specs.Commands.{comOf, readCommand}
@@ -48,6 +48,7 @@ use Rattle.part.specs.declared.Place.the-variants.{In, Outside}
 use Rattle.part.specs.declared.Range.{Range}
 use Rattle.part.specs.declared.Range.the-variants.{Bad, Blocks}
 use Rattle.words.proofs.Laws.{if-all}
+use Rattle.words.specs.Words.{_and_, _or_}
 
 -- The frame f did x in a phase, from the record k: the options stay, or it is one of the two.
 data Sets (p : Part) (k : Core) (ph : Phase) (f : List ℕ) (x : Effect) : Type 0 where
@@ -199,7 +200,7 @@ options-change p o v s = go (went p o v)
     frame : (f : List ℕ) → takenBy o v ≡ f ∷ [] → Sets p k (k .phase) f (reactionOf p o v .does) → OptionsAfter p o v
     frame f t (leaves-them e) = kept (after e)
     frame f t (stores w h c r e u) = set (byData w f h c (told f t r) (after e) (ap (λ (n : Options). raises p (k .options .flags) (n .flags)) (after refl) ∙ u))
-    frame f t (releases-them h c r e) = set (byRelease f h c (told f t r) (after e))
+    frame f t (releases-them h c r e) = set (byRelease (record { frame = f; phase = h; command = c; answered = told f t r }) (after e))
 
     go : Went (takenBy o v) (λ f. doesIn p f k (o .memory)) (silent (quietCore v k) (o .memory)) (reactionOf p o v) → OptionsAfter p o v
     go (onlyHeard t q) = kept (after (ap (λ (x : Effect). x .core .options) q ∙ quiet-options v k))
@@ -213,3 +214,48 @@ options-stay p o (v ∷ vs) s (andEvent h q) (notHere n r) = options-stay p (onw
     go : OptionsAfter p o v → optionsOf (onward p o v) ≡ optionsOf o
     go (kept e) = e
     go (set e) = absurd (n e)
+
+-- What rises in two steps rises in one of them.
+neither : (a b : Bool) → a or b ≡ false → (a ≡ false) × (b ≡ false)
+unfolding _or_
+neither true b e = absurd (true≢false e)
+neither false b e = (refl, e)
+
+both-false : {a b : Bool} → a ≡ false → b ≡ false → a or b ≡ false
+unfolding _or_
+both-false e f = rw (e, f)
+
+rises-on : (a b c : Bool) → rises a b ≡ false → rises b c ≡ false → rises a c ≡ false
+unfolding rises _and_
+rises-on true b c e f = refl
+rises-on false true c e f = absurd (true≢false e)
+rises-on false false c e f = f
+
+rises-none : (a : Bool) → rises a a ≡ false
+unfolding rises _and_
+rises-none true = refl
+rises-none false = refl
+
+raises-none : (p : Part) (x : ℕ) → raises p x x ≡ false
+unfolding raises
+raises-none p x = both-false (rises-none _) (both-false (rises-none _) (rises-none _))
+
+raises-on : (p : Part) (x y z : ℕ) → raises p x y ≡ false → raises p y z ≡ false → raises p x z ≡ false
+unfolding raises
+raises-on p x y z e f =
+    let a = neither _ _ e in
+    let b = neither _ _ f in
+    let c = neither _ _ (a .1) in
+    let d = neither _ _ (b .1) in
+    both-false (rises-on _ _ _ (a .0) (b .0)) (both-false (rises-on _ _ _ (c .0) (d .0)) (rises-on _ _ _ (c .1) (d .1)))
+
+pub flags-stay : FlagsStay
+unfolding run
+flags-stay p o [] s q n = raises-none p _
+flags-stay p o (v ∷ vs) s (andEvent h q) (notHere n r) =
+    raises-on p (optionsOf o .flags) (optionsOf (onward p o v) .flags) _ (go (options-change p o v s)) (flags-stay p (onward p o v) vs (stays p o v s h) q r)
+  where
+    go : OptionsAfter p o v → raises p (optionsOf o .flags) (optionsOf (onward p o v) .flags) ≡ false
+    go (kept e) = ap (λ (x : Options). raises p (optionsOf o .flags) (x .flags)) e ∙ raises-none p (optionsOf o .flags)
+    go (set (byData w f e c a x u)) = u
+    go (set (byRelease e x)) = absurd (n e)

@@ -27,12 +27,18 @@ pub record Acknowledged (p : Part) (o : Outcome) (v : Event) (f : List ℕ) : Ty
   pub frame : takenBy o v ≡ f ∷ []
   pub says : uttered (spokenIn (onward p o v)) ≡ saysFrame (0x06 ∷ [])
 
+-- It is A2h.
+pub record Releases (p : Part) (o : Outcome) (v : Event) : Type 0 where
+  pub frame : List ℕ
+  pub phase : o .chip .core .phase ≡ Ready
+  pub command : readCommand (payload frame) ≡ Meant SecurityRelease
+  pub answered : Acknowledged p o v frame
+
 -- It is A0h's data, which is stored, and no 0 flag becomes 1; or it is A2h, and the options are released.
 pub data SetsOptions (p : Part) (o : Outcome) (v : Event) : Type 0 where
   byData : (w : Awaited) (f : List ℕ) → o .chip .core .phase ≡ Awaiting w → w .command ≡ 0xA0 → Acknowledged p o v f
       → optionsOf (onward p o v) ≡ optionsIn (payload f) → raises p (optionsOf o .flags) (optionsOf (onward p o v) .flags) ≡ false → SetsOptions p o v
-  byRelease : (f : List ℕ) → o .chip .core .phase ≡ Ready → readCommand (payload f) ≡ Meant SecurityRelease → Acknowledged p o v f
-      → optionsOf (onward p o v) ≡ released p (optionsOf o) → SetsOptions p o v
+  byRelease : Releases p o v → optionsOf (onward p o v) ≡ released p (optionsOf o) → SetsOptions p o v
 
 -- Every event leaves the options as they were, or is one of these two.
 pub data OptionsAfter (p : Part) (o : Outcome) (v : Event) : Type 0 where
@@ -42,10 +48,16 @@ pub data OptionsAfter (p : Part) (o : Outcome) (v : Event) : Type 0 where
 abbrev pub OptionsChange : Type 0
 OptionsChange = (p : Part) (o : Outcome) (v : Event) → Stands p o → OptionsAfter p o v
 
--- A run in which no event is one of the two.
-pub data NeverSets (p : Part) : Outcome → List Event → Type 0 where
-  atEnd : {o : Outcome} → NeverSets p o []
-  notHere : {o : Outcome} {v : Event} {vs : List Event} → (SetsOptions p o v → ⊥) → NeverSets p (onward p o v) vs → NeverSets p o (v ∷ vs)
+-- A run in which no event is such a one.
+pub data Never (such : Outcome → Event → Type 0) (p : Part) : Outcome → List Event → Type 0 where
+  atEnd : {o : Outcome} → Never such p o []
+  notHere : {o : Outcome} {v : Event} {vs : List Event} → (such o v → ⊥) → Never such p (onward p o v) vs → Never such p o (v ∷ vs)
 
 abbrev pub OptionsStay : Type 0
-OptionsStay = (p : Part) (o : Outcome) (vs : List Event) → Stands p o → AllProper vs → NeverSets p o vs → optionsOf (run p vs o) ≡ optionsOf o
+OptionsStay = (p : Part) (o : Outcome) (vs : List Event) → Stands p o → AllProper vs → Never (SetsOptions p) p o vs → optionsOf (run p vs o) ≡ optionsOf o
+
+-- A forbidding flag goes back to 1 only by A2h answered 06h.
+abbrev pub FlagsStay : Type 0
+FlagsStay =
+    (p : Part) (o : Outcome) (vs : List Event) → Stands p o → AllProper vs → Never (Releases p) p o vs
+    → raises p (optionsOf o .flags) (optionsOf (run p vs o) .flags) ≡ false
