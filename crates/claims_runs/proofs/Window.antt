@@ -1,24 +1,26 @@
 -- The proof of `WindowRestrictsNothing`.
 -- Assumes nothing.
-use mathlib.Core.Bool.{Bool, false, not, true, true≢false}
+use mathlib.Core.Bool.{Bool, false, false≢true, not, true, true≢false}
 use mathlib.Core.List.{List, [], _∷_}
 use mathlib.Core.Path.{_∙_, _≡_, ap, refl, sym}
 use Prim.Native.Nat.{ℕ}
 use lib.Dec.{eqb}
-use lib.ListN.{length}
-use borrow.Author.Tests.{eqb-true}
+use lib.ListN.{getD, length}
+use borrow.Author.Tests.{eqb-true, not-false}
 use Rattle.chip.specs.Run.{onward, run, spokenIn}
 use Rattle.chip.specs.Step.{Outcome, Reaction, byteIn, frameDoes, heardByte, modeByte, reactTo, reaction, silent}
 use Rattle.chip.specs.declared.Answer.the-variants.{Replied}
 use Rattle.chip.specs.declared.Event.{Event}
 use Rattle.chip.specs.declared.Event.the-variants.{Byte, Gap, PowerOn}
-use Rattle.chip_commands.specs.Commands.{commandDoes, readingDoes, work}
+use Rattle.chip_commands.specs.Commands.{allowedIn, commandDoes, readingDoes, work}
 use Rattle.chip_core.specs.Effect.{Effect, Flash, acknowledge, effect, notBlank, says, told}
 use Rattle.chip_core.specs.Hearing.{hearing}
 use Rattle.chip_core.specs.declared.Awaited.{Awaited}
 use Rattle.chip_core.specs.declared.Core.{Core}
 use Rattle.chip_core.specs.declared.Hearing.{Hearing}
 use Rattle.chip_core.specs.declared.Hearing.the-variants.{HearsCommands, HearsData, HearsNothing}
+use Rattle.chip_core.specs.declared.Phase.{Phase}
+use Rattle.chip_core.specs.declared.Phase.the-variants.{Awaiting, ModeByte, Ready, Setup}
 use Rattle.chip_options.specs.Options.{isFresh, released}
 use Rattle.chip_options.specs.declared.Options.{Options}
 use Rattle.chip_pages.specs.Pages.{badData, dataDoes, goodData, nextPage, programPage, securityData, storedReply, verifyPage}
@@ -34,7 +36,8 @@ use Rattle.claims_good.specs.Good.{Stands, Utterance, andEvent, uttered}
 use Rattle.claims_runs.proofs.Taken.{quietCore, quietIn}
 use Rattle.claims_runs.specs.Taken.{takenAs, takenBy, takenIn}
 use Rattle.claims_runs.specs.Window.{LooksAtWindow, OtherWindow, SaysSame, WindowRestrictsNothing, asksFresh, looking, lastSaid, reports, sameSaid, withWindow}
-use Rattle.commands.specs.Commands.{readCommand}
+use Rattle.commands.proofs.Laws.{com-read}
+use Rattle.commands.specs.Commands.{comOf, readCommand}
 use Rattle.commands.specs.declared.Command as Commands
 use Rattle.commands.specs.declared.Command.the-variants.{BlankCheck, BlockErase, Checksum, Programming, RateSet, Reset, SecurityGet, SecurityRelease, SecuritySet, SignatureGet, Verify}
 use Rattle.commands.specs.declared.Reading.{Reading}
@@ -67,13 +70,13 @@ data Told (L : Type 0) {A : Type 0} (a b : A) : Type 0 where
   alike : b ≡ a → Told L a b
   looks : L → Told L a b
 
--- What the frame f did to two records that differ in the window: x and y.
-record Beside (p : Part) (f : List ℕ) (x y : Effect) : Type 0 where
+-- What a frame did to two records that differ in the window: x and y.
+record Beside (p : Part) (L : Type 0) (x y : Effect) : Type 0 where
   start : ℕ
   end : ℕ
   core : y .core ≡ withWindow start end (x .core)
   memory : y .memory ≡ x .memory
-  tells : Told (Looks f) (payloads p (x .core .options) (x .reply)) (payloads p (y .core .options) (y .reply))
+  tells : Told L (payloads p (x .core .options) (x .reply)) (payloads p (y .core .options) (y .reply))
 
 -- Only one reply is about the options.
 reads : Reply → Bool
@@ -97,28 +100,28 @@ same-told p o n (Sum n′) e = refl
 same-told p o n Signature e = refl
 same-told p o n Security e = absurd (true≢false e)
 
-module _ (p : Part) (f : List ℕ) (k : Core) (m : Flash) (s e : ℕ) where
+module _ (p : Part) (L : Type 0) (f : List ℕ) (k : Core) (m : Flash) (s e : ℕ) where
   -- The same reply, the same record but for the window, the same flash.
-  so : (l : Core) (r : Reply) (n : Flash) → reads r ≡ false → Beside p f (effect (told r l) n) (effect (told r (withWindow s e l)) n)
+  so : (l : Core) (r : Reply) (n : Flash) → reads r ≡ false → Beside p L (effect (told r l) n) (effect (told r (withWindow s e l)) n)
   so l r n q = record { start = s; end = e; core = refl; memory = refl; tells = alike (same-told p _ _ r q) }
 
   -- The same record, whatever the window was.
-  anew : (l : Core) (r : Reply) → reads r ≡ false → Beside p f (effect (told r l) m) (effect (told r l) m)
+  anew : (l : Core) (r : Reply) → reads r ≡ false → Beside p L (effect (told r l) m) (effect (told r l) m)
   anew l r q = record { start = l .options .start; end = l .options .end; core = refl; memory = refl; tells = alike refl }
 
-  rate-set : (rate supply : ℕ) → Beside p f (effect (rateSet p k rate supply) m) (effect (rateSet p (withWindow s e k) rate supply) m)
+  rate-set : (rate supply : ℕ) → Beside p L (effect (rateSet p k rate supply) m) (effect (rateSet p (withWindow s e k) rate supply) m)
   unfolding rateSet reads
-  rate-set rate supply = if-two (λ x y. Beside p f (effect x m) (effect y m)) _ (λ t. so k _ m refl) (λ t. so _ _ m refl)
+  rate-set rate supply = if-two (λ x y. Beside p L (effect x m) (effect y m)) _ (λ t. so k _ m refl) (λ t. so _ _ m refl)
 
-  erases : (x : Place) → Beside p f (blockErase p k x m) (blockErase p (withWindow s e k) x m)
+  erases : (x : Place) → Beside p L (blockErase p k x m) (blockErase p (withWindow s e k) x m)
   unfolding blockErase reads
   erases Outside = so k _ m refl
   erases (In a offset block page) =
-      if-two (Beside p f) _ (λ t. so k _ m refl) (λ t. if-two (Beside p f) _ (λ u. so k _ m refl) (λ u. so k _ _ refl))
+      if-two (Beside p L) _ (λ t. so k _ m refl) (λ t. if-two (Beside p L) _ (λ u. so k _ m refl) (λ u. so k _ _ refl))
 
   -- Two statuses, each by a test of its own: the frame looks.
-  either : (t u : Bool) → Looks f
-      → Beside p f (effect (if t then says notBlank k else says acknowledge k) m)
+  either : (t u : Bool) → L
+      → Beside p L (effect (if t then says notBlank k else says acknowledge k) m)
       (effect (if u then says notBlank (withWindow s e k) else says acknowledge (withWindow s e k)) m)
   unfolding if_then_else_
   either true true l = record { start = s; end = e; core = refl; memory = refl; tells = looks l }
@@ -126,93 +129,103 @@ module _ (p : Part) (f : List ℕ) (k : Core) (m : Flash) (s e : ℕ) where
   either false true l = record { start = s; end = e; core = refl; memory = refl; tells = looks l }
   either false false l = record { start = s; end = e; core = refl; memory = refl; tells = looks l }
 
-  fresh : (start end d01 : ℕ) → readCommand (payload f) ≡ Meant (BlankCheck start end d01) → (t : Bool) → eqb d01 0x01 ≡ t
-      → Beside p f (effect (if t and not (isFresh p (k .options)) then says notBlank k else says acknowledge k) m)
+  fresh : (Looks f → L) → (start end d01 : ℕ) → readCommand (payload f) ≡ Meant (BlankCheck start end d01) → (t : Bool) → eqb d01 0x01 ≡ t
+      → Beside p L (effect (if t and not (isFresh p (k .options)) then says notBlank k else says acknowledge k) m)
       (effect (if t and not (isFresh p (withWindow s e k .options)) then says notBlank (withWindow s e k) else says acknowledge (withWindow s e k)) m)
   unfolding _and_ if_then_else_ reads
-  fresh start end d01 c true q =
+  fresh look start end d01 c true q =
       either (not (isFresh p (k .options))) (not (isFresh p (withWindow s e k .options)))
-      (atFresh start end (c ∙ ap (λ (d : ℕ). Meant (BlankCheck start end d)) (eqb-true _ _ q)))
-  fresh start end d01 c false q = so k _ m refl
+      (look (atFresh start end (c ∙ ap (λ (d : ℕ). Meant (BlankCheck start end d)) (eqb-true _ _ q))))
+  fresh look start end d01 c false q = so k _ m refl
 
-  checks : (start end : ℕ) (r : Range) (d01 : ℕ) → readCommand (payload f) ≡ Meant (BlankCheck start end d01)
-      → Beside p f (effect (blankCheck p k r d01 m) m) (effect (blankCheck p (withWindow s e k) r d01 m) m)
+  checks : (Looks f → L) → (start end : ℕ) (r : Range) (d01 : ℕ) → readCommand (payload f) ≡ Meant (BlankCheck start end d01)
+      → Beside p L (effect (blankCheck p k r d01 m) m) (effect (blankCheck p (withWindow s e k) r d01 m) m)
   unfolding blankCheck reads
-  checks start end Bad d01 c = so k _ m refl
-  checks start end (Blocks a block count) d01 c =
-      if-two (λ x y. Beside p f (effect x m) (effect y m)) _ (λ t. so k _ m refl)
-      (λ t. if-two (λ x y. Beside p f (effect x m) (effect y m)) _ (λ u. so k _ m refl) (λ u. fresh start end d01 c (eqb d01 0x01) refl))
+  checks look start end Bad d01 c = so k _ m refl
+  checks look start end (Blocks a block count) d01 c =
+      if-two (λ x y. Beside p L (effect x m) (effect y m)) _ (λ t. so k _ m refl)
+      (λ t. if-two (λ x y. Beside p L (effect x m) (effect y m)) _ (λ u. so k _ m refl) (λ u. fresh look start end d01 c (eqb d01 0x01) refl))
 
-  programs : (r : Range) (start end : ℕ) → Beside p f (effect (programming p k r start end) m) (effect (programming p (withWindow s e k) r start end) m)
+  programs : (r : Range) (start end : ℕ) → Beside p L (effect (programming p k r start end) m) (effect (programming p (withWindow s e k) r start end) m)
   unfolding programming reads
   programs Bad start end = so k _ m refl
-  programs (Blocks a block count) start end = if-two (λ x y. Beside p f (effect x m) (effect y m)) _ (λ t. so k _ m refl) (λ t. so _ _ m refl)
+  programs (Blocks a block count) start end = if-two (λ x y. Beside p L (effect x m) (effect y m)) _ (λ t. so k _ m refl) (λ t. so _ _ m refl)
 
-  verifies : (r : Range) (start end : ℕ) → Beside p f (effect (verify k r start end) m) (effect (verify (withWindow s e k) r start end) m)
+  verifies : (r : Range) (start end : ℕ) → Beside p L (effect (verify k r start end) m) (effect (verify (withWindow s e k) r start end) m)
   unfolding verify reads
   verifies Bad start end = so k _ m refl
   verifies (Blocks a block count) start end = so _ _ m refl
 
-  sums : (r : Range) → Beside p f (effect (checksum p k r m) m) (effect (checksum p (withWindow s e k) r m) m)
+  sums : (r : Range) → Beside p L (effect (checksum p k r m) m) (effect (checksum p (withWindow s e k) r m) m)
   unfolding checksum reads
   sums Bad = so k _ m refl
   sums (Blocks a block count) = so k _ m refl
 
-  releases : Beside p f (effect (securityRelease p k m) m) (effect (securityRelease p (withWindow s e k) m) m)
+  releases : Beside p L (effect (securityRelease p k m) m) (effect (securityRelease p (withWindow s e k) m) m)
   unfolding securityRelease reads released
   releases =
-      if-two (λ x y. Beside p f (effect x m) (effect y m)) _ (λ t. so k _ m refl)
-      (λ t. if-two (λ x y. Beside p f (effect x m) (effect y m)) _ (λ u. so k _ m refl) (λ u. anew _ _ refl))
+      if-two (λ x y. Beside p L (effect x m) (effect y m)) _ (λ t. so k _ m refl)
+      (λ t. if-two (λ x y. Beside p L (effect x m) (effect y m)) _ (λ u. so k _ m refl) (λ u. anew _ _ refl))
 
-  works : (c : Commands.Command) → readCommand (payload f) ≡ Meant c → Beside p f (work c p k m) (work c p (withWindow s e k) m)
+  works : (Looks f → L) → (c : Commands.Command) → readCommand (payload f) ≡ Meant c → Beside p L (work c p k m) (work c p (withWindow s e k) m)
   unfolding work reads
-  works (RateSet rate supply) r = rate-set rate supply
-  works Reset r = so k _ m refl
-  works (BlockErase start) r = erases _
-  works (BlankCheck start end d01) r = checks start end _ d01 r
-  works (Programming start end) r = programs _ start end
-  works (Verify start end) r = verifies _ start end
-  works (Checksum start end) r = sums _
-  works SignatureGet r = so k _ m refl
-  works SecurityGet r = record { start = s; end = e; core = refl; memory = refl; tells = looks (atReport r) }
-  works SecuritySet r = so _ _ m refl
-  works SecurityRelease r = releases
+  works look (RateSet rate supply) r = rate-set rate supply
+  works look Reset r = so k _ m refl
+  works look (BlockErase start) r = erases _
+  works look (BlankCheck start end d01) r = checks look start end _ d01 r
+  works look (Programming start end) r = programs _ start end
+  works look (Verify start end) r = verifies _ start end
+  works look (Checksum start end) r = sums _
+  works look SignatureGet r = so k _ m refl
+  works look SecurityGet r = record { start = s; end = e; core = refl; memory = refl; tells = looks (look (atReport r)) }
+  works look SecuritySet r = so _ _ m refl
+  works look SecurityRelease r = releases
 
-  reading-does : (r : Reading) → readCommand (payload f) ≡ r → Beside p f (readingDoes r p k m) (readingDoes r p (withWindow s e k) m)
+  reading-does : (Looks f → L) → (r : Reading) → readCommand (payload f) ≡ r → Beside p L (readingDoes r p k m) (readingDoes r p (withWindow s e k) m)
   unfolding readingDoes reads
-  reading-does Unknown r = so k _ m refl
-  reading-does UnfitLen r = so k _ m refl
-  reading-does (Meant c) r = works c r
-
-  command-does : Beside p f (commandDoes p k f m) (commandDoes p (withWindow s e k) f m)
-  unfolding commandDoes reads
-  command-does = if-two (Beside p f) _ (λ t. so k _ m refl) (λ t. if-two (Beside p f) _ (λ u. so k _ m refl) (λ u. reading-does _ refl))
+  reading-does look Unknown r = so k _ m refl
+  reading-does look UnfitLen r = so k _ m refl
+  reading-does look (Meant c) r = works look c r
 
   -- Of a data frame.
-  next-page : (w : Awaited) (r : Reply) (n : Flash) → reads r ≡ false → Beside p f (effect (told r (nextPage w k)) n) (effect (told r (nextPage w (withWindow s e k))) n)
+  next-page : (w : Awaited) (r : Reply) (n : Flash) → reads r ≡ false → Beside p L (effect (told r (nextPage w k)) n) (effect (told r (nextPage w (withWindow s e k))) n)
   unfolding nextPage
-  next-page w r n q = if-two (λ x y. Beside p f (effect (told r x) n) (effect (told r y) n)) _ (λ t. so _ r n q) (λ t. so _ r n q)
+  next-page w r n q = if-two (λ x y. Beside p L (effect (told r x) n) (effect (told r y) n)) _ (λ t. so _ r n q) (λ t. so _ r n q)
 
   stored-plain : (w : Awaited) → reads (storedReply w) ≡ false
   unfolding storedReply reads
   stored-plain w = if-all (λ r. reads r ≡ false) _ (λ t. refl) (λ t. refl)
 
-  data-does : (w : Awaited) → Beside p f (dataDoes p k w f m) (dataDoes p (withWindow s e k) w f m)
+  data-does : (w : Awaited) → Beside p L (dataDoes p k w f m) (dataDoes p (withWindow s e k) w f m)
   unfolding dataDoes goodData badData securityData programPage verifyPage reads
   data-does w =
-      if-two (Beside p f) _ (λ t. if-two (λ x y. Beside p f (effect x m) (effect y m)) _ (λ u. so _ _ m refl) (λ u. so _ _ m refl))
-      (λ t. if-two (Beside p f) _
-      (λ u. if-two (λ x y. Beside p f (effect x m) (effect y m)) _ (λ v. so _ _ m refl)
-      (λ v. if-two (λ x y. Beside p f (effect x m) (effect y m)) _ (λ x. so _ _ m refl) (λ x. anew _ _ refl)))
-      (λ u. if-two (Beside p f) _
-      (λ v. if-two (Beside p f) _ (λ x. so _ _ m refl) (λ x. next-page w _ _ (stored-plain w)))
-      (λ v. if-two (λ x y. Beside p f (effect x m) (effect y m)) _ (λ x. so _ _ m refl) (λ x. next-page w _ m refl))))
+      if-two (Beside p L) _ (λ t. if-two (λ x y. Beside p L (effect x m) (effect y m)) _ (λ u. so _ _ m refl) (λ u. so _ _ m refl))
+      (λ t. if-two (Beside p L) _
+      (λ u. if-two (λ x y. Beside p L (effect x m) (effect y m)) _ (λ v. so _ _ m refl)
+      (λ v. if-two (λ x y. Beside p L (effect x m) (effect y m)) _ (λ x. so _ _ m refl) (λ x. anew _ _ refl)))
+      (λ u. if-two (Beside p L) _
+      (λ v. if-two (Beside p L) _ (λ x. so _ _ m refl) (λ x. next-page w _ _ (stored-plain w)))
+      (λ v. if-two (λ x y. Beside p L (effect x m) (effect y m)) _ (λ x. so _ _ m refl) (λ x. next-page w _ m refl))))
 
-  frame-does : (h : Hearing) → Beside p f (frameDoes h p k f m) (frameDoes h p (withWindow s e k) f m)
-  unfolding frameDoes reads
-  frame-does HearsNothing = so k _ m refl
-  frame-does HearsCommands = command-does
-  frame-does (HearsData w) = data-does w
+-- Both commands are allowed in phase 3 alone.
+record Opens (f : List ℕ) (k : Core) : Type 0 where
+  ready : k .phase ≡ Ready
+  at-window : Looks f
+
+allowed : (f : List ℕ) (ph : Phase) → allowedIn ph (getD (payload f) 0 0) ≡ true → Looks f → ph ≡ Ready
+unfolding allowedIn comOf
+allowed f ModeByte t l = absurd (false≢true t)
+allowed f Setup t (atReport r) = absurd (false≢true (ap (λ (c : ℕ). eqb c 0x9A) (sym (com-read (payload f) _ r)) ∙ t))
+allowed f Setup t (atFresh start end r) = absurd (false≢true (ap (λ (c : ℕ). eqb c 0x9A) (sym (com-read (payload f) _ r)) ∙ t))
+allowed f Ready t l = refl
+allowed f (Awaiting w) t l = absurd (false≢true t)
+
+command-does : (p : Part) (f : List ℕ) (k : Core) (m : Flash) (s e : ℕ) → Beside p (Opens f k) (commandDoes p k f m) (commandDoes p (withWindow s e k) f m)
+unfolding commandDoes reads
+command-does p f k m s e =
+    if-two (Beside p (Opens f k)) _ (λ t. so p _ f k m s e k _ m refl)
+    (λ t. if-two (Beside p (Opens f k)) _ (λ u. so p _ f k m s e k _ m refl)
+    (λ u. reading-does p _ f k m s e (λ l. record { ready = allowed f (k .phase) (not-false _ u) l; at-window = l }) _ refl))
 
 -- An event that completes no frame.
 quiet-beside : (v : Event) (k : Core) (s e : ℕ) → quietCore v (withWindow s e k) ≡ withWindow s e (quietCore v k)
@@ -227,10 +240,10 @@ quiet-beside Gap k s e = refl
 quiet-beside PowerOn k s e = refl
 
 -- The frame that is taken looks at the window.
-record Looking (ts : List (List ℕ)) : Type 0 where
+record Looking (ts : List (List ℕ)) (k : Core) : Type 0 where
   frame : List ℕ
   is : ts ≡ frame ∷ []
-  at-window : Looks frame
+  opens : Opens frame k
 
 -- The two reactions to an event.
 record Both (L : Type 0) (p : Part) (x y : Reaction) : Type 0 where
@@ -250,26 +263,28 @@ taken-whole : (hs : List ℕ) → complete hs ≡ true → take-up hs .taken ≡
 unfolding take-up if_then_else_
 taken-whole hs e = rw e
 
-heard-both : (p : Part) (k : Core) (m : Flash) (s e : ℕ) (hs : List ℕ) (x y : Effect) → Beside p hs x y
-    → Both (Looking (take-up hs .taken)) p (heardByte hs x k m) (heardByte hs y (withWindow s e k) m)
+heard-both : (p : Part) (L K : Type 0) (k : Core) (m : Flash) (s e : ℕ) (hs : List ℕ) (x y : Effect) → (complete hs ≡ true → L → K) → Beside p L x y
+    → Both K p (heardByte hs x k m) (heardByte hs y (withWindow s e k) m)
 unfolding heardByte
-heard-both p k m s e hs x y b =
-    if-two (Both (Looking (take-up hs .taken)) p) (complete hs)
-    (λ t. record { hears = refl; start = b .start; end = b .end; core = b .core; memory = b .memory; tells = go t (b .tells) }) (λ t. quiet-both _ p hs k _ m s e refl)
+heard-both p L K k m s e hs x y at b =
+    if-two (Both K p) (complete hs)
+    (λ t. record { hears = refl; start = b .start; end = b .end; core = b .core; memory = b .memory; tells = go (at t) (b .tells) }) (λ t. quiet-both _ p hs k _ m s e refl)
   where
-    go : complete hs ≡ true → {rs qs : List (List ℕ)} → Told (Looks hs) rs qs → Told (Looking (take-up hs .taken)) rs qs
-    go t (alike q) = alike q
-    go t (looks l) = looks (record { frame = hs; is = taken-whole hs t; at-window = l })
+    go : (L → K) → {rs qs : List (List ℕ)} → Told L rs qs → Told K rs qs
+    go at (alike q) = alike q
+    go at (looks l) = looks (at l)
 
 byte-both : (h : Hearing) (p : Part) (k : Core) (hs : List ℕ) (b : ℕ) (m : Flash) (s e : ℕ) → quietIn h b (withWindow s e k) ≡ withWindow s e (quietIn h b k)
-    → Both (Looking (takenIn h hs (Byte b))) p (byteIn h p k hs b m) (byteIn h p (withWindow s e k) hs b m)
-unfolding byteIn takenIn takenAs collectsOn quietIn
+    → Both (Looking (takenIn h hs (Byte b)) k) p (byteIn h p k hs b m) (byteIn h p (withWindow s e k) hs b m)
+unfolding byteIn takenIn takenAs collectsOn quietIn frameDoes
 byte-both HearsNothing p k hs b m s e q = quiet-both _ p hs _ _ m s e q
-byte-both HearsCommands p k hs b m s e q = heard-both p k m s e (hear Command hs b) _ _ (frame-does p (hear Command hs b) k m s e HearsCommands)
-byte-both (HearsData w) p k hs b m s e q = heard-both p k m s e (hear Data hs b) _ _ (frame-does p (hear Data hs b) k m s e (HearsData w))
+byte-both HearsCommands p k hs b m s e q =
+    heard-both p _ _ k m s e (hear Command hs b) _ _ (λ t l. record { frame = hear Command hs b; is = taken-whole (hear Command hs b) t; opens = l })
+    (command-does p (hear Command hs b) k m s e)
+byte-both (HearsData w) p k hs b m s e q = heard-both p ⊥ _ k m s e (hear Data hs b) _ _ (λ t l. absurd l) (data-does p ⊥ (hear Data hs b) k m s e w)
 
 react-both : (v : Event) (p : Part) (k : Core) (hs : List ℕ) (m : Flash) (s e : ℕ)
-    → Both (Looking (takenIn (hearing (k .phase)) hs v)) p (reactTo v p k hs m) (reactTo v p (withWindow s e k) hs m)
+    → Both (Looking (takenIn (hearing (k .phase)) hs v) k) p (reactTo v p k hs m) (reactTo v p (withWindow s e k) hs m)
 unfolding reactTo quietCore
 react-both (Byte b) p k hs m s e = byte-both (hearing (k .phase)) p k hs b m s e (quiet-beside (Byte b) k s e)
 react-both Gap p k hs m s e = quiet-both _ p [] _ _ m s e refl
@@ -304,20 +319,20 @@ one-event p o u v so su w =
     y : Reaction
     y = reactionOf p u v
 
-    b : Both (Looking (takenBy o v)) p x y
+    b : Both (Looking (takenBy o v) (o .chip .core)) p x y
     b = rw (w .core, w .hears, w .memory) (react-both v p (o .chip .core) (heard (o .chip .collector)) (o .memory) (w .start) (w .end))
 
     spoken : List (List ℕ) → Utterance
     spoken rs = record { answer = Replied (length (framesOf rs)) (length rs); bytes = framesOf rs }
 
-    go : Told (Looking (takenBy o v)) (payloads p (x .does .core .options) (x .does .reply)) (payloads p (y .does .core .options) (y .does .reply))
+    go : Told (Looking (takenBy o v) (o .chip .core)) (payloads p (x .does .core .options) (x .does .reply)) (payloads p (y .does .core .options) (y .does .reply))
         → Told (LooksAtWindow o v) (uttered (spokenIn (onward p o v))) (uttered (spokenIn (onward p u v)))
     go (alike q) = alike (says-reaction p u v su ∙ ap spoken q ∙ sym (says-reaction p o v so))
-    go (looks l) = looks (at (l .at-window))
+    go (looks l) = looks (at (l .opens .at-window))
       where
         at : Looks (l .frame) → LooksAtWindow o v
-        at (atReport r) = reports (l .frame) (l .is) r
-        at (atFresh start end r) = asksFresh (l .frame) start end (l .is) r
+        at (atReport r) = reports (l .frame) (l .opens .ready) (l .is) r
+        at (atFresh start end r) = asksFresh (l .frame) start end (l .opens .ready) (l .is) r
 
 pub window-restricts-nothing : WindowRestrictsNothing
 unfolding run

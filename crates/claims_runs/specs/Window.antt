@@ -6,6 +6,7 @@ use Rattle.chip.specs.Run.{onward, run, spokenIn}
 use Rattle.chip.specs.Step.{Outcome}
 use Rattle.chip.specs.declared.Event.{Event}
 use Rattle.chip_core.specs.declared.Core.{Core}
+use Rattle.chip_core.specs.declared.Phase.the-variants.{Ready}
 use Rattle.claims_good.specs.Good.{AllProper, Stands, uttered}
 use Rattle.claims_runs.specs.Taken.{takenBy}
 use Rattle.commands.specs.Commands.{readCommand}
@@ -35,8 +36,9 @@ pub record OtherWindow (o u : Outcome) : Type 0 where
 
 -- The two commands that look at it: A1h reports it, and 32h with D01 01h asks whether it is fresh.
 pub data LooksAtWindow (o : Outcome) (v : Event) : Type 0 where
-  reports : (f : List ℕ) → takenBy o v ≡ f ∷ [] → readCommand (payload f) ≡ Meant SecurityGet → LooksAtWindow o v
-  asksFresh : (f : List ℕ) (start end : ℕ) → takenBy o v ≡ f ∷ [] → readCommand (payload f) ≡ Meant (BlankCheck start end 0x01) → LooksAtWindow o v
+  reports : (f : List ℕ) → o .chip .core .phase ≡ Ready → takenBy o v ≡ f ∷ [] → readCommand (payload f) ≡ Meant SecurityGet → LooksAtWindow o v
+  asksFresh : (f : List ℕ) (start end : ℕ) → o .chip .core .phase ≡ Ready → takenBy o v ≡ f ∷ [] → readCommand (payload f) ≡ Meant (BlankCheck start end 0x01)
+      → LooksAtWindow o v
 
 -- The same is said to each event of a run, but to these two.
 pub data SaysSame (p : Part) : List Event → Outcome → Outcome → Type 0 where
