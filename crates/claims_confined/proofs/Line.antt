@@ -118,7 +118,7 @@ header-is p u v g s a e = go (u .chip .core .phase) v a (and-left _ _ (accepts (
     go f gap inReady h e = absurd (no-frame g [] e)
 
 -- The one frame that was sent, as a command.
-record Sent (f g : List ℕ) : Type 0 where
+record SentCommand (f g : List ℕ) : Type 0 where
   is : f ≡ g
   command-frame : getD g 0 0 ≡ headerByte Command
 
@@ -146,10 +146,10 @@ none-left ok p u (v ∷ vs) e = absurd (false≢true e)
 Rest : List ℕ → Part → List Sound → Outcome → Type 0
 Rest f p vs u =
     (w : Framing) → Stands p u → AwaitsFrame (u .chip .core .phase) → Same w (heard (u .chip .collector))
-    → completesOnly (only f) (awaitsIn (u .chip .core .phase)) w vs ≡ true → CommandsOnly (Sent f) p u (map eventOf vs)
+    → completesOnly (only f) (awaitsIn (u .chip .core .phase)) w vs ≡ true → CommandsOnly (SentCommand f) p u (map eventOf vs)
 
 only-sent : (f : List ℕ) (p : Part) (vs : List Sound) (u : Outcome) (w : Framing) → Stands p u → AwaitsFrame (u .chip .core .phase) → Same w (heard (u .chip .collector))
-    → AllProper (map eventOf vs) → completesOnly (only f) (awaitsIn (u .chip .core .phase)) w vs ≡ true → CommandsOnly (Sent f) p u (map eventOf vs)
+    → AllProper (map eventOf vs) → completesOnly (only f) (awaitsIn (u .chip .core .phase)) w vs ≡ true → CommandsOnly (SentCommand f) p u (map eventOf vs)
 unfolding completesOnly thenAwaits Rest
 only-sent f p [] u w s a m q e = noMore
 only-sent f p (v ∷ vs) u w s a m (andEvent h q) e =
@@ -164,7 +164,7 @@ only-sent f p (v ∷ vs) u w s a m (andEvent h q) e =
     goes-on : completesOnly (only f) (thenAwaits (awaitsIn ph) (framing (headerIn ph) w v .done)) (framing (headerIn ph) w v .stands) vs ≡ true
     goes-on = and-right (permitted (only f) (awaitsIn ph) (framing (headerIn ph) w v .done) (empty vs)) _ e
 
-    first : (g : List ℕ) → takenBy u (eventOf v) ≡ g ∷ [] → AwaitsCommand ph → goodFor aCommand g ≡ true → Sent f g
+    first : (g : List ℕ) → takenBy u (eventOf v) ≡ g ∷ [] → AwaitsCommand ph → goodFor aCommand g ≡ true → SentCommand f g
     first g t c good =
         let z : permitted (only f) (awaitsIn ph) (g ∷ []) (empty vs) ≡ true =
         ap (λ (ds : List (List ℕ)). permitted (only f) (awaitsIn ph) ds (empty vs)) (sym (taken-done u w v a m ∙ t)) ∙ permit in
@@ -172,15 +172,15 @@ only-sent f p (v ∷ vs) u w s a m (andEvent h q) e =
 
     on : Rest f p vs (onward p u (eventOf v)) → (k : Core) → onward p u (eventOf v) .chip .core ≡ k → AwaitsFrame (k .phase)
         → thenAwaits (awaitsIn ph) (framing (headerIn ph) w v .done) ≡ awaitsIn (k .phase)
-        → Same (framing (headerIn ph) w v .stands) (heard (onward p u (eventOf v) .chip .collector)) → CommandsOnly (Sent f) p (onward p u (eventOf v)) (map eventOf vs)
+        → Same (framing (headerIn ph) w v .stands) (heard (onward p u (eventOf v) .chip .collector)) → CommandsOnly (SentCommand f) p (onward p u (eventOf v)) (map eventOf vs)
     on r k c b t n =
         r (framing (headerIn ph) w v .stands) (stays p u (eventOf v) s h) (rw c b) n
         (ap (λ (l : Core). completesOnly (only f) (awaitsIn (l .phase)) (framing (headerIn ph) w v .stands) vs) c
         ∙ ap (λ (y : Awaits). completesOnly (only f) y (framing (headerIn ph) w v .stands) vs) (sym t) ∙ goes-on)
 
     judged : Rest f p vs (onward p u (eventOf v)) → (g : List ℕ) (gs : List (List ℕ)) → framing (headerIn ph) w v .done ≡ g ∷ gs → Went p u v w (does ph p (u .chip .core) (u .memory) g) → (t : Bool) → goodFor (awaitsIn ph) g ≡ t
-        → CommandsOnly (Sent f) p (onward p u (eventOf v)) (map eventOf vs)
-    judged r g gs d x true good = none-left (Sent f) p _ vs (permits f g gs (awaitsIn ph) (empty vs) (rw d at permit) good .last)
+        → CommandsOnly (SentCommand f) p (onward p u (eventOf v)) (map eventOf vs)
+    judged r g gs d x true good = none-left (SentCommand f) p _ vs (permits f g gs (awaitsIn ph) (empty vs) (rw d at permit) good .last)
     judged r g gs d x false bad =
         let b = bad-frame-does ph p (u .chip .core) (u .memory) g a bad in
         let y = after-bad ph (u .chip .core) a refl in
@@ -189,7 +189,7 @@ only-sent f p (v ∷ vs) u w s a m (andEvent h q) e =
         then-command : thenAwaits (awaitsIn ph) (g ∷ gs) ≡ aCommand
         then-command = refl
 
-    rest : Rest f p vs (onward p u (eventOf v)) → Stepped p u v w → CommandsOnly (Sent f) p (onward p u (eventOf v)) (map eventOf vs)
+    rest : Rest f p vs (onward p u (eventOf v)) → Stepped p u v w → CommandsOnly (SentCommand f) p (onward p u (eventOf v)) (map eventOf vs)
     rest r (onlyHeard d x) = on r (u .chip .core) (x .core) a (ap (thenAwaits (awaitsIn ph)) d) (x .same)
     rest r (frameDone g gs d x) = judged r g gs d x (goodFor (awaitsIn ph) g) refl
 
@@ -199,7 +199,7 @@ module _ (j : Job) (image : List ℕ) where
   unfolding framed
   page-apart ds x g e h = let z : _≡_ {A = ℕ} 2 1 = ap (λ (l : List ℕ). getD l 0 0) e ∙ h in omega arith
 
-  job-sent : (st : Stage) → goodStage j st ≡ true → isOver st ≡ false → (g : List ℕ) → Sent (frameAt j image st) g → JobCommand j g
+  job-sent : (st : Stage) → goodStage j st ≡ true → isOver st ≡ false → (g : List ℕ) → SentCommand (frameAt j image st) g → JobCommand j g
   unfolding frameAt workFrame queryWith isOver
   job-sent (SetUp s) b o g t = record { stage = SetUp s; good = b; going = o; is = sym (t .is) }
   job-sent (InBlock k Blank) b o g t = record { stage = InBlock k Blank; good = b; going = o; is = sym (t .is) }

@@ -66,7 +66,7 @@ put-outside j DataFlash at offset s m e h k CodeFlash i out = refl
 put-outside j DataFlash at offset s m e h k DataFlash i out = in-area j DataFlash at offset s m e h k i (apart j _ out) (decLe _ _)
 
 -- A block of the job lies in its range.
-pub record InRange (j : Job) (k : ℕ) : Type 0 where
+pub record InJob (j : Job) (k : ℕ) : Type 0 where
   pub begins : j .start ≤ firstOfBlock j k
   pub ends : lastOfBlock j k ≤ j .end
   pub long : lastOfBlock j k + 1 ≡ firstOfBlock j k + sizeOf j
@@ -75,11 +75,11 @@ pub record InRange (j : Job) (k : ℕ) : Type 0 where
 same-area : {p : Part} {a b : Area} {at : ℕ} → b ≡ a → LiesIn p a at → LiesIn p b at
 same-area e l = rw e l
 
-pub block-inside : (j : Job) (k : ℕ) → k < blocksOf j → InRange j k
+pub block-inside : (j : Job) (k : ℕ) → k < blocksOf j → InJob j k
 unfolding firstOfBlock lastOfBlock blocksIn areaIn
 block-inside j k h = go (jobRange j) refl h
   where
-    go : (r : Range) → jobRange j ≡ r → k < blocksIn r → InRange j k
+    go : (r : Range) → jobRange j ≡ r → k < blocksIn r → InJob j k
     go Bad e h = absurd (omega arith)
     go (Blocks a block count) e h =
         let st = range-good (j .part) (j .start) (j .end) a block count e in
