@@ -9,7 +9,7 @@ use lib.Seq.{append-snoc, drop-at, take-at}
 use borrow.Author.Tests.{eqb-true}
 use Rattle.chip.proofs.Runs.{run-append}
 use Rattle.chip.specs.Run.{answers, onward, run, spokenIn}
-use Rattle.chip.specs.Step.{Outcome, Reaction, byteIn, heardByte, reactTo, reaction, silent, stepOf}
+use Rattle.chip.specs.Step.{Outcome, Reaction, byteIn, heardByte, poweredOn, reactTo, reaction, silent, stepOf}
 use Rattle.chip.specs.declared.Event.{Event}
 use Rattle.chip.specs.declared.Event.the-variants.{Byte, Gap, PowerOn}
 use Rattle.chip_core.specs.Effect.{Effect, Flash}
@@ -21,12 +21,12 @@ use Rattle.chip_reply.specs.Reply.{framesOf, payloads}
 use Rattle.chip_state.proofs.Laws.{accepts}
 use Rattle.chip_state.specs.Refusals.{goodCollected, goodState}
 use Rattle.claims_fed.specs.Fed.{silence}
-use Rattle.claims_good.proofs.Rooms.{leaves, reactionOf, says-reaction, utteranceOf}
+use Rattle.claims_good.proofs.Rooms.{Leaves, leaves, reactionOf, says-reaction, utteranceOf}
 use Rattle.claims_good.proofs.Stays.{run-stands, stays}
-use Rattle.claims_good.specs.Good.{Alike, AllProper, Stands, Utterance, aGap, andEvent, noEvent, utterances, uttered}
+use Rattle.claims_good.specs.Good.{Alike, AllProper, Proper, Stands, Utterance, aGap, aPowerOn, andEvent, noEvent, utterances, uttered}
 use Rattle.claims_noise.proofs.Rooms.{as-if}
 use Rattle.claims_noise.specs.Claims.{AsIf}
-use Rattle.claims_runs.specs.Unfinished.{CutAnywhere, CutShort, finished, finishedTo, unfinished}
+use Rattle.claims_runs.specs.Unfinished.{CutAnywhere, CutShort, Drops, byGap, byPowerOn, finished, finishedTo, unfinished}
 use Rattle.frame.proofs.Laws.Collector.{heard-none}
 use Rattle.frame.specs.Collector.{hear, heard}
 use Rattle.frame.specs.declared.Header.{Header}
@@ -229,28 +229,43 @@ module _ (p : Part) (o : Outcome) (vs : List Event) (s : Stands p o) (n : o .chi
   unfolding u
   all-stands = run-stands p vs o s q
 
-  gap-alike : Alike (run p (b .before) o) (onward p u Gap)
+  dropped : (v : Event) → Drops v → Alike (onward p (run p (b .before) o) v) (onward p u v)
   unfolding reactionOf reactTo
-  gap-alike =
-      let l = leaves p u Gap all-stands in
-      record {
-        core = b .core ∙ sym (l .core);
-        count = b .nothing ∙ sym (l .count);
-        hears = heard-none (run p (b .before) o .chip .collector) (b .nothing) ∙ sym (l .hears);
-        memory = b .memory ∙ sym (l .memory);
-      }
+  dropped v d =
+      let l = leaves p (run p (b .before) o) v before-stands in
+      let r = leaves p u v all-stands in
+      go v d l r
+    where
+      go : (v : Event) → Drops v → Leaves p (run p (b .before) o) v → Leaves p u v → Alike (onward p (run p (b .before) o) v) (onward p u v)
+      go v byGap l r =
+          record { core = l .core ∙ b .core ∙ sym (r .core); count = l .count ∙ sym (r .count); hears = l .hears ∙ sym (r .hears); memory = l .memory ∙ b .memory ∙ sym (r .memory) }
+      go v byPowerOn l r =
+          record {
+            core = l .core ∙ ap poweredOn (b .core) ∙ sym (r .core);
+            count = l .count ∙ sym (r .count);
+            hears = l .hears ∙ sym (r .hears);
+            memory = l .memory ∙ b .memory ∙ sym (r .memory);
+          }
 
-  forgets : AsIf stepOf p (run p (finished p o vs) o) (run p (vs ++ Gap ∷ []) o)
+  drops-proper : (v : Event) → Drops v → Proper v
+  drops-proper v byGap = aGap
+  drops-proper v byPowerOn = aPowerOn
+
+  forgets : (v : Event) → Drops v → AsIf stepOf p (run p (finished p o vs ++ v ∷ []) o) (run p (vs ++ v ∷ []) o)
   unfolding run u
-  forgets =
-      rw (finished-is, run-append p vs (Gap ∷ []) o)
-      (as-if p (run p (b .before) o) (onward p u Gap) before-stands (stays p u Gap all-stands aGap) gap-alike)
+  forgets v d =
+      rw (finished-is, run-append p (b .before) (v ∷ []) o, run-append p vs (v ∷ []) o)
+      (as-if p (onward p (run p (b .before) o) v) (onward p u v) (stays p (run p (b .before) o) v before-stands (drops-proper v d))
+      (stays p u v all-stands (drops-proper v d)) (dropped v d))
 
   cut-short : CutShort p o vs
   unfolding u
   cut-short =
       record {
         collected = unfinished-is ∙ ap (map Byte) (sym (b .collects));
+        count = rw finished-is (b .nothing);
+        core = rw finished-is (b .core);
+        memory = rw finished-is (b .memory);
         silent = rw (unfinished-is, finished-is) (b .quiet ∙ ap (λ (k : ℕ). replicate k silence) (sym (length-map (b .hs) Byte)));
         forgotten = forgets;
       }
