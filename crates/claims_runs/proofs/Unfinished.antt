@@ -21,12 +21,12 @@ use Rattle.chip_reply.specs.Reply.{framesOf, payloads}
 use Rattle.chip_state.proofs.Laws.{accepts}
 use Rattle.chip_state.specs.Refusals.{goodCollected, goodState}
 use Rattle.claims_fed.specs.Fed.{silence}
-use Rattle.claims_good.proofs.Rooms.{Leaves, leaves, reactionOf, says-reaction, utteranceOf}
+use Rattle.claims_good.proofs.Rooms.{leaves, reactionOf, says-reaction, utteranceOf}
 use Rattle.claims_good.proofs.Stays.{run-stands, stays}
-use Rattle.claims_good.specs.Good.{Alike, AllProper, Proper, Stands, Utterance, aGap, aPowerOn, andEvent, noEvent, utterances, uttered}
+use Rattle.claims_good.specs.Good.{Alike, AllProper, Stands, Utterance, aGap, aPowerOn, andEvent, noEvent, utterances, uttered}
 use Rattle.claims_noise.proofs.Rooms.{as-if}
 use Rattle.claims_noise.specs.Claims.{AsIf}
-use Rattle.claims_runs.specs.Unfinished.{CutAnywhere, CutShort, Drops, byGap, byPowerOn, finished, finishedTo, unfinished}
+use Rattle.claims_runs.specs.Unfinished.{CutAnywhere, CutShort, finished, finishedTo, unfinished}
 use Rattle.frame.proofs.Laws.Collector.{heard-none}
 use Rattle.frame.specs.Collector.{hear, heard}
 use Rattle.frame.specs.declared.Header.{Header}
@@ -229,34 +229,43 @@ module _ (p : Part) (o : Outcome) (vs : List Event) (s : Stands p o) (n : o .chi
   unfolding u
   all-stands = run-stands p vs o s q
 
-  dropped : (v : Event) → Drops v → Alike (onward p (run p (b .before) o) v) (onward p u v)
-  unfolding reactionOf reactTo
-  dropped v d =
-      let l = leaves p (run p (b .before) o) v before-stands in
-      let r = leaves p u v all-stands in
-      go v d l r
-    where
-      go : (v : Event) → Drops v → Leaves p (run p (b .before) o) v → Leaves p u v → Alike (onward p (run p (b .before) o) v) (onward p u v)
-      go v byGap l r =
-          record { core = l .core ∙ b .core ∙ sym (r .core); count = l .count ∙ sym (r .count); hears = l .hears ∙ sym (r .hears); memory = l .memory ∙ b .memory ∙ sym (r .memory) }
-      go v byPowerOn l r =
-          record {
-            core = l .core ∙ ap poweredOn (b .core) ∙ sym (r .core);
-            count = l .count ∙ sym (r .count);
-            hears = l .hears ∙ sym (r .hears);
-            memory = l .memory ∙ b .memory ∙ sym (r .memory);
-          }
+  kept : Outcome
+  kept = run p (b .before) o
 
-  drops-proper : (v : Event) → Drops v → Proper v
-  drops-proper v byGap = aGap
-  drops-proper v byPowerOn = aPowerOn
+  gap-alike : Alike kept (onward p u Gap)
+  unfolding kept reactionOf reactTo
+  gap-alike =
+      let r = leaves p u Gap all-stands in
+      record {
+        core = b .core ∙ sym (r .core);
+        count = b .nothing ∙ sym (r .count);
+        hears = heard-none (kept .chip .collector) (b .nothing) ∙ sym (r .hears);
+        memory = b .memory ∙ sym (r .memory);
+      }
 
-  forgets : (v : Event) → Drops v → AsIf stepOf p (run p (finished p o vs ++ v ∷ []) o) (run p (vs ++ v ∷ []) o)
-  unfolding run u
-  forgets v d =
-      rw (finished-is, run-append p (b .before) (v ∷ []) o, run-append p vs (v ∷ []) o)
-      (as-if p (onward p (run p (b .before) o) v) (onward p u v) (stays p (run p (b .before) o) v before-stands (drops-proper v d))
-      (stays p u v all-stands (drops-proper v d)) (dropped v d))
+  power-alike : Alike (onward p kept PowerOn) (onward p u PowerOn)
+  unfolding kept reactionOf reactTo
+  power-alike =
+      let l = leaves p kept PowerOn before-stands in
+      let r = leaves p u PowerOn all-stands in
+      record {
+        core = l .core ∙ ap poweredOn (b .core) ∙ sym (r .core);
+        count = l .count ∙ sym (r .count);
+        hears = l .hears ∙ sym (r .hears);
+        memory = l .memory ∙ b .memory ∙ sym (r .memory);
+      }
+
+  gap-forgets : AsIf stepOf p (run p (finished p o vs) o) (run p (vs ++ Gap ∷ []) o)
+  unfolding run u kept
+  gap-forgets =
+      rw (finished-is, run-append p vs (Gap ∷ []) o)
+      (as-if p kept (onward p u Gap) before-stands (stays p u Gap all-stands aGap) gap-alike)
+
+  power-forgets : AsIf stepOf p (run p (finished p o vs ++ PowerOn ∷ []) o) (run p (vs ++ PowerOn ∷ []) o)
+  unfolding run u kept
+  power-forgets =
+      rw (finished-is, run-append p (b .before) (PowerOn ∷ []) o, run-append p vs (PowerOn ∷ []) o)
+      (as-if p (onward p kept PowerOn) (onward p u PowerOn) (stays p kept PowerOn before-stands aPowerOn) (stays p u PowerOn all-stands aPowerOn) power-alike)
 
   cut-short : CutShort p o vs
   unfolding u
@@ -267,7 +276,8 @@ module _ (p : Part) (o : Outcome) (vs : List Event) (s : Stands p o) (n : o .chi
         core = rw finished-is (b .core);
         memory = rw finished-is (b .memory);
         silent = rw (unfinished-is, finished-is) (b .quiet ∙ ap (λ (k : ℕ). replicate k silence) (sym (length-map (b .hs) Byte)));
-        forgotten = forgets;
+        afterGap = gap-forgets;
+        afterPowerOn = power-forgets;
       }
 
 pub cut-anywhere : CutAnywhere

@@ -24,20 +24,16 @@ finished p o vs = take (finishedTo p o vs) vs
 unfoldable pub unfinished : Part → Outcome → List Event → List Event
 unfinished p o vs = drop (finishedTo p o vs) vs
 
--- What drops it: "Power-on drops it too".
-pub data Drops : Event → Type 0 where
-  byGap : Drops Gap
-  byPowerOn : Drops PowerOn
-
--- The frame that is not finished is what is collected; it has changed nothing else, and nothing is said to it; and where it is dropped all is as if it had
--- not come.
+-- The frame that is not finished is what is collected; it has changed nothing else, and nothing is said to it. After a gap, which changes nothing else
+-- either, all is as if it had not come, and so it is after power-on.
 pub record CutShort (p : Part) (o : Outcome) (vs : List Event) : Type 0 where
   pub collected : unfinished p o vs ≡ map Byte (heard (run p vs o .chip .collector))
   pub count : run p (finished p o vs) o .chip .collector .len ≡ 0
   pub core : run p (finished p o vs) o .chip .core ≡ run p vs o .chip .core
   pub memory : run p (finished p o vs) o .memory ≡ run p vs o .memory
   pub silent : utterances p (unfinished p o vs) (run p (finished p o vs) o) ≡ replicate (length (unfinished p o vs)) silence
-  pub forgotten : (v : Event) → Drops v → AsIf stepOf p (run p (finished p o vs ++ v ∷ []) o) (run p (vs ++ v ∷ []) o)
+  pub afterGap : AsIf stepOf p (run p (finished p o vs) o) (run p (vs ++ Gap ∷ []) o)
+  pub afterPowerOn : AsIf stepOf p (run p (finished p o vs ++ PowerOn ∷ []) o) (run p (vs ++ PowerOn ∷ []) o)
 
 abbrev pub CutAnywhere : Type 0
 CutAnywhere = (p : Part) (o : Outcome) (vs : List Event) → Stands p o → o .chip .collector .len ≡ 0 → AllProper vs → CutShort p o vs
