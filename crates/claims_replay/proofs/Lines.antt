@@ -35,7 +35,7 @@ use Rattle.part.specs.Part.{Arrays}
 use Rattle.part.specs.Signature.{signature}
 use Rattle.part.specs.declared.Part.{Part}
 use Rattle.replay_hex.specs.Hex.{lineOf}
-use Rattle.replay_records.specs.Records.{Playing, answering, goesOn, played}
+use Rattle.replay_play.specs.Play.{Playing, answering, goesOn, played}
 use Rattle.words.proofs.Laws.{and-left, and-right}
 
 -- Whole frames, end to end.

@@ -30,14 +30,15 @@ use Rattle.claims_replay.specs.Pieces.{InPieces, Piece, Pieces, PiecesSt
 use Rattle.frame.proofs.Laws.Sum.{Below, below-drop, below-take}
 use Rattle.part.specs.Part.{Arrays, blockSize}
 use Rattle.part.specs.declared.Part.{Part}
-use Rattle.replay_records.proofs.Laws.{play-fits, play-keeps}
-use Rattle.replay_records.specs.Records.{Playing, RecordPlaying, Replaying, afterRecord, beforePlaying, endedBy, eventsOf, nextBy, nextOf, outputLeast, playBy, playOf, playWith, played, playedInto, replayOf, replayPart, replayedFrom, whileWhole}
+use Rattle.replay_play.proofs.Laws.{play-fits, play-keeps}
+use Rattle.replay_records.specs.Records.{Replaying, afterRecord, nextBy, nextOf, replayOf, replayPart, replayedFrom, whileWhole}
+use Rattle.replay_play.specs.Play.{Playing, RecordPlaying, beforePlaying, endedBy, eventsOf, outputLeast, playBy, playOf, playWith, played, playedInto}
 use Rattle.replay_records.specs.declared.Ended.{Ended}
 use Rattle.replay_records.specs.declared.Ended.the-variants.{AtBadRecord, Whole}
 use Rattle.replay_records.specs.declared.Ended.the-variants as Ended
-use Rattle.replay_records.specs.declared.RecordEnded.{RecordEnded}
-use Rattle.replay_records.specs.declared.RecordEnded.the-variants.{NotGood, Played}
-use Rattle.replay_records.specs.declared.RecordEnded.the-variants as RecordEnded
+use Rattle.replay_play.specs.declared.RecordEnded.{RecordEnded}
+use Rattle.replay_play.specs.declared.RecordEnded.the-variants.{NotGood, Played}
+use Rattle.replay_play.specs.declared.RecordEnded.the-variants as RecordEnded
 use Rattle.words.specs.Words.{if_then_else_}
 
 -- The report of one more record.

@@ -15,7 +15,8 @@ use Rattle.frame.proofs.Laws.Sum.{Below}
 use Rattle.part.specs.Part.{Arrays}
 use Rattle.part.specs.declared.Part.{Part}
 use Rattle.part.specs.declared.refusal.Refusal.{Refusal}
-use Rattle.replay_records.specs.Records.{outputLeast, replayOf, replayPart}
+use Rattle.replay_records.specs.Records.{replayOf, replayPart}
+use Rattle.replay_play.specs.Play.{outputLeast}
 use Rattle.replay_records.specs.declared.Ended.{Ended}
 use Rattle.replay_records.specs.declared.Ended.the-variants.{AtBadRecord, Refused, Whole}
 
