@@ -106,7 +106,7 @@ module _ (j : Job) (k : Core) (m : Flash) (d : described (j .part) ≡ true) (no
           within = now;
         })))
 
-    programs : (r : Range) → Keeps j k m (effect (programming k r (firstOfBlock j b) (lastOfBlock j b)) m)
+    programs : (r : Range) → Keeps j k m (effect (programming p k r (firstOfBlock j b) (lastOfBlock j b)) m)
     unfolding programming
     programs Bad = as-was _
     programs (Blocks a block count) =
