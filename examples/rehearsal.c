@@ -16,15 +16,14 @@
 static const uint8_t names[ZC_NAMES] = {0x10, 0x00, 0x06, 'R', '5', 'F', '1', '0', '0', 'L', 'E', ' ', ' ', 1, 2, 3};
 
 static uint8_t state[ZC_STATE], code[1024 * 16], data[1024 * 4], room[ZC_ROOM];
-static uint8_t dock[ZC_DOCK], image[END + 1 - START], frame[ZC_FRAME_ROOM];
+static uint8_t part[ZC_PART], job[ZC_JOB], dock[ZC_DOCK], image[END + 1 - START], frame[ZC_FRAME_ROOM];
 /* Even a damaged line makes no more than 52 frames of 5 bytes out of one of 260, and no answer to one is longer than 31 bytes. */
 static uint8_t answer[52 * 31];
 
 /* What every call of the chip and of the dock begins with, and what the chip's events end with. */
-#define PART 16, 4, 32, names, sizeof names
-#define CHIP PART, state, sizeof state
+#define CHIP 16, 4, 32, names, sizeof names, state, sizeof state
 #define FLASH code, sizeof code, data, sizeof data, room, sizeof room
-#define DOCK PART, START, END, RATE, SUPPLY, RETRIES, image, sizeof image, dock, sizeof dock
+#define DOCK part, job, image, sizeof image, dock
 
 static void must(const char *call, uint32_t refusal) {
     if (refusal == 0) return;
@@ -52,35 +51,37 @@ static void print_bytes(const uint8_t *bytes, size_t length, size_t most) {
 }
 
 int main(void) {
-    static const char *const how[] = {"", "finished", "failed by status", "failed by mismatch", "failed, unreadable", "failed by timeout"};
+    static const char *const why[] = {"", " by status", " by mismatch", ", unreadable", " by timeout"};
     static const uint8_t mode_byte = 0x3A;
-    size_t length, bytes, frames;
-    uint32_t ended = 0, frames_used, retries_used;
+    size_t bytes, frames;
+    uint64_t length[1], told[3] = {ZC_GOES_ON};
 
     memset(code, 0x5A, sizeof code);
     memset(data, 0xFF, sizeof data);
     for (size_t at = 0; at < sizeof image; at++) image[at] = (uint8_t)(7 * at + at / 256);
+    zc_part(part, 16, 4, 32, names);
+    zc_job(job, START, END, RATE, SUPPLY, RETRIES);
     must("zc_fresh", zc_fresh(CHIP));
     must("zc_start", zc_start(DOCK));
 
     hear(&mode_byte, 1);
-    while (ended == 0) {
-        must("zc_ask", zc_ask(DOCK, frame, sizeof frame, &length));
+    while (told[0] == ZC_GOES_ON) {
+        must("zc_ask", zc_ask(DOCK, frame, sizeof frame, length));
         must("zc_gap", zc_gap(CHIP, FLASH, &bytes, &frames));
-        size_t said = hear(frame, length);
-        print_bytes(frame, length, 12);
+        size_t said = hear(frame, length[0]);
+        print_bytes(frame, length[0], 12);
         printf(" -> ");
         print_bytes(answer, said, sizeof answer);
         printf("\n");
         if (said > 0)
-            must("zc_answer", zc_answer(DOCK, answer, said, &ended, &frames_used, &retries_used));
+            must("zc_answer", zc_answer(DOCK, answer, said, told));
         else
-            must("zc_timeout", zc_timeout(DOCK, &ended, &frames_used, &retries_used));
+            must("zc_timeout", zc_timeout(DOCK, told));
     }
 
     /* By hand: three frames of setup, then for each block that is not blank 32h, 22h, 40h, four pages, 13h and four pages: 3 + 2 * 12 = 27. */
-    printf("%s, %u frames, %u retries\n", how[ended], (unsigned)frames_used, (unsigned)retries_used);
+    printf("%s%s, %u frames, %u retries\n", told[0] == ZC_FINISHED ? "finished" : "failed", why[zc_dock_cause(dock)], (unsigned)told[1], (unsigned)told[2]);
     int holds = memcmp(code + START, image, sizeof image) == 0;
     printf("%05Xh to %05Xh %s the image\n", START, END, holds ? "holds" : "does not hold");
-    return ended == 1 && holds ? 0 : 1;
+    return told[0] == ZC_FINISHED && holds ? 0 : 1;
 }

@@ -6,18 +6,14 @@ mod door;
 
 use door::{Job, Part, DOCK, FRAME_ROOM, ROOM, STATE};
 
-const PART: Part = Part {
-    code_blocks: 16,
-    data_blocks: 4,
-    clock: 32,
-    names: b"\x10\x00\x06R5F100LE  \x01\x02\x03",
-};
+const NAMES: &[u8; door::NAMES] = b"\x10\x00\x06R5F100LE  \x01\x02\x03";
 const MODE_BYTE: u8 = 0x3A;
 const START: usize = 0x1800;
 const END: usize = 0x1FFF;
 
-/// A chip's state with its flash and reply room.
+/// A chip's part and state, with its flash and reply room.
 struct Chip {
+    part: Part,
     state: [u8; STATE],
     code: Vec<u8>,
     data: Vec<u8>,
@@ -30,7 +26,7 @@ impl Chip {
         let mut said = Vec::new();
         while !bytes.is_empty() {
             let (taken, told) = door::feed(
-                &PART,
+                &self.part,
                 &mut self.state,
                 bytes,
                 &mut self.code,
@@ -46,7 +42,7 @@ impl Chip {
 
     fn gap(&mut self) {
         let told = door::gap(
-            &PART,
+            &self.part,
             &mut self.state,
             &mut self.code,
             &mut self.data,
@@ -73,25 +69,23 @@ fn hex(bytes: &[u8], most: usize) -> String {
 }
 
 fn main() {
+    let part = door::part(16, 4, 32, NAMES);
     let mut chip = Chip {
+        part,
         state: [0; STATE],
         code: vec![0x5A; 1024 * 16],
         data: vec![0xFF; 1024 * 4],
         room: [0; ROOM],
     };
-    must("zc_fresh", door::fresh(&PART, &mut chip.state));
+    must("zc_fresh", door::fresh(&part, &mut chip.state));
 
     // Code blocks 6 and 7, at 115,200 baud and 3.3 V, with up to three retries.
     let image: Vec<u8> = (0..END + 1 - START)
         .map(|at| (7 * at + at / 256) as u8)
         .collect();
     let job = Job {
-        part: PART,
-        start: START as u32,
-        end: END as u32,
-        rate: 0,
-        supply: 33,
-        retries: 3,
+        part,
+        work: door::work(START as u32, END as u32, 0, 33, 3),
         image: &image,
     };
     let mut dock = [0; DOCK];
@@ -103,12 +97,9 @@ fn main() {
         let (refusal, bytes) = door::ask(&job, &mut dock, &mut frame);
         must("zc_ask", refusal);
         chip.gap();
-        let answer = chip.hear(&frame[..bytes]);
-        println!(
-            "{} -> {}",
-            hex(&frame[..bytes], 12),
-            hex(&answer, answer.len())
-        );
+        let frame = &frame[..bytes as usize];
+        let answer = chip.hear(frame);
+        println!("{} -> {}", hex(frame, 12), hex(&answer, answer.len()));
         let report = match answer.is_empty() {
             false => door::answer(&job, &mut dock, &answer),
             true => door::timeout(&job, &mut dock),
@@ -120,11 +111,11 @@ fn main() {
     };
 
     // By hand: three frames of setup, then for each block that is not blank 32h, 22h, 40h, four pages, 13h and four pages: 3 + 2 * 12 = 27.
-    let how = match report.ended {
-        1 => "finished",
-        2 => "failed by status",
-        3 => "failed by mismatch",
-        4 => "failed, unreadable",
+    let how = match (report.ended, dock[20]) {
+        (1, _) => "finished",
+        (_, 1) => "failed by status",
+        (_, 2) => "failed by mismatch",
+        (_, 3) => "failed, unreadable",
         _ => "failed by timeout",
     };
     println!(

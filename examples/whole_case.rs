@@ -3,14 +3,9 @@
 #[path = "../include/door.rs"]
 mod door;
 
-use door::{fresh, replay, Part, BAD_RECORD, OUTPUT, ROOM, STATE};
+use door::{fresh, replay, BAD_RECORD, OUTPUT, ROOM, STATE};
 
-const PART: Part = Part {
-    code_blocks: 16,
-    data_blocks: 4,
-    clock: 32,
-    names: b"\x10\x00\x06R5F100LE  \x01\x02\x03",
-};
+const NAMES: &[u8; door::NAMES] = b"\x10\x00\x06R5F100LE  \x01\x02\x03";
 
 const WHOLE_CASE: [u8; 32] = [
     0x01, 0x01, 0x3A, 0x00, 0x00, 0x00, 0x00, 0x00, //
@@ -20,14 +15,15 @@ const WHOLE_CASE: [u8; 32] = [
 ];
 
 fn main() {
+    let part = door::part(16, 4, 32, NAMES);
     let mut state = [0; STATE];
     let (mut code, mut data, mut room) = ([0xFF; 16 * 1024], [0xFF; 4 * 1024], [0; ROOM]);
-    assert_eq!(fresh(&PART, &mut state), 0, "the part is described");
+    assert_eq!(fresh(&part, &mut state), 0, "the part is described");
 
     // Output enough for the replies to all records.
     let mut output = [0; OUTPUT * (WHOLE_CASE.len() / 8 + 1)];
     let (records, told) = replay(
-        &PART,
+        &part,
         &mut state,
         &WHOLE_CASE,
         &mut code,

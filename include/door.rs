@@ -1,34 +1,52 @@
-//! The proved library for programs in Rust: the ten calls of door.h, declared here and nowhere else, each behind a safe function of slices and numbers. A
-//! program takes this file as a module, `#[path = "../include/door.rs"] mod door;`, and links target/native/libdoor.a. What each call does, door.h says.
+//! The proved library for programs in Rust: the calls of door.h, declared here and nowhere else, each behind a safe function of arrays and slices. A program
+//! takes this file as a module, `#[path = "../include/door.rs"] mod door;`, and links target/native/libdoor.a. What each call does, door.h says.
 #![allow(dead_code)]
 
-pub const STATE: usize = 293;
+pub const PART: usize = 19;
 pub const NAMES: usize = 16;
+pub const JOB: usize = 11;
+pub const STATE: usize = 293;
+pub const DOCK: usize = 23;
 pub const ROOM: usize = 32;
+pub const FRAME_ROOM: usize = 260;
 pub const OUTPUT: usize = 192;
 pub const BAD_RECORD: u32 = 16;
-pub const DOCK: usize = 23;
-pub const FRAME_ROOM: usize = 260;
 
-/// Three numbers, and the names: device code (3), name (10), firmware version (3).
-#[derive(Clone, Copy, Debug)]
-pub struct Part<'a> {
-    pub code_blocks: u32,
-    pub data_blocks: u32,
-    pub clock: u32,
-    pub names: &'a [u8],
-}
+/// A part as its bytes: three numbers, and device code (3), name (10), firmware version (3).
+pub type Part = [u8; PART];
 
-/// A job with its image, which is lent to every call.
+/// A job as its bytes, the part it is for, and its image, which are lent to every call.
 #[derive(Clone, Copy, Debug)]
 pub struct Job<'a> {
-    pub part: Part<'a>,
-    pub start: u32,
-    pub end: u32,
-    pub rate: u32,
-    pub supply: u32,
-    pub retries: u32,
+    pub part: Part,
+    pub work: [u8; JOB],
     pub image: &'a [u8],
+}
+
+/// A part's bytes. No number of the document's reaches 255, so a greater one stays outside them.
+#[inline]
+pub fn part(code_blocks: u32, data_blocks: u32, clock: u32, names: &[u8; NAMES]) -> Part {
+    let mut bytes = [0; PART];
+    bytes[0] = low(code_blocks);
+    bytes[1] = low(data_blocks);
+    bytes[2] = low(clock);
+    bytes[3..].copy_from_slice(names);
+    bytes
+}
+
+/// A job's bytes: the first and the last address of its range, rate code, supply in 100 mV, retries allowed.
+#[inline]
+pub fn work(first: u32, last: u32, rate: u32, supply: u32, retries: u32) -> [u8; JOB] {
+    let mut bytes = [0; JOB];
+    bytes[..4].copy_from_slice(&first.to_le_bytes());
+    bytes[4..8].copy_from_slice(&last.to_le_bytes());
+    bytes[8..].copy_from_slice(&[low(rate), low(supply), low(retries)]);
+    bytes
+}
+
+#[inline]
+fn low(number: u32) -> u8 {
+    number.min(255) as u8
 }
 
 /// What a call of the chip tells: 0 or the refusal's number, and the reply's bytes and frames.
@@ -43,14 +61,13 @@ pub struct Told {
 #[derive(Clone, Copy, Debug, PartialEq, Eq)]
 pub struct Report {
     pub refusal: u32,
-    pub ended: u32,
-    pub frames_used: u32,
-    pub retries_used: u32,
+    pub ended: u64,
+    pub frames_used: u64,
+    pub retries_used: u64,
 }
 
-// Every call tells its numbers, a refused one too: they begin as what none of them tells, so that one left untold would show.
-const UNTOLD: usize = usize::MAX;
-const UNTOLD_32: u32 = u32::MAX;
+/// The numbers told begin as what no call tells: a refused call leaves them, and one left untold would show.
+pub const UNTOLD: u64 = u64::MAX;
 
 // In each function below a pointer goes with its own slice's length, and what is lent to be changed is borrowed mutably, so that nothing overlaps it.
 
@@ -58,11 +75,11 @@ const UNTOLD_32: u32 = u32::MAX;
 pub fn fresh(part: &Part, state: &mut [u8]) -> u32 {
     unsafe {
         zc_fresh(
-            part.code_blocks,
-            part.data_blocks,
-            part.clock,
-            part.names.as_ptr(),
-            part.names.len(),
+            part[0].into(),
+            part[1].into(),
+            part[2].into(),
+            part[3..].as_ptr(),
+            NAMES,
             state.as_mut_ptr(),
             state.len(),
         )
@@ -78,14 +95,14 @@ pub fn byte(
     data: &mut [u8],
     room: &mut [u8],
 ) -> Told {
-    let (mut bytes, mut frames) = (UNTOLD, UNTOLD);
+    let (mut bytes, mut frames) = (usize::MAX, usize::MAX);
     let refusal = unsafe {
         zc_byte(
-            part.code_blocks,
-            part.data_blocks,
-            part.clock,
-            part.names.as_ptr(),
-            part.names.len(),
+            part[0].into(),
+            part[1].into(),
+            part[2].into(),
+            part[3..].as_ptr(),
+            NAMES,
             state.as_mut_ptr(),
             state.len(),
             byte,
@@ -114,14 +131,14 @@ pub fn gap(
     data: &mut [u8],
     room: &mut [u8],
 ) -> Told {
-    let (mut bytes, mut frames) = (UNTOLD, UNTOLD);
+    let (mut bytes, mut frames) = (usize::MAX, usize::MAX);
     let refusal = unsafe {
         zc_gap(
-            part.code_blocks,
-            part.data_blocks,
-            part.clock,
-            part.names.as_ptr(),
-            part.names.len(),
+            part[0].into(),
+            part[1].into(),
+            part[2].into(),
+            part[3..].as_ptr(),
+            NAMES,
             state.as_mut_ptr(),
             state.len(),
             code.as_mut_ptr(),
@@ -149,14 +166,14 @@ pub fn power_on(
     data: &mut [u8],
     room: &mut [u8],
 ) -> Told {
-    let (mut bytes, mut frames) = (UNTOLD, UNTOLD);
+    let (mut bytes, mut frames) = (usize::MAX, usize::MAX);
     let refusal = unsafe {
         zc_power_on(
-            part.code_blocks,
-            part.data_blocks,
-            part.clock,
-            part.names.as_ptr(),
-            part.names.len(),
+            part[0].into(),
+            part[1].into(),
+            part[2].into(),
+            part[3..].as_ptr(),
+            NAMES,
             state.as_mut_ptr(),
             state.len(),
             code.as_mut_ptr(),
@@ -186,14 +203,14 @@ pub fn feed(
     data: &mut [u8],
     room: &mut [u8],
 ) -> (usize, Told) {
-    let (mut taken, mut bytes, mut frames) = (UNTOLD, UNTOLD, UNTOLD);
+    let (mut taken, mut bytes, mut frames) = (usize::MAX, usize::MAX, usize::MAX);
     let refusal = unsafe {
         zc_feed(
-            part.code_blocks,
-            part.data_blocks,
-            part.clock,
-            part.names.as_ptr(),
-            part.names.len(),
+            part[0].into(),
+            part[1].into(),
+            part[2].into(),
+            part[3..].as_ptr(),
+            NAMES,
             state.as_mut_ptr(),
             state.len(),
             fed.as_ptr(),
@@ -228,14 +245,14 @@ pub fn replay(
     room: &mut [u8],
     output: &mut [u8],
 ) -> (usize, Told) {
-    let (mut played, mut bytes, mut frames) = (UNTOLD, UNTOLD, UNTOLD);
+    let (mut played, mut bytes, mut frames) = (usize::MAX, usize::MAX, usize::MAX);
     let refusal = unsafe {
         zc_replay(
-            part.code_blocks,
-            part.data_blocks,
-            part.clock,
-            part.names.as_ptr(),
-            part.names.len(),
+            part[0].into(),
+            part[1].into(),
+            part[2].into(),
+            part[3..].as_ptr(),
+            NAMES,
             state.as_mut_ptr(),
             state.len(),
             capture.as_ptr(),
@@ -262,113 +279,73 @@ pub fn replay(
 }
 
 #[inline]
-pub fn start(job: &Job, dock: &mut [u8]) -> u32 {
+pub fn start(job: &Job, dock: &mut [u8; DOCK]) -> u32 {
     unsafe {
         zc_start(
-            job.part.code_blocks,
-            job.part.data_blocks,
-            job.part.clock,
-            job.part.names.as_ptr(),
-            job.part.names.len(),
-            job.start,
-            job.end,
-            job.rate,
-            job.supply,
-            job.retries,
+            &job.part,
+            &job.work,
             job.image.as_ptr(),
-            job.image.len(),
-            dock.as_mut_ptr(),
-            dock.len(),
+            job.image.len() as u64,
+            dock,
         )
     }
 }
 
 /// 0 or the refusal's number, and the length of the frame at the start of the room.
 #[inline]
-pub fn ask(job: &Job, dock: &mut [u8], room: &mut [u8]) -> (u32, usize) {
-    let mut bytes = UNTOLD;
+pub fn ask(job: &Job, dock: &mut [u8; DOCK], room: &mut [u8]) -> (u32, u64) {
+    let mut told = [UNTOLD];
     let refusal = unsafe {
         zc_ask(
-            job.part.code_blocks,
-            job.part.data_blocks,
-            job.part.clock,
-            job.part.names.as_ptr(),
-            job.part.names.len(),
-            job.start,
-            job.end,
-            job.rate,
-            job.supply,
-            job.retries,
+            &job.part,
+            &job.work,
             job.image.as_ptr(),
-            job.image.len(),
-            dock.as_mut_ptr(),
-            dock.len(),
+            job.image.len() as u64,
+            dock,
             room.as_mut_ptr(),
-            room.len(),
-            &mut bytes,
+            room.len() as u64,
+            &mut told,
         )
     };
-    (refusal, bytes)
+    (refusal, told[0])
 }
 
 #[inline]
-pub fn answer(job: &Job, dock: &mut [u8], answer: &[u8]) -> Report {
-    let (mut ended, mut frames_used, mut retries_used) = (UNTOLD_32, UNTOLD_32, UNTOLD_32);
+pub fn answer(job: &Job, dock: &mut [u8; DOCK], answer: &[u8]) -> Report {
+    let mut told = [UNTOLD; 3];
     let refusal = unsafe {
         zc_answer(
-            job.part.code_blocks,
-            job.part.data_blocks,
-            job.part.clock,
-            job.part.names.as_ptr(),
-            job.part.names.len(),
-            job.start,
-            job.end,
-            job.rate,
-            job.supply,
-            job.retries,
+            &job.part,
+            &job.work,
             job.image.as_ptr(),
-            job.image.len(),
-            dock.as_mut_ptr(),
-            dock.len(),
+            job.image.len() as u64,
+            dock,
             answer.as_ptr(),
-            answer.len(),
-            &mut ended,
-            &mut frames_used,
-            &mut retries_used,
+            answer.len() as u64,
+            &mut told,
         )
     };
-    Report {
-        refusal,
-        ended,
-        frames_used,
-        retries_used,
-    }
+    reported(refusal, told)
 }
 
 #[inline]
-pub fn timeout(job: &Job, dock: &mut [u8]) -> Report {
-    let (mut ended, mut frames_used, mut retries_used) = (UNTOLD_32, UNTOLD_32, UNTOLD_32);
+pub fn timeout(job: &Job, dock: &mut [u8; DOCK]) -> Report {
+    let mut told = [UNTOLD; 3];
     let refusal = unsafe {
         zc_timeout(
-            job.part.code_blocks,
-            job.part.data_blocks,
-            job.part.clock,
-            job.part.names.as_ptr(),
-            job.part.names.len(),
-            job.start,
-            job.end,
-            job.rate,
-            job.supply,
-            job.retries,
+            &job.part,
+            &job.work,
             job.image.as_ptr(),
-            job.image.len(),
-            dock.as_mut_ptr(),
-            dock.len(),
-            &mut ended,
-            &mut frames_used,
-            &mut retries_used,
+            job.image.len() as u64,
+            dock,
+            &mut told,
         )
     };
+    reported(refusal, told)
+}
+
+#[inline]
+fn reported(refusal: u32, [ended, frames_used, retries_used]: [u64; 3]) -> Report {
     Report {
         refusal,
         ended,
@@ -483,78 +460,38 @@ extern "C" {
         frames: *mut usize,
     ) -> u32;
     fn zc_start(
-        code_blocks: u32,
-        data_blocks: u32,
-        clock: u32,
-        names: *const u8,
-        names_len: usize,
-        start: u32,
-        end: u32,
-        rate: u32,
-        supply: u32,
-        retries: u32,
+        part: *const [u8; PART],
+        job: *const [u8; JOB],
         image: *const u8,
-        image_len: usize,
-        dock: *mut u8,
-        dock_len: usize,
+        image_len: u64,
+        dock: *mut [u8; DOCK],
     ) -> u32;
     fn zc_ask(
-        code_blocks: u32,
-        data_blocks: u32,
-        clock: u32,
-        names: *const u8,
-        names_len: usize,
-        start: u32,
-        end: u32,
-        rate: u32,
-        supply: u32,
-        retries: u32,
+        part: *const [u8; PART],
+        job: *const [u8; JOB],
         image: *const u8,
-        image_len: usize,
-        dock: *mut u8,
-        dock_len: usize,
+        image_len: u64,
+        dock: *mut [u8; DOCK],
         room: *mut u8,
-        room_len: usize,
-        bytes: *mut usize,
+        room_len: u64,
+        told: *mut [u64; 1],
     ) -> u32;
     fn zc_answer(
-        code_blocks: u32,
-        data_blocks: u32,
-        clock: u32,
-        names: *const u8,
-        names_len: usize,
-        start: u32,
-        end: u32,
-        rate: u32,
-        supply: u32,
-        retries: u32,
+        part: *const [u8; PART],
+        job: *const [u8; JOB],
         image: *const u8,
-        image_len: usize,
-        dock: *mut u8,
-        dock_len: usize,
+        image_len: u64,
+        dock: *mut [u8; DOCK],
         answer: *const u8,
-        answer_len: usize,
-        ended: *mut u32,
-        frames_used: *mut u32,
-        retries_used: *mut u32,
+        answer_len: u64,
+        told: *mut [u64; 3],
     ) -> u32;
     fn zc_timeout(
-        code_blocks: u32,
-        data_blocks: u32,
-        clock: u32,
-        names: *const u8,
-        names_len: usize,
-        start: u32,
-        end: u32,
-        rate: u32,
-        supply: u32,
-        retries: u32,
+        part: *const [u8; PART],
+        job: *const [u8; JOB],
         image: *const u8,
-        image_len: usize,
-        dock: *mut u8,
-        dock_len: usize,
-        ended: *mut u32,
-        frames_used: *mut u32,
-        retries_used: *mut u32,
+        image_len: u64,
+        dock: *mut [u8; DOCK],
+        told: *mut [u64; 3],
     ) -> u32;
 }

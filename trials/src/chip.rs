@@ -5,8 +5,7 @@ use twin::chip::{Chip, Phase, ERASED};
 use twin::part::{Area, Part};
 
 pub struct Door {
-    part: Part,
-    names: [u8; NAMES],
+    part: door::Part,
     pub state: [u8; STATE],
     pub code: Vec<u8>,
     pub data: Vec<u8>,
@@ -17,14 +16,13 @@ impl Door {
     /// A fresh chip of a described part, with erased flash.
     pub fn fresh(part: &Part) -> Door {
         let mut chip = Door {
-            part: part.clone(),
-            names: names(part),
+            part: described(part),
             state: [0; STATE],
             code: vec![ERASED; part.size(Area::Code)],
             data: vec![ERASED; part.size(Area::Data)],
             room: [0; ROOM],
         };
-        let told = door::fresh(&described(part, &chip.names), &mut chip.state);
+        let told = door::fresh(&chip.part, &mut chip.state);
         assert_eq!(told, 0);
         chip
     }
@@ -32,9 +30,8 @@ impl Door {
     /// The bytes of the reply.
     #[inline]
     pub fn byte(&mut self, byte: u8) -> usize {
-        let part = described(&self.part, &self.names);
         accepted(door::byte(
-            &part,
+            &self.part,
             &mut self.state,
             byte,
             &mut self.code,
@@ -45,9 +42,8 @@ impl Door {
 
     #[inline]
     pub fn gap(&mut self) {
-        let part = described(&self.part, &self.names);
         accepted(door::gap(
-            &part,
+            &self.part,
             &mut self.state,
             &mut self.code,
             &mut self.data,
@@ -57,9 +53,8 @@ impl Door {
 
     /// How many bytes were taken, and the bytes of the reply.
     pub fn feed(&mut self, fed: &[u8]) -> (usize, usize) {
-        let part = described(&self.part, &self.names);
         let (taken, told) = door::feed(
-            &part,
+            &self.part,
             &mut self.state,
             fed,
             &mut self.code,
@@ -71,9 +66,8 @@ impl Door {
 
     /// How many records were played, and the bytes of their replies. The output may be too short for all of them.
     pub fn replay(&mut self, capture: &[u8], output: &mut [u8]) -> (usize, usize) {
-        let part = described(&self.part, &self.names);
         let (played, told) = door::replay(
-            &part,
+            &self.part,
             &mut self.state,
             capture,
             &mut self.code,
@@ -92,24 +86,13 @@ fn accepted(told: Told) -> usize {
     told.bytes
 }
 
-/// Device code, name and firmware version, end to end.
-pub fn names(part: &Part) -> [u8; NAMES] {
+/// A part as the door takes it.
+pub fn described(part: &Part) -> door::Part {
     let mut names = [0; NAMES];
     names[..3].copy_from_slice(&part.device);
     names[3..13].copy_from_slice(&part.name);
     names[13..].copy_from_slice(&part.version);
-    names
-}
-
-/// A part as the door takes it.
-#[inline]
-pub fn described<'a>(part: &Part, names: &'a [u8]) -> door::Part<'a> {
-    door::Part {
-        code_blocks: part.code_blocks,
-        data_blocks: part.data_blocks,
-        clock: part.clock,
-        names,
-    }
+    door::part(part.code_blocks, part.data_blocks, part.clock, &names)
 }
 
 /// The twin's chip in the door's layout.

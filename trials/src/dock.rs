@@ -1,35 +1,21 @@
 //! The twin's dock in the door's layout: a job, and a state as 23 bytes.
 
-use crate::chip::{described, names};
-use crate::door::{self, DOCK, NAMES};
+use crate::chip::described;
+use crate::door::{self, DOCK};
 use twin::dock::{Cause, Job, Stage, State};
 
-/// A job whose numbers are within 32 bits, and its names; the door takes no wider ones.
-pub struct Work<'a> {
-    job: &'a Job,
-    names: [u8; NAMES],
-    image: &'a [u8],
-}
-
-impl<'a> Work<'a> {
-    pub fn new(job: &'a Job, image: &'a [u8]) -> Work<'a> {
-        Work {
-            job,
-            names: names(&job.part),
-            image,
-        }
-    }
-
-    pub fn job(&self) -> door::Job<'_> {
-        door::Job {
-            part: described(&self.job.part, &self.names),
-            start: narrow(self.job.start),
-            end: narrow(self.job.end),
-            rate: narrow(self.job.rate),
-            supply: narrow(self.job.supply),
-            retries: narrow(self.job.retries),
-            image: self.image,
-        }
+/// A job whose numbers are within 32 bits, as the door takes it.
+pub fn work<'a>(job: &Job, image: &'a [u8]) -> door::Job<'a> {
+    door::Job {
+        part: described(&job.part),
+        work: door::work(
+            narrow(job.start),
+            narrow(job.end),
+            narrow(job.rate),
+            narrow(job.supply),
+            narrow(job.retries),
+        ),
+        image,
     }
 }
 
@@ -55,7 +41,7 @@ pub fn stage_number(stage: Stage) -> u8 {
     }
 }
 
-/// The cause's byte in a state; zc_answer and zc_timeout tell one more than this.
+/// The cause's byte in a state.
 pub fn cause_number(cause: Cause) -> u8 {
     match cause {
         Cause::Status => 1,

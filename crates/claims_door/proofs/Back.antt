@@ -4,10 +4,9 @@ use mathlib.Core.Bool.{Bool, false, true}
 use mathlib.Core.List.{List, [], _++_, _∷_}
 use mathlib.Core.Path.{_∙_, _≡_, ap, refl, sym}
 use Prim.Native.Nat.{_%_, _*_, _+_, _-_, _/_, _<_, _^_, _≤_, suc, zero, ℕ}
-use native.Mathlib.Numerals.{add-one}
 use native.Mathlib.Omega.{arith}
 use lib.ListN.{drop, getD, length, length-drop, take}
-use lib.Seq.{drop-cons, getD-drop, getD-take, length-take-le, take-add, take-all}
+use lib.Seq.{getD-drop, getD-take, length-take-le, take-add, take-all}
 use borrow.Author.Tests.{eqb-true, leb-true, ne-eqb}
 use Rattle.chip_state.specs.declared.Chip.{Chip}
 use Rattle.claims_door.specs.Held.{Held}
@@ -22,6 +21,8 @@ use Rattle.numbers.specs.Numbers.{lowFirst, numberAt}
 use Rattle.lent.specs.Lent.{allAre}
 use Rattle.chip_options.specs.Options.{optionBytes, optionsIn}
 use Rattle.chip_options.specs.declared.Options.{Options}
+use Rattle.part_layout.proofs.Laws.{bytes-are}
+use Rattle.part_layout.specs.Layout.{bytesAt}
 use Rattle.words.proofs.Laws.{and-left, and-right, or-right}
 use Rattle.words.specs.Words.{_and_, _from_to_, _or_, if_then_else_}
 
@@ -91,16 +92,6 @@ pub read-back : (c : Chip) → Held c → chipIn (chipBytes c) ≡ c
 read-back c h =
     chip-in-is (chipBytes c) (state-long (chipBytes c) (written-state c (h .places)))
     ∙ back (c .core .options .flags) (c .core .options .boot) (c .core .options .start) (c .core .options .end) (c .core .rate) (c .core .phase) (c .collector .bytes) (c .collector .len) (h .start) (h .end) (h .next) (h .last) (h .count) (h .places)
-
--- Bytes from a place on, one by one.
-unfoldable bytesAt : ℕ → ℕ → List ℕ → List ℕ
-bytesAt zero at bs = []
-bytesAt (suc k) at bs = getD bs at 0 ∷ bytesAt k (at + 1) bs
-
-bytes-are : (k at : ℕ) (bs : List ℕ) → at + k ≤ length bs → bytesAt k at bs ≡ take k (drop at bs)
-unfolding bytesAt
-bytes-are zero at bs h = refl
-bytes-are (suc k) at bs h = rw (bytes-are k (at + 1) bs (omega arith), drop-cons bs at 0 (omega arith), add-one)
 
 -- In phases 1 to 3 nothing is awaited, in bytes as in the record.
 all-at : (v : ℕ) (l : List ℕ) (i : ℕ) → allAre v l ≡ true → i < length l → getD l i 0 ≡ v

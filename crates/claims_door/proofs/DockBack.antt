@@ -5,10 +5,9 @@ use mathlib.Core.List.{List}
 use mathlib.Core.Path.{_∙_, _≡_, ap, refl}
 use Prim.Native.Nat.{_<_, _^_, ℕ}
 use lib.Dec.{eqb}
-use lib.ListN.{length}
 use Rattle.claims_door.proofs.Back.{together, together-is}
 use Rattle.claims_door.specs.Docked.{HeldDock}
-use Rattle.dock_layout.specs.Layout.{bit, causeIn, causeNumber, dockIn, dockSize, endingIn, flat, flatEnding, flatIn, flatOf, flatWork, isDock, isNamed, dockBytes, bytesWith, named, namedIn, setupIn, stageIn, workIn}
+use Rattle.dock_layout.specs.Layout.{bit, causeIn, causeNumber, dockIn, endingIn, flat, flatEnding, flatIn, flatOf, flatWork, isDock, isNamed, dockBytes, bytesWith, named, namedIn, setupIn, stageIn, workIn}
 use Rattle.dock_layout.specs.declared.Flat.{Flat}
 use Rattle.dock_job.specs.declared.Cause.{Cause}
 use Rattle.dock_job.specs.declared.Cause.the-variants.{Mismatch, TimedOut, UnexpectedStatus, Unreadable}
@@ -23,7 +22,6 @@ use Rattle.dock_job.specs.declared.Stage.the-variants.{InBlock, Over, SetUp}
 use Rattle.dock_job.specs.declared.Work.the-variants.{Blank, Erase, Program, ProgramPage, VerifyBlock, VerifyPage}
 use Rattle.numbers.specs.Numbers.{lowFirst, numberAt}
 use Rattle.lent.proofs.Laws.{same-is, same-self}
-use Rattle.words.proofs.Laws.{and-both, and-right}
 use Rattle.words.specs.Words.{if_then_else_}
 
 named-back : (b : Named) → named b < 256 ^ 4 → namedIn (isNamed b) (together 4 (named b)) ≡ b
@@ -84,17 +82,12 @@ dock-read-back d h =
     back (flatOf (d .stage)) (d .awaited) (d .retries) (d .frames) (h .block) (h .page) (h .retries) (h .frames)
     ∙ ap (λ (s : Stage). held s (d .awaited) (d .retries) (d .frames)) (stage-back (d .stage))
 
-long : (f : Flat) (awaited retries frames : ℕ) → length (bytesWith f awaited retries frames) ≡ dockSize
-unfolding bytesWith lowFirst
-long f awaited retries frames = refl
-
 -- What is written is a state.
 pub dock-written-state : (d : Dock) → HeldDock d → isDock (dockBytes d) ≡ true
-unfolding isDock dockBytes
-dock-written-state d h =
-    and-both (rw long) (rw (dock-read-back d h) (same-self (dockBytes d)))
+unfolding isDock
+dock-written-state d h = rw (dock-read-back d h) (same-self (dockBytes d))
 
 -- Bytes that are a state are written back the same.
 pub dock-written-back : (bs : List ℕ) → isDock bs ≡ true → dockBytes (dockIn bs) ≡ bs
 unfolding isDock
-dock-written-back bs e = same-is (dockBytes (dockIn bs)) bs (and-right _ _ e)
+dock-written-back bs e = same-is (dockBytes (dockIn bs)) bs e

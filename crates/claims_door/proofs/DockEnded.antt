@@ -1,24 +1,21 @@
 -- What the door tells of the end of a job, over any history: exactly one call tells it, with the flow's ending, the number of frames sent and the number of
 -- restarts; before the flow is over none does, and after it none.
 -- Assumes nothing.
-use mathlib.Core.List.{List, [], _∷_}
+use mathlib.Core.List.{List}
 use mathlib.Core.Path.{_∙_, _≡_, ap, refl}
-use Prim.Native.Nat.{_+_, _≤_, ℕ}
-use lib.Dec.{eqb}
+use Prim.Native.Nat.{_≤_, ℕ}
 use lib.ListN.{length}
 use Rattle.claims_dock.proofs.Counted.{retries-counted}
 use Rattle.claims_dock.proofs.Stepped.{Quiet, notes-told}
 use Rattle.claims_dock.specs.Counted.{restartsOver}
 use Rattle.claims_dock.specs.Stepping.{asFlow, noted, stepping}
-use Rattle.claims_door.specs.Ended.{endAt, endTold, endedAs, failedAs}
+use Rattle.claims_door.specs.Ended.{endAt, endTold, endedAs}
 use Rattle.dock.specs.Calls.{beginOf, standing}
 use Rattle.dock.specs.declared.Report.the-variants.{Ended}
-use Rattle.dock_door.specs.Calls.{endingNumber, figuresOf, figuresWith}
+use Rattle.dock_door.specs.Calls.{endingNumber, figuresOf}
 use Rattle.dock_door.specs.declared.Figures.{Figures}
 use Rattle.dock_flow.specs.Flow.{Heard, flow}
 use Rattle.dock_job.specs.Refusals.{callVerdict}
-use Rattle.dock_job.specs.declared.Cause.{Cause}
-use Rattle.dock_job.specs.declared.Cause.the-variants.{Mismatch, TimedOut, UnexpectedStatus, Unreadable}
 use Rattle.dock_job.specs.declared.Dock.{Dock}
 use Rattle.dock_job.specs.declared.Ending.{Ending}
 use Rattle.dock_job.specs.declared.Ending.the-variants.{Failed, Finished}
@@ -26,7 +23,6 @@ use Rattle.dock_job.specs.declared.Job.{Job}
 use Rattle.dock_job.specs.declared.Stage.{Stage}
 use Rattle.dock_job.specs.declared.Stage.the-variants.{InBlock, Over, SetUp}
 use Rattle.dock_job.specs.declared.refusals.Call.the-variants.{Begins}
-use Rattle.dock_layout.specs.Layout.{causeNumber}
 use Rattle.part.specs.declared.refusal.Verdict.the-variants.{Accepted}
 use Rattle.words.specs.Words.{if_then_else_}
 
@@ -36,16 +32,9 @@ ends-quiet = record { going = refl; refused = λ r. refl }
 
 -- An ending has a number, which is not 0, and it is the one told.
 told-as : (e : Ending) (frames retries : ℕ) → endTold (Ended (record { ending = e; frames = frames; retries = retries })) ≡ endAt (Over e) frames retries
-unfolding endTold figuresOf endAt endingNumber endedAs causeNumber failedAs if_then_else_
+unfolding endTold figuresOf endAt endingNumber endedAs if_then_else_
 told-as Finished frames retries = refl
-told-as (Failed f) frames retries = go (f .cause)
-  where
-    go : (c : Cause)
-        → (if eqb (1 + causeNumber c) 0 then [] else figuresWith 0 0 (1 + causeNumber c) frames retries ∷ []) ≡ figuresWith 0 0 (failedAs c) frames retries ∷ []
-    go UnexpectedStatus = refl
-    go Mismatch = refl
-    go Unreadable = refl
-    go TimedOut = refl
+told-as (Failed f) frames retries = refl
 
 end-is : (st : Stage) (d : Dock) → endTold (standing st d) ≡ endAt st (d .frames) (d .retries)
 unfolding endTold figuresOf standing endAt if_then_else_

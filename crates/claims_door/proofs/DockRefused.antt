@@ -1,97 +1,70 @@
--- A call on the dock that is refused changes nothing: "State and lent bytes stay."
+-- A call on the dock that is refused changes nothing, the numbers told included: "State and lent bytes stay."
 -- Assumes nothing.
 use mathlib.Core.Bool.{Bool, false, true}
 use mathlib.Core.List.{List}
-use mathlib.Core.Path.{_∙_, _≡_, refl}
+use mathlib.Core.Path.{_≡_, refl}
 use Prim.Native.Nat.{ℕ}
 use lib.Dec.{eqb}
 use lib.ListN.{length}
-use Rattle.claims_door.proofs.DockBack.{dock-written-back}
-use Rattle.claims_door.specs.Docked.{AskKept}
-use Rattle.dock.specs.Calls.{Asking, askOf, asked, hearOf, moved, standing, beginOf, turning}
+use Rattle.claims_door.specs.Docked.{AskKept, HearKept}
+use Rattle.dock.specs.Calls.{askOf, asked, beginOf, hearOf}
 use Rattle.dock.specs.declared.Stepped.{Stepped}
-use Rattle.dock_door.proofs.Laws.{admitted}
-use Rattle.dock_door.specs.Calls.{AskTold, admission, askThrough, askTold, askedBy, figuresOf, hearThrough, heardBy, startThrough, startTold, startedBy, toldOf}
-use Rattle.dock_layout.specs.Layout.{dockIn, dockLaid, dockSize, isDock}
-use Rattle.dock_layout.proofs.Laws.{dock-laid-is, dock-long}
-use Rattle.dock_flow.specs.Flow.{Heard, afterHeard}
-use Rattle.dock_flow.specs.Frames.{Placed, frameAt, handed, placing, handOf}
-use Rattle.dock_flow.specs.declared.Turned.{Turned}
+use Rattle.dock_door.specs.Calls.{AskTold, HearTold, StartTold, askThrough, askedBy, figuresOf, hearThrough, heardBy, startThrough, startedBy}
+use Rattle.dock_layout.specs.Layout.{dockIn, isDock}
+use Rattle.dock_flow.specs.Flow.{Heard}
+use Rattle.dock_flow.specs.Frames.{Placed, frameAt, handOf, handed, placing}
 use Rattle.dock_job.specs.Refusals.{callVerdict}
 use Rattle.dock_job.specs.declared.Dock.{Dock}
 use Rattle.dock_job.specs.declared.Job.{Job}
-use Rattle.dock_job.specs.declared.Stage.{Stage}
-use Rattle.dock_job.specs.declared.Stage.the-variants.{InBlock, Over, SetUp}
-use Rattle.dock_job.specs.declared.refusals.Call.the-variants.{Asks, Begins, Tells}
+use Rattle.dock_job.specs.declared.refusals.Call.the-variants.{Asks}
 use Rattle.part.specs.Refusal.{number}
-use Rattle.part.specs.declared.refusal.Refusal.the-variants.{BadState}
 use Rattle.part.specs.declared.refusal.Verdict.{Verdict}
 use Rattle.part.specs.declared.refusal.Verdict.the-variants.{Accepted, Refused}
 use Rattle.words.specs.Words.{if_then_else_}
 
-laid-back : (state : List ℕ) → isDock state ≡ true → dockLaid (dockIn state) state ≡ state
-laid-back state e = dock-laid-is _ state (dock-long state e) ∙ dock-written-back state e
+-- One of two ways is gone; whichever it is, it keeps things where it is refused.
+either : {A : Type 0} (refusal : A → ℕ) (P : A → Type 0) (t : Bool) {x y : A} → ((refusal x ≡ 0 → ⊥) → P x) → ((refusal y ≡ 0 → ⊥) → P y)
+    → (refusal (if t then x else y) ≡ 0 → ⊥) → P (if t then x else y)
+unfolding if_then_else_
+either refusal P true f g h = f h
+either refusal P false f g h = g h
 
-abbrev askAnswered : Asking → List ℕ → AskTold
-askAnswered a state = askTold (figuresOf (a .report) .refusal) (figuresOf (a .report) .bytes) (dockLaid (a .dock) state) (a .room)
-
--- The dock is asked, and refuses: it hands the dock back as it was, and that is written back as the bytes it was read from.
-asks-kept : (u : Verdict) (f : Placed) (state room : List ℕ) → isDock state ≡ true
-    → (figuresOf (asked (handed u f room) (handed u f room .answer) (dockIn state) .report) .refusal ≡ 0 → ⊥)
-    → AskKept (askAnswered (asked (handed u f room) (handed u f room .answer) (dockIn state)) state) state room
-unfolding asked handed figuresOf
-asks-kept (Refused r) f state room e h = record { stateStays = laid-back state e; roomStays = refl }
-asks-kept Accepted f state room e h = absurd (h refl)
-
-asked-kept : (u : Verdict) (j : Job) (image state room : List ℕ) → (u ≡ Accepted → isDock state ≡ true) → (askedBy u j image state room .refusal ≡ 0 → ⊥)
-    → AskKept (askedBy u j image state room) state room
-unfolding askedBy askOf handOf
-asked-kept (Refused r) j image state room e h = record { stateStays = refl; roomStays = refl }
-asked-kept Accepted j image state room e h =
-    asks-kept (callVerdict j (length image) (Asks (dockIn state) (length room))) (placing (frameAt j image (dockIn state .stage)) room) state room (e refl) h
+asks-kept : (u : Verdict) (f : Placed) (d : Dock) (told state room : List ℕ)
+    → (askedBy (asked (handed u f room) (handed u f room .answer) d) told state .refusal ≡ 0 → ⊥)
+    → AskKept (askedBy (asked (handed u f room) (handed u f room .answer) d) told state) told state room
+unfolding askedBy asked handed figuresOf if_then_else_
+asks-kept (Refused r) f d told state room h =
+    either (λ (a : AskTold). a .refusal) (λ (a : AskTold). AskKept a told state room) (eqb (number r) 0) (λ k. absurd (k refl))
+    (λ k. record { toldStays = refl; stateStays = refl; roomStays = refl }) h
+asks-kept Accepted f d told state room h = absurd (h refl)
 
 -- To ask, whatever bytes are handed in as the state.
-pub refused-ask-keeps : (j : Job) (image state room : List ℕ) → (askThrough j image state room .refusal ≡ 0 → ⊥) → AskKept (askThrough j image state room) state room
-unfolding askThrough
-refused-ask-keeps j image state room h = asked-kept (admission j (length image) state) j image state room (λ e. admitted j (length image) state e) h
+pub refused-ask-keeps : (j : Job) (image told state room : List ℕ) → (askThrough j image told state room .refusal ≡ 0 → ⊥)
+    → AskKept (askThrough j image told state room) told state room
+unfolding askThrough askOf handOf
+refused-ask-keeps j image told state room h =
+    let d = dockIn state in
+    either (λ (a : AskTold). a .refusal) (λ (a : AskTold). AskKept a told state room) (isDock state)
+    (λ k. asks-kept (callVerdict j (length image) (Asks d (length room))) (placing (frameAt j image (d .stage)) room) d told state room k)
+    (λ k. record { toldStays = refl; stateStays = refl; roomStays = refl }) h
 
-unrefused : (s : Stage) (d : Dock) → figuresOf (standing s d) .refusal ≡ 0
-unfolding figuresOf standing
-unrefused (SetUp s) d = refl
-unrefused (InBlock k w) d = refl
-unrefused (Over e) d = refl
-
-tells-kept : (u : Verdict) (t : Turned) (state : List ℕ) → isDock state ≡ true → (figuresOf (turning u (dockIn state) t .report) .refusal ≡ 0 → ⊥)
-    → dockLaid (turning u (dockIn state) t .dock) state ≡ state
-unfolding turning
-tells-kept (Refused r) t state e h = laid-back state e
-tells-kept Accepted t state e h = absurd (h (unrefused (t .stage) (moved (dockIn state) t)))
-
-heard-kept : (u : Verdict) (j : Job) (image state : List ℕ) (x : Heard) → (u ≡ Accepted → isDock state ≡ true) → (heardBy u j image state x .refusal ≡ 0 → ⊥)
-    → heardBy u j image state x .state ≡ state
-unfolding heardBy toldOf hearOf
-heard-kept (Refused r) j image state x e h = refl
-heard-kept Accepted j image state x e h =
-    tells-kept (callVerdict j (length image) (Tells (dockIn state))) (afterHeard j (dockIn state .retries) (dockIn state .stage) x) state (e refl) h
+heard-kept : (s : Stepped) (told state : List ℕ) → (heardBy s told state .refusal ≡ 0 → ⊥) → HearKept (heardBy s told state) told state
+unfolding heardBy
+heard-kept s told state h =
+    either (λ (a : HearTold). a .refusal) (λ (a : HearTold). HearKept a told state) (eqb (figuresOf (s .report) .refusal) 0) (λ k. absurd (k refl))
+    (λ k. record { toldStays = refl; stateStays = refl }) h
 
 -- To hand in an answer or to report a timeout, whatever bytes are handed in as the state.
-pub refused-hearing-keeps : (j : Job) (image state : List ℕ) (x : Heard) → (hearThrough j image state x .refusal ≡ 0 → ⊥) → hearThrough j image state x .state ≡ state
+pub refused-hearing-keeps : (j : Job) (image told state : List ℕ) (x : Heard) → (hearThrough j image told state x .refusal ≡ 0 → ⊥)
+    → HearKept (hearThrough j image told state x) told state
 unfolding hearThrough
-refused-hearing-keeps j image state x h = heard-kept (admission j (length image) state) j image state x (λ e. admitted j (length image) state e) h
-
-fits-kept : (t : Bool) (s : Stepped) (state : List ℕ)
-    → ((if t then startTold 0 (dockLaid (s .dock) state) else startTold (number BadState) state) .refusal ≡ 0 → ⊥)
-    → (if t then startTold 0 (dockLaid (s .dock) state) else startTold (number BadState) state) .state ≡ state
-unfolding if_then_else_
-fits-kept true s state h = absurd (h refl)
-fits-kept false s state h = refl
-
-starts-kept : (u : Verdict) (s : Stepped) (state : List ℕ) → (startedBy u s state .refusal ≡ 0 → ⊥) → startedBy u s state .state ≡ state
-unfolding startedBy
-starts-kept (Refused r) s state h = refl
-starts-kept Accepted s state h = fits-kept (eqb (length state) dockSize) s state h
+refused-hearing-keeps j image told state x h =
+    either (λ (a : HearTold). a .refusal) (λ (a : HearTold). HearKept a told state) (isDock state)
+    (λ k. heard-kept (hearOf j image (dockIn state) x) told state k) (λ k. record { toldStays = refl; stateStays = refl }) h
 
 -- To start.
 pub refused-start-keeps : (j : Job) (image state : List ℕ) → (startThrough j image state .refusal ≡ 0 → ⊥) → startThrough j image state .state ≡ state
-unfolding startThrough
-refused-start-keeps j image state h = starts-kept (callVerdict j (length image) Begins) (beginOf j image) state h
+unfolding startedBy
+refused-start-keeps j image state h =
+    either (λ (a : StartTold). a .refusal) (λ (a : StartTold). a .state ≡ state) (eqb (figuresOf (beginOf j image .report) .refusal) 0) (λ k. absurd (k refl))
+    (λ k. refl) h

@@ -4,3 +4,4 @@ pub mod Fed
 pub mod DockBack
 pub mod DockRefused
 pub mod DockEnded
+pub mod Described

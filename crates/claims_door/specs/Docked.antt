@@ -2,7 +2,7 @@
 use mathlib.Core.List.{List}
 use mathlib.Core.Path.{_≡_}
 use Prim.Native.Nat.{_<_, _^_, ℕ}
-use Rattle.dock_door.specs.Calls.{AskTold}
+use Rattle.dock_door.specs.Calls.{AskTold, HearTold}
 use Rattle.dock_layout.specs.Layout.{flatOf, named}
 use Rattle.dock_job.specs.declared.Dock.{Dock}
 
@@ -12,7 +12,12 @@ pub record HeldDock (d : Dock) : Type 0 where
   pub block : named (flatOf (d .stage) .block) < 256 ^ 4
   pub page : named (flatOf (d .stage) .page) < 256 ^ 4
 
--- "State and lent bytes stay."
-pub record AskKept (t : AskTold) (state room : List ℕ) : Type 0 where
+-- "State and lent bytes stay.", and so do the numbers told.
+pub record AskKept (t : AskTold) (told state room : List ℕ) : Type 0 where
+  pub toldStays : t .told ≡ told
   pub stateStays : t .state ≡ state
   pub roomStays : t .room ≡ room
+
+pub record HearKept (t : HearTold) (told state : List ℕ) : Type 0 where
+  pub toldStays : t .told ≡ told
+  pub stateStays : t .state ≡ state

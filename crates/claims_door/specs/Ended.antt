@@ -5,8 +5,6 @@ use lib.Dec.{eqb}
 use Rattle.dock.specs.declared.Report.{Report}
 use Rattle.dock_door.specs.Calls.{figuresOf, figuresWith}
 use Rattle.dock_door.specs.declared.Figures.{Figures}
-use Rattle.dock_job.specs.declared.Cause.{Cause}
-use Rattle.dock_job.specs.declared.Cause.the-variants.{Mismatch, TimedOut, UnexpectedStatus, Unreadable}
 use Rattle.dock_job.specs.declared.Ending.{Ending}
 use Rattle.dock_job.specs.declared.Ending.the-variants.{Failed, Finished}
 use Rattle.dock_job.specs.declared.Stage.{Stage}
@@ -17,16 +15,10 @@ use Rattle.words.specs.Words.{if_then_else_}
 unfoldable pub endTold : Report → List Figures
 endTold r = if eqb (figuresOf r .ended) 0 then [] else figuresOf r ∷ []
 
--- "naming cause (status, mismatch, unreadable, timeout)": finished 1, failed 2 to 5.
-unfoldable pub failedAs : Cause → ℕ
-failedAs UnexpectedStatus = 2
-failedAs Mismatch = 3
-failedAs Unreadable = 4
-failedAs TimedOut = 5
-
+-- Finished 1, failed 2; why, the state says.
 unfoldable pub endedAs : Ending → ℕ
 endedAs Finished = 1
-endedAs (Failed f) = failedAs (f .cause)
+endedAs (Failed f) = 2
 
 -- What a job has to tell that stands at a place: nothing while it goes on; where it is over the ending, the frames and the retries, and no refusal or bytes.
 unfoldable pub endAt : Stage → ℕ → ℕ → List Figures

@@ -2,3 +2,4 @@ pub mod Held
 pub mod Kept
 pub mod Docked
 pub mod Ended
+pub mod Described

@@ -13,18 +13,15 @@ use Rattle.dock_door.proofs.zc_answer.Kinds as zc-answer-kinds
 use Rattle.dock_door.proofs.zc_timeout.Reads as zc-timeout
 use Rattle.dock_door.proofs.zc_timeout.Kinds as zc-timeout-kinds
 
-pub zc-start-once : Once zc-start-kinds.ps zc-start-kinds.r zc-start.Post (λ κs r x. startTold r (now (x .1 .1 .1 .1 .1 .1 .1 .1 .1 .1 .0)))
+pub zc-start-once : Once zc-start-kinds.ps zc-start-kinds.r zc-start.Post (λ κs r x. startTold r (now (x .1 .1 .1 .0)))
 zc-start-once κs a r s x y p q = p ∙ sym q
 
-pub zc-ask-once : Once zc-ask-kinds.ps zc-ask-kinds.r zc-ask.Post (λ κs r x. askTold r (now (x .1 .1 .1 .1 .1 .1 .1 .1 .1 .1 .1 .1 .0)) (now (x .1 .1 .1 .1 .1 .1 .1 .1 .1 .1 .0)) (now (x .1 .1 .1 .1 .1 .1 .1 .1 .1 .1 .1 .0)))
+pub zc-ask-once : Once zc-ask-kinds.ps zc-ask-kinds.r zc-ask.Post
+    (λ κs r x. askTold r (now (x .1 .1 .1 .1 .1 .0)) (now (x .1 .1 .1 .0)) (now (x .1 .1 .1 .1 .0)))
 zc-ask-once κs a r s x y p q = p ∙ sym q
 
-pub zc-answer-once : Once zc-answer-kinds.ps zc-answer-kinds.r zc-answer.Post
-    (λ κs r x. hearTold r (now (x .1 .1 .1 .1 .1 .1 .1 .1 .1 .1 .1 .1 .0)) (now (x .1 .1 .1 .1 .1 .1 .1 .1 .1 .1 .1 .1 .1 .0))
-    (now (x .1 .1 .1 .1 .1 .1 .1 .1 .1 .1 .1 .1 .1 .1 .0)) (now (x .1 .1 .1 .1 .1 .1 .1 .1 .1 .1 .0)))
+pub zc-answer-once : Once zc-answer-kinds.ps zc-answer-kinds.r zc-answer.Post (λ κs r x. hearTold r (now (x .1 .1 .1 .1 .1 .0)) (now (x .1 .1 .1 .0)))
 zc-answer-once κs a r s x y p q = p ∙ sym q
 
-pub zc-timeout-once : Once zc-timeout-kinds.ps zc-timeout-kinds.r zc-timeout.Post
-    (λ κs r x. hearTold r (now (x .1 .1 .1 .1 .1 .1 .1 .1 .1 .1 .1 .0)) (now (x .1 .1 .1 .1 .1 .1 .1 .1 .1 .1 .1 .1 .0))
-    (now (x .1 .1 .1 .1 .1 .1 .1 .1 .1 .1 .1 .1 .1 .0)) (now (x .1 .1 .1 .1 .1 .1 .1 .1 .1 .1 .0)))
+pub zc-timeout-once : Once zc-timeout-kinds.ps zc-timeout-kinds.r zc-timeout.Post (λ κs r x. hearTold r (now (x .1 .1 .1 .1 .0)) (now (x .1 .1 .1 .0)))
 zc-timeout-once κs a r s x y p q = p ∙ sym q

@@ -3,8 +3,8 @@
 use mathlib.Core.Path.{_∙_, sym}
 use denote.Ref.{now}
 use Rattle.claims_outcome.proofs.Outcome.{Once}
-use Rattle.dock_layout.proofs.cause_number.Reads as cause-number
-use Rattle.dock_layout.proofs.cause_number.Kinds as cause-number-kinds
+use Rattle.dock_layout.proofs.job.job_in.Reads as job-in
+use Rattle.dock_layout.proofs.job.job_in.Kinds as job-in-kinds
 use Rattle.dock_layout.proofs.dock_in.Reads as dock-in
 use Rattle.dock_layout.proofs.dock_in.Kinds as dock-in-kinds
 use Rattle.dock_layout.proofs.is_dock.Reads as is-dock
@@ -12,8 +12,8 @@ use Rattle.dock_layout.proofs.is_dock.Kinds as is-dock-kinds
 use Rattle.dock_layout.proofs.lay_dock.Reads as lay-dock
 use Rattle.dock_layout.proofs.lay_dock.Kinds as lay-dock-kinds
 
-pub cause-number-once : Once cause-number-kinds.ps cause-number-kinds.r cause-number.Post (λ κs r x. r)
-cause-number-once κs a r s x y p q = p ∙ sym q
+pub job-in-once : Once job-in-kinds.ps job-in-kinds.r job-in.Post (λ κs r x. r)
+job-in-once κs a r s x y p q = p ∙ sym q
 
 pub dock-in-once : Once dock-in-kinds.ps dock-in-kinds.r dock-in.Post (λ κs r x. r)
 dock-in-once κs a r s x y p q = p ∙ sym q

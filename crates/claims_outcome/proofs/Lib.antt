@@ -23,6 +23,7 @@ pub mod Frame
 pub mod Lent
 pub mod Numbers
 pub mod Part
+pub mod PartLayout
 pub mod ReplayCapture
 pub mod ReplayDoor
 pub mod ReplayHex

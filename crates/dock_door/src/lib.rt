@@ -1,9 +1,12 @@
-// The dock's calls for C and Rust. Each takes a job as eight numbers, sixteen bytes and the image, and a dock's state as 23 lent bytes, and answers a refusal
-// number, 0 where it was not refused; what else it tells goes into lent numbers. Document 01, "The dock's flow" and "Refusal numbers".
+// The dock's calls for C and Rust. Each takes a part as 19 bytes, a job as 11 and the image, and a dock's state as 23 lent bytes, and answers a refusal number, 0
+// where it was not refused; what else it tells goes into lent numbers. Document 01, "The dock's flow" and "Refusal numbers".
 ghost use mathlib.Core.Path.{_≡_};
 ghost use Rattle.dock_flow.specs.Flow.{answered, silence};
-ghost use Rattle.dock_door.specs.Calls.{admission, askThrough, askTold, endingNumber, figuresOf, figuresWith, hearThrough, hearTold, heardAs, jobOf};
-ghost use Rattle.dock_door.specs.Calls.{startThrough, startTold, toldOf};
+ghost use Rattle.dock_job.specs.Refusals.{callVerdict};
+ghost use Rattle.dock_job.specs.declared.refusals.Call.the-variants.{Begins};
+ghost use Rattle.dock_layout.specs.Job.{jobIn};
+ghost use Rattle.dock_door.specs.Calls.{askThrough, askTold, endingNumber, figuresOf, figuresWith, hearThrough, hearTold, heardAs, heardBy};
+ghost use Rattle.dock_door.specs.Calls.{noState, startThrough, startTold};
 ghost use Rattle.dock.specs.Calls.{hearOf};
 use dock::Report;
 use dock::Stepped;
@@ -13,7 +16,7 @@ use dock_job::Ending;
 use dock_job::Job;
 use dock_job::refusals;
 use dock_job::refusals::Call;
-use part::refusal::Refusal;
+use dock_layout::job;
 use part::refusal::Verdict;
 
 // A report in numbers.
@@ -25,43 +28,14 @@ pub struct Figures {
     pub retries: u32,
 }
 
-fn job_of(
-    code_blocks: u32,
-    data_blocks: u32,
-    clock: u32,
-    names: &[u8],
-    start: u32,
-    end: u32,
-    rate: u32,
-    supply: u32,
-    retries: u32,
-) -> Job
-    ensures { λ r. ⌜ r ≡ jobOf «code_blocks» «data_blocks» clock (now (names .entry)) start end rate supply retries ⌝ }
-{
-    let part = part::crossing::part_of(code_blocks, data_blocks, clock, names);
-    Job {
-        part,
-        start,
-        end,
-        rate,
-        supply,
-        retries,
-    }
-}
-
-// What bars a call before the dock is asked: the job, then bytes that are no state, in the paper's order.
-fn admit(job: Job, image: usize, state: &[u8]) -> Verdict
-    ensures { λ r. ⌜ r ≡ admission job image (now (state .entry)) ⌝ }
+// Bytes that are no state: the job's refusals come first.
+fn no_state(job: Job, image: usize) -> u32
+    ensures { λ r. ⌜ r ≡ noState (callVerdict job image Begins) ⌝ }
 {
     let v = refusals::verdict(job, image, Call::Begins);
     match v {
-        Verdict::Refused(refusal) => Verdict::Refused(refusal),
-        Verdict::Accepted => {
-            if dock_layout::is_dock(state) {
-                return Verdict::Accepted;
-            }
-            Verdict::Refused(Refusal::BadState)
-        }
+        Verdict::Refused(refusal) => refusal.number() as u32,
+        Verdict::Accepted => 9,
     }
 }
 
@@ -70,10 +44,7 @@ fn ending_number(ending: Ending) -> u32
 {
     match ending {
         Ending::Finished => 1,
-        Ending::Failed(failure) => {
-            let cause = failure.cause;
-            1 + (dock_layout::cause_number(cause) as u32)
-        }
+        Ending::Failed(failure) => 2,
     }
 }
 
@@ -103,22 +74,21 @@ fn figures_of(report: Report) -> Figures
     }
 }
 
-// What hearing left, into the lent state and numbers.
-fn tell(
-    s: Stepped,
-    state: &mut [u8],
-    ended: &mut u32,
-    frames_told: &mut u32,
-    retries_told: &mut u32,
-) -> u32
-    ensures { λ r. ⌜ hearTold r (now (ended .exit)) (now («frames_told» .exit)) (now («retries_told» .exit)) (now (state .exit)) ≡ toldOf s (now (state .entry)) ⌝ }
+// What hearing left, into the lent state and numbers, where it was not refused.
+fn tell(s: Stepped, state: &mut [u8; 23], told: &mut [u64; 3]) -> u32
+    ensures { λ r. ⌜ hearTold r (now (told .exit)) (now (state .exit)) ≡ heardBy s (now (told .entry)) (now (state .entry)) ⌝ }
 {
     let report = s.report;
     let figures = figures_of(report);
-    dock_layout::lay_dock(s.dock, state);
-    *ended = figures.ended;
-    *frames_told = figures.frames;
-    *retries_told = figures.retries;
+    if figures.refusal == 0 {
+        dock_layout::lay_dock(s.dock, state);
+        *told = [
+            figures.ended as u64,
+            figures.frames as u64,
+            figures.retries as u64,
+        ];
+        return 0;
+    }
     figures.refusal
 }
 
@@ -135,211 +105,104 @@ fn hear_of(job: Job, image: &[u8], dock: Dock, came: bool, answer: &[u8]) -> Ste
 fn hear(
     job: Job,
     image: &[u8],
-    state: &mut [u8],
+    state: &mut [u8; 23],
     came: bool,
     answer: &[u8],
-    ended: &mut u32,
-    frames_told: &mut u32,
-    retries_told: &mut u32,
+    told: &mut [u64; 3],
 ) -> u32
-    ensures { λ r. ⌜ hearTold r (now (ended .exit)) (now («frames_told» .exit)) (now («retries_told» .exit)) (now (state .exit))
-        ≡ hearThrough job (now (image .entry)) (now (state .entry)) (heardAs came (now (answer .entry))) ⌝ }
+    ensures { λ r. ⌜ hearTold r (now (told .exit)) (now (state .exit))
+        ≡ hearThrough job (now (image .entry)) (now (told .entry)) (now (state .entry)) (heardAs came (now (answer .entry))) ⌝ }
 {
-    let v = admit(job, image.len(), state);
-    match v {
-        Verdict::Refused(refusal) => {
-            *ended = 0;
-            *frames_told = 0;
-            *retries_told = 0;
-            refusal.number() as u32
-        }
-        Verdict::Accepted => {
-            let s = hear_of(job, image, dock_layout::dock_in(state), came, answer);
-            tell(s, state, ended, frames_told, retries_told)
-        }
+    if dock_layout::is_dock(state) {
+        let s = hear_of(job, image, dock_layout::dock_in(state), came, answer);
+        return tell(s, state, told);
     }
+    no_state(job, image.len())
 }
 
 // A dock before its first frame, into the lent state.
 #[no_mangle]
 pub extern "C" fn zc_start(
-    code_blocks: u32,
-    data_blocks: u32,
-    clock: u32,
-    names: &[u8],
-    start: u32,
-    end: u32,
-    rate: u32,
-    supply: u32,
-    retries: u32,
+    part: &[u8; 19],
+    job: &[u8; 11],
     image: &[u8],
-    state: &mut [u8],
+    state: &mut [u8; 23],
 ) -> u32
     ensures { λ r. ⌜ startTold r (now (state .exit))
-        ≡ startThrough (jobOf «code_blocks» «data_blocks» clock (now (names .entry)) start end rate supply retries)
-        (now (image .entry)) (now (state .entry)) ⌝ }
+        ≡ startThrough (jobIn (now (part .entry)) (now (job .entry))) (now (image .entry)) (now (state .entry)) ⌝ }
 {
-    let job = job_of(
-        code_blocks,
-        data_blocks,
-        clock,
-        names,
-        start,
-        end,
-        rate,
-        supply,
-        retries,
-    );
-    let v = refusals::verdict(job, image.len(), Call::Begins);
-    match v {
-        Verdict::Refused(refusal) => refusal.number() as u32,
-        Verdict::Accepted => {
-            if state.len() == 23 {
-                let s = calls::begin(job, image);
-                dock_layout::lay_dock(s.dock, state);
-                return 0;
-            }
-            9
-        }
+    let s = calls::begin(job::job_in(part, job), image);
+    let report = s.report;
+    let figures = figures_of(report);
+    if figures.refusal == 0 {
+        dock_layout::lay_dock(s.dock, state);
+        return 0;
     }
+    figures.refusal
 }
 
-// The next frame, put at the start of the room: so many bytes.
+// The next frame, put at the start of the room: told is how many bytes.
 #[no_mangle]
 pub extern "C" fn zc_ask(
-    code_blocks: u32,
-    data_blocks: u32,
-    clock: u32,
-    names: &[u8],
-    start: u32,
-    end: u32,
-    rate: u32,
-    supply: u32,
-    retries: u32,
+    part: &[u8; 19],
+    job: &[u8; 11],
     image: &[u8],
-    state: &mut [u8],
+    state: &mut [u8; 23],
     room: &mut [u8],
-    bytes: &mut usize,
+    told: &mut [u64; 1],
 ) -> u32
-    ensures { λ r. ⌜ askTold r (now (bytes .exit)) (now (state .exit)) (now (room .exit))
-        ≡ askThrough (jobOf «code_blocks» «data_blocks» clock (now (names .entry)) start end rate supply retries)
-        (now (image .entry)) (now (state .entry)) (now (room .entry)) ⌝ }
+    ensures { λ r. ⌜ askTold r (now (told .exit)) (now (state .exit)) (now (room .exit))
+        ≡ askThrough (jobIn (now (part .entry)) (now (job .entry))) (now (image .entry)) (now (told .entry)) (now (state .entry)) (now (room .entry)) ⌝ }
 {
-    let job = job_of(
-        code_blocks,
-        data_blocks,
-        clock,
-        names,
-        start,
-        end,
-        rate,
-        supply,
-        retries,
-    );
-    let v = admit(job, image.len(), state);
-    match v {
-        Verdict::Refused(refusal) => {
-            *bytes = 0;
-            refusal.number() as u32
-        }
-        Verdict::Accepted => {
-            let s = calls::ask(job, image, dock_layout::dock_in(state), room);
-            let report = s.report;
-            let figures = figures_of(report);
+    let j = job::job_in(part, job);
+    if dock_layout::is_dock(state) {
+        let s = calls::ask(j, image, dock_layout::dock_in(state), room);
+        let report = s.report;
+        let figures = figures_of(report);
+        if figures.refusal == 0 {
             dock_layout::lay_dock(s.dock, state);
-            *bytes = figures.bytes;
-            figures.refusal
+            *told = [figures.bytes as u64];
+            return 0;
         }
+        return figures.refusal;
     }
+    no_state(j, image.len())
 }
 
 // The whole answer to the frame that was handed out.
 #[no_mangle]
 pub extern "C" fn zc_answer(
-    code_blocks: u32,
-    data_blocks: u32,
-    clock: u32,
-    names: &[u8],
-    start: u32,
-    end: u32,
-    rate: u32,
-    supply: u32,
-    retries: u32,
+    part: &[u8; 19],
+    job: &[u8; 11],
     image: &[u8],
-    state: &mut [u8],
+    state: &mut [u8; 23],
     answer: &[u8],
-    ended: &mut u32,
-    frames_told: &mut u32,
-    retries_told: &mut u32,
+    told: &mut [u64; 3],
 ) -> u32
-    ensures { λ r. ⌜ hearTold r (now (ended .exit)) (now («frames_told» .exit)) (now («retries_told» .exit)) (now (state .exit))
-        ≡ hearThrough (jobOf «code_blocks» «data_blocks» clock (now (names .entry)) start end rate supply retries)
-        (now (image .entry)) (now (state .entry)) (answered (now (answer .entry))) ⌝ }
+    ensures { λ r. ⌜ hearTold r (now (told .exit)) (now (state .exit))
+        ≡ hearThrough (jobIn (now (part .entry)) (now (job .entry))) (now (image .entry)) (now (told .entry)) (now (state .entry)) (answered (now (answer .entry))) ⌝ }
 {
-    let job = job_of(
-        code_blocks,
-        data_blocks,
-        clock,
-        names,
-        start,
-        end,
-        rate,
-        supply,
-        retries,
-    );
-    hear(
-        job,
-        image,
-        state,
-        true,
-        answer,
-        ended,
-        frames_told,
-        retries_told,
-    )
+    hear(job::job_in(part, job), image, state, true, answer, told)
 }
 
 // No answer came to the frame that was handed out.
 #[no_mangle]
 pub extern "C" fn zc_timeout(
-    code_blocks: u32,
-    data_blocks: u32,
-    clock: u32,
-    names: &[u8],
-    start: u32,
-    end: u32,
-    rate: u32,
-    supply: u32,
-    retries: u32,
+    part: &[u8; 19],
+    job: &[u8; 11],
     image: &[u8],
-    state: &mut [u8],
-    ended: &mut u32,
-    frames_told: &mut u32,
-    retries_told: &mut u32,
+    state: &mut [u8; 23],
+    told: &mut [u64; 3],
 ) -> u32
-    ensures { λ r. ⌜ hearTold r (now (ended .exit)) (now («frames_told» .exit)) (now («retries_told» .exit)) (now (state .exit))
-        ≡ hearThrough (jobOf «code_blocks» «data_blocks» clock (now (names .entry)) start end rate supply retries)
-        (now (image .entry)) (now (state .entry)) silence ⌝ }
+    ensures { λ r. ⌜ hearTold r (now (told .exit)) (now (state .exit))
+        ≡ hearThrough (jobIn (now (part .entry)) (now (job .entry))) (now (image .entry)) (now (told .entry)) (now (state .entry)) silence ⌝ }
 {
-    let job = job_of(
-        code_blocks,
-        data_blocks,
-        clock,
-        names,
-        start,
-        end,
-        rate,
-        supply,
-        retries,
-    );
     hear(
-        job,
+        job::job_in(part, job),
         image,
         state,
         false,
         &image[0..0],
-        ended,
-        frames_told,
-        retries_told,
+        told,
     )
 }

@@ -1,18 +1,20 @@
--- Laws about the layout: the literal that the code writes is the layout, and what bytes that are a state say.
+-- Laws about the layouts: the literal that the code writes is the layout, bytes are compared one by one, and a job is read.
 -- Assumes nothing.
-use mathlib.Core.Bool.{true}
+use mathlib.Core.Bool.{Bool, false, true}
 use mathlib.Core.List.{List, [], _++_, _∷_, append-assoc}
-use mathlib.Core.Path.{_≡_, ap, refl}
-use Prim.Native.Nat.{ℕ}
+use mathlib.Core.Path.{_≡_, ap, refl, sym}
+use Prim.Native.Nat.{_+_, _<_, ℕ}
 use lib.ListN.{getD, length}
-use borrow.Author.Tests.{eq-eqb, eqb-true}
-use Rattle.dock_layout.specs.Layout.{dockBytes, dockLaid, dockSize, isDock, isNamed, bytesWith, named}
+use borrow.Author.Tests.{eq-eqb, ne-eqb}
+use Rattle.dock_layout.specs.Layout.{bytesWith, isNamed, named}
+use Rattle.dock_layout.specs.Job.{jobIn}
 use Rattle.dock_layout.specs.declared.Flat.{Flat}
-use Rattle.dock_job.specs.declared.Dock.{Dock}
+use Rattle.lent.proofs.Laws.{SameFrom, same-turn}
 use Rattle.numbers.proofs.Laws.{low-4-each}
-use Rattle.numbers.specs.Numbers.{lowFirst}
-use Rattle.words.proofs.Laws.{and-left}
-use Rattle.words.specs.Words.{if_then_else_}
+use Rattle.numbers.specs.Numbers.{lowFirst, numberAt}
+use Rattle.part.specs.declared.Part.{Part}
+use Rattle.part_layout.specs.Layout.{partIn}
+use Rattle.words.specs.Words.{_and_}
 
 -- Four bytes taken one by one.
 abbrev four : List ℕ → List ℕ → List ℕ
@@ -33,10 +35,18 @@ bytes-are f awaited retries frames r k b p m n x y g h i j l o q s =
     (ap (λ (u : List ℕ). f .stage ∷ awaited ∷ u)
     (four-low retries _ _ g (four-low frames _ _ h (named-low x _ m _ _ _ q i j (named-low y _ n _ _ _ s l o refl)))))
 
-pub dock-long : (state : List ℕ) → isDock state ≡ true → length state ≡ dockSize
-unfolding isDock
-dock-long state e = eqb-true _ _ (and-left _ _ e)
+-- Two lists compared byte by byte, up to the first that differs.
+pub same-goes : {t : Bool} {bs cs : List ℕ} {i : ℕ} → SameFrom true bs cs i t → getD bs i 0 ≡ getD cs i 0 → i < length bs → i < length cs → SameFrom true bs cs (i + 1) t
+unfolding _and_
+same-goes {t} {bs} {cs} {i} f e h k = same-turn f (sym (eq-eqb (getD bs i 0) (getD cs i 0) e)) h k
 
-pub dock-laid-is : (d : Dock) (bs : List ℕ) → length bs ≡ dockSize → dockLaid d bs ≡ dockBytes d
-unfolding dockLaid if_then_else_
-dock-laid-is d bs h = simp (eq-eqb _ _ h)
+pub same-stops : {t : Bool} {bs cs : List ℕ} {i : ℕ} → SameFrom true bs cs i t → (getD bs i 0 ≡ getD cs i 0 → ⊥) → i < length bs → i < length cs → false ≡ t
+unfolding _and_
+same-stops {t} {bs} {cs} {i} f e h k = same-turn {r = false} f (sym (ne-eqb (getD bs i 0) (getD cs i 0) e)) h k .rest
+
+-- The record that the code makes of a job's bytes is the job.
+pub job-is : {p : Part} {start end rate supply retries : ℕ} (part bs : List ℕ) → p ≡ partIn part → start ≡ numberAt 4 0 bs → end ≡ numberAt 4 4 bs
+    → rate ≡ getD bs 8 0 → supply ≡ getD bs 9 0 → retries ≡ getD bs 10 0
+    → record { part = p; start = start; end = end; rate = rate; supply = supply; retries = retries } ≡ jobIn part bs
+unfolding jobIn
+job-is part bs e f g h i k = rw (e, f, g, h, i, k)

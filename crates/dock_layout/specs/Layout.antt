@@ -3,7 +3,7 @@ use mathlib.Core.Bool.{Bool, false, true}
 use mathlib.Core.List.{List, [], _++_, _∷_}
 use Prim.Native.Nat.{ℕ}
 use lib.Dec.{eqb, ltb}
-use lib.ListN.{getD, length}
+use lib.ListN.{getD}
 use Rattle.dock_layout.specs.declared.Flat.{Flat}
 use Rattle.dock_job.specs.declared.Cause.{Cause}
 use Rattle.dock_job.specs.declared.Cause.the-variants.{Mismatch, TimedOut, UnexpectedStatus, Unreadable}
@@ -20,7 +20,7 @@ use Rattle.dock_job.specs.declared.Work.{Work}
 use Rattle.dock_job.specs.declared.Work.the-variants.{Blank, Erase, Program, ProgramPage, VerifyBlock, VerifyPage}
 use Rattle.numbers.specs.Numbers.{lowFirst, numberAt}
 use Rattle.lent.specs.Lent.{same}
-use Rattle.words.specs.Words.{_and_, if_then_else_}
+use Rattle.words.specs.Words.{if_then_else_}
 
 -- "cause (status, mismatch, unreadable, timeout)": 1 to 4 in this order.
 unfoldable pub causeNumber : Cause → ℕ
@@ -95,9 +95,6 @@ bytesWith f awaited retries frames =
 unfoldable pub dockBytes : Dock → List ℕ
 dockBytes d = bytesWith (flatOf (d .stage)) (bit (d .awaited)) (d .retries) (d .frames)
 
-abbrev pub dockSize : ℕ
-dockSize = 23
-
 -- And back.
 unfoldable pub namedIn : ℕ → ℕ → Named
 namedIn given n = if eqb given 1 then It n else Unnamed
@@ -134,8 +131,4 @@ dockIn bs = record { stage = stageIn (flatIn bs); awaited = eqb (getD bs 1 0) 1;
 
 -- Bytes are a state where they are the layout of the state that they are read as. Whether the dock accepts it, the dock says.
 unfoldable pub isDock : List ℕ → Bool
-isDock bs = eqb (length bs) dockSize and same (dockBytes (dockIn bs)) bs
-
--- A dock into lent bytes: where they are not as many as a state has, they stay.
-unfoldable pub dockLaid : Dock → List ℕ → List ℕ
-dockLaid d bs = if eqb (length bs) dockSize then dockBytes d else bs
+isDock bs = same (dockBytes (dockIn bs)) bs

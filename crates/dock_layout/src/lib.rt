@@ -1,7 +1,7 @@
-// How a dock's state crosses the door as bytes: one layout, read and written here alone.
+// How a dock's state crosses the door as bytes: one layout, read and written here alone. A job's stands in `job`.
 ghost use mathlib.Core.Path.{_≡_};
-ghost use lib.ListN.{length};
-ghost use Rattle.dock_layout.specs.Layout.{bit, bytesWith, causeIn, causeNumber, dockBytes, dockIn, dockLaid, dockSize, endingIn};
+ghost use Rattle.lent.specs.Lent.{same};
+ghost use Rattle.dock_layout.specs.Layout.{bit, bytesWith, causeIn, causeNumber, dockBytes, dockIn, endingIn};
 ghost use Rattle.dock_layout.specs.Layout.{flatEnding, flatIn, flatOf, flatWork, isDock, isNamed, named, namedIn, plain, setupIn, setupNumber};
 ghost use Rattle.dock_layout.specs.Layout.{stageIn, workIn};
 use dock_job::Cause;
@@ -13,6 +13,8 @@ use dock_job::Setup;
 use dock_job::Stage;
 use dock_job::Work;
 
+pub mod job;
+
 // A stage in numbers: which it is, the block and the page that it names, and of a failure the cause, the command and the status.
 pub struct Flat {
     pub stage: u8,
@@ -23,7 +25,7 @@ pub struct Flat {
     pub status: u8,
 }
 
-pub fn cause_number(cause: Cause) -> u8
+fn cause_number(cause: Cause) -> u8
     ensures { λ r. ⌜ r ≡ causeNumber cause ⌝ }
 {
     match cause {
@@ -275,7 +277,7 @@ fn stage_in(flat: Flat) -> Stage
     Stage::Over(ending_in(flat))
 }
 
-pub fn dock_in(state: &[u8]) -> Dock
+pub fn dock_in(state: &[u8; 23]) -> Dock
     ensures { λ r. ⌜ r ≡ dockIn (now (state .entry)) ⌝ }
 {
     Dock {
@@ -286,30 +288,31 @@ pub fn dock_in(state: &[u8]) -> Dock
     }
 }
 
-pub fn is_dock(state: &[u8]) -> bool
+// Compared one by one, up to the first that differs: many at once would wait for the bytes that were just written.
+fn is_laid(back: &[u8], state: &[u8]) -> bool
+    ensures { λ r. ⌜ r ≡ same (now (back .entry)) (now (state .entry)) ⌝ }
+{
+    if back.len() != state.len() {
+        return false;
+    }
+    for i in 0..back.len() {
+        if back[i] != state[i] {
+            return false;
+        }
+    }
+    true
+}
+
+pub fn is_dock(state: &[u8; 23]) -> bool
     ensures { λ r. ⌜ r ≡ isDock (now (state .entry)) ⌝ }
 {
-    if state.len() == 23 {
-        let back = dock_bytes(dock_in(state));
-        return lent::is_same(&back, state);
-    }
-    false
+    let back = dock_bytes(dock_in(state));
+    is_laid(&back, state)
 }
 
 // The dock's state into the lent bytes.
-fn lay(dock: Dock, state: &mut [u8])
-    requires { ⌜ length (now state) ≡ dockSize ⌝ }
+pub fn lay_dock(dock: Dock, state: &mut [u8; 23])
     ensures { λ r. ⌜ now (state .exit) ≡ dockBytes dock ⌝ }
 {
-    let bytes = dock_bytes(dock);
-    lent::put(state, 0, &bytes);
-}
-
-// Where the lent bytes are not as many as a state has, they stay.
-pub fn lay_dock(dock: Dock, state: &mut [u8])
-    ensures { λ r. ⌜ now (state .exit) ≡ dockLaid dock (now (state .entry)) ⌝ }
-{
-    if state.len() == 23 {
-        lay(dock, state);
-    }
+    *state = dock_bytes(dock);
 }

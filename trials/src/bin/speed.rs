@@ -5,7 +5,7 @@ use std::hint::black_box;
 use std::time::Instant;
 
 use trials::chip::{layout, Door};
-use trials::dock::Work;
+use trials::dock::work;
 use trials::door::{self, DOCK, FRAME_ROOM};
 use twin::chip::{step, Answer, Chip, Event, PROGRAM, VERIFY};
 use twin::dock;
@@ -204,7 +204,7 @@ extern "C" {
 /// The proved step in a loop of its own, without the door. Of the chip it tells the count of collected bytes alone.
 fn pace_steps(fed: &[u8]) -> Said {
     let part = replay_part();
-    let names = trials::chip::names(&part);
+    let described = trials::chip::described(&part);
     let Player {
         mut code, mut data, ..
     } = Player::fresh();
@@ -214,8 +214,8 @@ fn pace_steps(fed: &[u8]) -> Said {
             part.code_blocks,
             part.data_blocks,
             part.clock,
-            names.as_ptr(),
-            names.len(),
+            described[3..].as_ptr(),
+            door::NAMES,
             fed.as_ptr(),
             fed.len(),
             code.as_mut_ptr(),
@@ -378,15 +378,14 @@ impl Rehearsal {
     }
 
     fn by_door(&self) -> Said {
-        let work = Work::new(&self.job, &self.image);
-        let job = work.job();
+        let job = work(&self.job, &self.image);
         let (mut frames, mut room, mut state) = (Vec::new(), [0; FRAME_ROOM], [0; DOCK]);
         for _ in 0..JOBS {
             assert_eq!(door::start(&job, &mut state), 0);
             for answer in &self.answers {
                 let (told, length) = door::ask(&job, &mut state, &mut room);
                 assert_eq!(told, 0);
-                frames.extend_from_slice(&room[..length]);
+                frames.extend_from_slice(&room[..length as usize]);
                 assert_eq!(door::answer(&job, &mut state, answer).refusal, 0);
             }
         }

@@ -1,7 +1,7 @@
 -- `dock_door::ending_number` meets its contract.
 -- Assumes nothing.
-use borrow.Author.Needs.{needs}
 use Rattle.dock_door.specs.Calls.{endingNumber}
+use borrow.Author.Needs.{needs}
 use Rattle.dock_door.proofs.ending_number.Statement.{statement}
 use Rattle.dock_door.proofs.ending_number.Tie as tie
 
@@ -11,16 +11,7 @@ returns c = simp (c .enum-told .given .1)
 
 returns-2 : tie.Need-returns-2
 unfolding endingNumber
-returns-2 c = simp (c .before .before .ending .given .1, ← c .cause-number .ensures)
+returns-2 c = simp (c .before .ending .given .1)
 
 pub ending-number-spec : {M : Type 1} → statement M
-ending-number-spec =
-    tie.close
-    (tie.spec
-    (λ c. search needs)
-    (λ c. search needs)
-    (λ c κs. search needs)
-    (λ c. search needs)
-    (λ c. search needs)
-    returns
-    returns-2)
+ending-number-spec = tie.close (tie.spec (λ c. search needs) (λ c. search needs) returns returns-2)

@@ -1,4 +1,4 @@
--- `dock_door::zc_timeout` meets its contract: none came.
+-- `dock_door::zc_timeout` meets its contract.
 -- Assumes nothing.
 use Rattle.dock_door.specs.Calls.{heardAs}
 use borrow.Author.Needs.{needs}
@@ -7,16 +7,9 @@ use Rattle.dock_door.proofs.zc_timeout.Tie as tie
 
 returns : tie.Need-returns
 unfolding heardAs
-returns c = simp (← c .before .before .before .before .before .before .before .before .job-of .ensures, ← c .before .before .hear .ensures)
+returns c = simp (← c .before .before .before .before .job-in .ensures, ← c .hear .ensures)
 
 pub zc-timeout-spec : {M : Type 1} → statement M
 zc-timeout-spec =
     tie.close
-    (tie.spec
-    (λ c κs. search needs)
-    (λ c. search needs)
-    (λ c. search needs)
-    (λ c. search needs)
-    (λ c κs. search needs)
-    (λ c. search needs)
-    returns)
+    (tie.spec (λ c κs. search needs) (λ c. search needs) (λ c. search needs) (λ c. search needs) (λ c κs. search needs) returns)

@@ -1,6 +1,6 @@
 //! Random captures through zc_replay and through the twin: the same reply bytes, frames and end, and the same room, state and flash after it (01 "Replay").
 
-use trials::chip::{described, layout, names};
+use trials::chip::{described, layout};
 use trials::door::{self, BAD_RECORD, OUTPUT, ROOM, STATE};
 use twin::chip::{step, Answer};
 use twin::random::{random_capture, Generator};
@@ -104,8 +104,7 @@ fn by_door(
     let Player {
         part, code, data, ..
     } = Player::fresh();
-    let names = names(&part);
-    let part = described(&part, &names);
+    let part = described(&part);
     let mut left = Left {
         said: Vec::new(),
         frames: 0,

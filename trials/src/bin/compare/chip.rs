@@ -1,8 +1,8 @@
 //! The chip: the twin, the proved chip by single events and the proved chip by stretches (zc_feed), given the same; after every event the answer, the whole
 //! room, the 293 bytes of state with the options among them, and all code and data flash are compared (01 "Frames" to "Refusal numbers").
 
-use trials::chip::{described, layout, names};
-use trials::door::{self, Told, NAMES, OUTPUT, ROOM, STATE};
+use trials::chip::{described, layout};
+use trials::door::{self, Told, OUTPUT, ROOM, STATE};
 use twin::chip::{step, Answer, Chip, Event, Phase};
 use twin::frame::LONGEST;
 use twin::part::{Area, Part};
@@ -25,7 +25,7 @@ pub struct Side<S> {
 
 pub struct Trio<'a> {
     pub part: Part,
-    names: [u8; NAMES],
+    described: door::Part,
     pub twin: Side<Chip>,
     stepped: Side<[u8; STATE]>,
     fed: Side<[u8; STATE]>,
@@ -47,11 +47,11 @@ impl<'a> Trio<'a> {
         data: Vec<u8>,
         coverage: &'a mut Coverage,
     ) -> Result<Trio<'a>, Difference> {
-        let names = names(part);
         let chip = Chip::fresh(part)
             .map_err(|number| format!("the twin refuses {part:?} with {number}"))?;
         let mut state = [0xEE; STATE];
-        let told = door::fresh(&described(part, &names), &mut state);
+        let described = described(part);
+        let told = door::fresh(&described, &mut state);
         if told != 0 || state != layout(&chip) {
             return Err(format!(
                 "zc_fresh of {part:?} told {told}, state {}",
@@ -61,7 +61,7 @@ impl<'a> Trio<'a> {
         let side = Side { state, code, data };
         Ok(Trio {
             part: part.clone(),
-            names,
+            described,
             twin: Side {
                 state: chip,
                 code: side.code.clone(),
@@ -101,7 +101,7 @@ impl<'a> Trio<'a> {
             let before = self.fed.state;
             let mut fed_room = [self.fill; LONG_ROOM];
             let (taken, fed_told) = door::feed(
-                &described(&self.part, &self.names),
+                &self.described,
                 &mut self.fed.state,
                 rest,
                 &mut self.fed.code,
@@ -170,7 +170,7 @@ impl<'a> Trio<'a> {
             &mut self.twin.data,
             &mut room_twin[..room],
         );
-        let part = described(&self.part, &self.names);
+        let part = self.described;
         let Side { state, code, data } = &mut self.stepped;
         let lent = &mut room_proved[..room];
         let told = match event {
@@ -318,9 +318,9 @@ fn first(left: &[u8], right: &[u8]) -> usize {
 
 pub const ORDER: [u8; 5] = [1, 2, 3, 9, 4];
 
-/// How refusal 1 and refusal 9 are provoked; the last four of 9 are bytes that are no state, which the twin's types cannot hold.
-pub const BAD_PARTS: [&str; 4] = ["code blocks", "data blocks", "clock", "names"];
-pub const BAD_STATES: [&str; 17] = [
+/// How refusal 1 and refusal 9 are provoked; the last two of 9 are bytes that are no state, which the twin's types cannot hold.
+pub const BAD_PARTS: [&str; 3] = ["code blocks", "data blocks", "clock"];
+pub const BAD_STATES: [&str; 16] = [
     "collected in phase 1",
     "another header",
     "as many as the frame needs",
@@ -335,7 +335,6 @@ pub const BAD_STATES: [&str; 17] = [
     "last no block end",
     "next past last",
     "not both in one area",
-    "not 293 bytes",
     "phase byte",
     "awaited in phases 1 to 3",
 ];
@@ -365,11 +364,10 @@ impl Trio<'_> {
     ) -> Result<(), Difference> {
         let has = |number: u8| faults.contains(&number);
         let mut part = self.part.clone();
-        let mut lent_names = self.names.to_vec();
         let mut bad_part = 0;
         if has(1) {
             bad_part = choice.below(BAD_PARTS.len());
-            spoil_part(choice, &mut part, &mut lent_names, bad_part);
+            spoil_part(choice, &mut part, bad_part);
         }
         // What the part asks for, as far as that can be lent, so that a bad part is the only fault where it is meant to be.
         let fitting = |area: Area, held: &[u8]| {
@@ -396,7 +394,7 @@ impl Trio<'_> {
             way = choice.below(BAD_STATES.len());
             spoil_chip(choice, &self.part, &mut chip, way);
         }
-        let mut state = layout(&chip).to_vec();
+        let mut state = layout(&chip);
         if has(9) && way >= NO_STATE {
             spoil_bytes(choice, &mut state, way);
         }
@@ -416,23 +414,10 @@ impl Trio<'_> {
             choice.pick(&[&[][..], &[0; RECORD][..], &[2; RECORD][..], &[0; 3][..]]);
         let mut output = vec![self.fill; choice.pick(&[0, OUTPUT - 1, OUTPUT])];
         let many = choice.chance(50);
-        let expected = self.expected(
-            &part,
-            &lent_names,
-            &chip,
-            event,
-            (&code, &data, &room),
-            way,
-            faults,
-        )?;
+        let expected = self.expected(&part, &chip, event, (&code, &data, &room), way, faults)?;
 
-        let described = door::Part {
-            code_blocks: part.code_blocks,
-            data_blocks: part.data_blocks,
-            clock: part.clock,
-            names: &lent_names,
-        };
-        let kept = (state.clone(), code.clone(), data.clone(), room.clone());
+        let described = described(&part);
+        let kept = (state, code.clone(), data.clone(), room.clone());
         let mut untaken = true;
         let (call, told) = match event {
             Event::Byte(_) if many => {
@@ -480,11 +465,10 @@ impl Trio<'_> {
         if let Some(what) = what {
             let (state, code, data, room) = kept;
             return Err(format!(
-                "{} with faults {faults:?} (for 1 {}, for 9 {})\n  {what}\n  {part:?}, {} bytes of names, code {}, data {}, room {}, state {}",
+                "{} with faults {faults:?} (for 1 {}, for 9 {})\n  {what}\n  {part:?}, code {}, data {}, room {}, state {}",
                 CALLS[call],
                 BAD_PARTS[bad_part],
                 BAD_STATES[way],
-                lent_names.len(),
                 code.len(),
                 data.len(),
                 room.len(),
@@ -515,7 +499,6 @@ impl Trio<'_> {
     fn expected(
         &self,
         part: &Part,
-        lent_names: &[u8],
         chip: &Chip,
         event: Event,
         (code, data, room): (&[u8], &[u8], &[u8]),
@@ -535,8 +518,6 @@ impl Trio<'_> {
             &mut twin_room,
         );
         let by_twin = match answer {
-            // Names of another length are a bad part, which comes before all else.
-            _ if lent_names.len() != NAMES => 1,
             Answer::Refused(number @ 1..=3) => number,
             // Bytes that are no state come before the room.
             _ if faults.contains(&9) && way >= NO_STATE => 9,
@@ -557,56 +538,30 @@ impl Trio<'_> {
         }
     }
 
-    /// zc_fresh refused: 1 for a bad part, then 9 for bytes that no state fits in.
+    /// zc_fresh refused: 1 for a bad part.
     pub fn refused_fresh(&mut self, choice: &mut Generator) -> Result<(), Difference> {
-        let (bad_part, bad_length) = choice.pick(&[(true, false), (false, true), (true, true)]);
         let mut part = self.part.clone();
-        let mut lent_names = self.names.to_vec();
-        if bad_part {
-            let way = choice.below(BAD_PARTS.len());
-            spoil_part(choice, &mut part, &mut lent_names, way);
-        }
-        let lengths = if bad_length {
-            [0, 292, 294]
-        } else {
-            [STATE; 3]
-        };
-        let mut state = vec![self.fill; choice.pick(&lengths)];
-        let described = door::Part {
-            code_blocks: part.code_blocks,
-            data_blocks: part.data_blocks,
-            clock: part.clock,
-            names: &lent_names,
-        };
-        let told = door::fresh(&described, &mut state);
-        let by_twin = match Chip::fresh(&part) {
-            _ if lent_names.len() != NAMES => 1,
-            Err(number) => number,
-            Ok(_) => 9,
-        };
-        let expected = if bad_part { 1 } else { 9 };
-        if told != expected
-            || by_twin != expected as u8
-            || state.iter().any(|byte| *byte != self.fill)
-        {
+        let way = choice.below(BAD_PARTS.len());
+        spoil_part(choice, &mut part, way);
+        let mut state = [self.fill; STATE];
+        let told = door::fresh(&described(&part), &mut state);
+        let by_twin = Chip::fresh(&part).err();
+        if told != 1 || by_twin != Some(1) || state != [self.fill; STATE] {
             return Err(format!(
-                "zc_fresh of {part:?} with {} names and {} bytes told {told}, expected {expected}, the twin {by_twin}",
-                lent_names.len(),
-                state.len()
+                "zc_fresh of {part:?} told {told}, the twin {by_twin:?}"
             ));
         }
         self.calls_refused += 1;
-        self.coverage.count(&format!("zc_fresh, {expected}"));
+        self.coverage.count("zc_fresh, 1");
         Ok(())
     }
 }
 
-fn spoil_part(choice: &mut Generator, part: &mut Part, lent_names: &mut Vec<u8>, way: usize) {
+fn spoil_part(choice: &mut Generator, part: &mut Part, way: usize) {
     match way {
         0 => part.code_blocks = choice.pick(&[0, 7, 65, 256 + 16, u32::MAX]),
         1 => part.data_blocks = choice.pick(&[9, 255, 256, 256 + 4, u32::MAX]),
-        2 => part.clock = choice.pick(&[0, 33, 255, 256 + 32, u32::MAX]),
-        _ => lent_names.resize(choice.pick(&[0, 1, 15, 17, 32]), 0x20),
+        _ => part.clock = choice.pick(&[0, 33, 255, 256 + 32, u32::MAX]),
     }
 }
 
@@ -736,10 +691,9 @@ fn spoil_chip(choice: &mut Generator, part: &Part, chip: &mut Chip, way: usize) 
 }
 
 /// Bytes that are no state.
-fn spoil_bytes(choice: &mut Generator, state: &mut Vec<u8>, way: usize) {
+fn spoil_bytes(choice: &mut Generator, state: &mut [u8; STATE], way: usize) {
     match way {
-        14 => state.resize(choice.pick(&[0, 1, 292, 294, 586]), 0x00),
-        15 => state[7] = choice.pick(&[0, 5, 6, 0x80, 0xFF]),
+        NO_STATE => state[7] = choice.pick(&[0, 5, 6, 0x80, 0xFF]),
         _ => {
             state[7] = choice.pick(&[1, 2, 3]);
             state[8..25].fill(0);

@@ -1,8 +1,8 @@
 //! The dock: random histories of calls to the twin and to the proved dock; after each call the reply, the 23 bytes of state, the whole room and the counts are
 //! compared (01 "The dock's flow", "Refusal numbers"). Beside them, bytes that are no state of a dock, which the twin's types cannot hold.
 
-use trials::dock::{cause_number, layout, stage_number, Work};
-use trials::door::{self, Report as Told, DOCK, NAMES};
+use trials::dock::{layout, stage_number, work};
+use trials::door::{self, Report as Told, DOCK, UNTOLD};
 use twin::dock::{start, Report, Stage, State};
 use twin::histories::play;
 use twin::random::Generator;
@@ -64,8 +64,7 @@ fn unlike(call: &Call, expected: &Outcome) -> Option<String> {
             call.faults
         ));
     }
-    let work = Work::new(call.job, call.image);
-    let job = work.job();
+    let job = work(call.job, call.image);
     // What a refused start leaves is what was lent.
     let mut dock = match call.action {
         Action::Start => [0xEE; DOCK],
@@ -83,8 +82,8 @@ fn unlike(call: &Call, expected: &Outcome) -> Option<String> {
             let mut lent = vec![FILLER; room];
             let told = door::ask(&job, &mut dock, &mut lent);
             let length = match expected.reply {
-                Reply::Frame(length) => length,
-                _ => 0,
+                Reply::Frame(length) => length as u64,
+                _ => UNTOLD,
             };
             if told != (refusal, length) {
                 Some(format!("zc_ask told {told:?}, not {:?}", (refusal, length)))
@@ -118,30 +117,22 @@ fn unlike_report(name: &str, told: Told, expected: &Outcome) -> Option<String> {
 
 fn in_numbers(outcome: &Outcome) -> Told {
     let (refusal, ended, frames, retries) = match outcome.reply {
-        Reply::Refused(number) => (number, 0, 0, 0),
+        Reply::Refused(number) => (number, UNTOLD, UNTOLD, UNTOLD),
         Reply::Told(Report::Finished { frames, retries }) => (0, 1, frames, retries),
         Reply::Told(Report::Failed {
-            failure,
-            frames,
-            retries,
-        }) => (
-            0,
-            1 + u32::from(cause_number(failure.cause)),
-            frames,
-            retries,
-        ),
+            frames, retries, ..
+        }) => (0, 2, frames, retries),
         _ => (0, 0, 0, 0),
     };
     Told {
         refusal: refusal.into(),
         ended,
-        frames_used: frames as u32,
-        retries_used: retries as u32,
+        frames_used: frames,
+        retries_used: retries,
     }
 }
 
-pub const NO_STATES: [&str; 10] = [
-    "not 23 bytes",
+pub const NO_STATES: [&str; 8] = [
     "stage",
     "awaited",
     "a block named or not against the stage",
@@ -150,55 +141,39 @@ pub const NO_STATES: [&str; 10] = [
     "a number of no page",
     "cause",
     "command or status of no failure",
-    "names not 16 bytes",
 ];
-const SHORT_NAMES: usize = 9;
 
-/// The call again, with bytes that are no state, or with names that are no names; nothing may change.
+/// The call again, with bytes that are no state; nothing may change. To start, any bytes do.
 fn no_state(choice: &mut Generator, call: &Call, coverage: &mut Coverage) -> Option<String> {
     let (state, room) = match call.action {
-        Action::Start => (None, 0),
-        Action::Ask { state, room } => (Some(state), room),
-        Action::Answer { state, .. } | Action::Timeout { state } => (Some(state), 0),
+        Action::Start => return None,
+        Action::Ask { state, room } => (state, room),
+        Action::Answer { state, .. } | Action::Timeout { state } => (state, 0),
     };
-    // Only its length is looked at where a start is to write it.
-    let way = match state {
-        Some(_) => choice.below(NO_STATES.len()),
-        None => choice.pick(&[0, SHORT_NAMES]),
-    };
-    let mut dock = state.as_ref().map_or([0xEE; DOCK], layout).to_vec();
+    let way = choice.below(NO_STATES.len());
+    let mut dock = layout(&state);
     spoil(choice, &mut dock, way);
-    let work = Work::new(call.job, call.image);
-    let mut job = work.job();
-    let mut lent_names = job.part.names.to_vec();
-    if way == SHORT_NAMES {
-        lent_names.resize(choice.pick(&[0, 1, NAMES - 1, NAMES + 1, 32]), 0x20);
-    }
-    job.part.names = &lent_names;
+    let job = work(call.job, call.image);
     // 1, 5, 6 and 7 come before 9, and 9 before 4 and 8.
     let expected = match start(call.job, call.image) {
-        _ if way == SHORT_NAMES => 1,
         Err(number) => u32::from(number),
         Ok(_) => 9,
     };
-    let kept = dock.clone();
+    let kept = dock;
     let mut lent = vec![FILLER; room];
     let none = |told: Told| {
-        (
-            told.refusal,
-            told.ended == 0 && told.frames_used == 0 && told.retries_used == 0,
-        )
+        let numbers = [told.ended, told.frames_used, told.retries_used];
+        (told.refusal, numbers == [UNTOLD; 3])
     };
-    let (told, zeros) = match call.action {
-        Action::Start => (door::start(&job, &mut dock), true),
-        Action::Ask { .. } => {
+    let (told, untold) = match call.action {
+        Action::Start | Action::Ask { .. } => {
             let (told, length) = door::ask(&job, &mut dock, &mut lent);
-            (told, length == 0)
+            (told, length == UNTOLD)
         }
         Action::Answer { bytes, .. } => none(door::answer(&job, &mut dock, bytes)),
         Action::Timeout { .. } => none(door::timeout(&job, &mut dock)),
     };
-    if told != expected || !zeros || dock != kept || lent.iter().any(|byte| *byte != FILLER) {
+    if told != expected || !untold || dock != kept || lent.iter().any(|byte| *byte != FILLER) {
         return Some(format!(
             "no state ({}) told {told}, not {expected}, or something changed; dock {} after {}",
             NO_STATES[way],
@@ -206,43 +181,38 @@ fn no_state(choice: &mut Generator, call: &Call, coverage: &mut Coverage) -> Opt
             hex_line(&kept)
         ));
     }
-    if expected == 9 || way == SHORT_NAMES {
+    if expected == 9 {
         coverage.count(&format!("no state, {}", NO_STATES[way]));
-    }
-    if expected == 9 && state.is_none() {
-        coverage.count("zc_start, 9");
     }
     None
 }
 
-fn spoil(choice: &mut Generator, dock: &mut Vec<u8>, way: usize) {
+fn spoil(choice: &mut Generator, dock: &mut [u8; DOCK], way: usize) {
     let stage = dock[0];
     let names_block = (4..=9).contains(&stage);
     let names_page = stage == 7 || stage == 9;
     let over = stage == 11;
     match way {
-        0 => dock.resize(choice.pick(&[0, 1, DOCK - 1, DOCK + 1, 2 * DOCK]), 0x00),
-        1 => dock[0] = choice.pick(&[0, 12, 13, 0x80, 0xFF]),
-        2 => dock[1] = choice.pick(&[2, 3, 0xFF]),
-        3 if over => dock[10] = choice.pick(&[2, 0xFF]),
-        3 if names_block => dock[10..15].fill(0),
-        3 => dock[10] = 1,
-        4 => {
+        0 => dock[0] = choice.pick(&[0, 12, 13, 0x80, 0xFF]),
+        1 => dock[1] = choice.pick(&[2, 3, 0xFF]),
+        2 if over => dock[10] = choice.pick(&[2, 0xFF]),
+        2 if names_block => dock[10..15].fill(0),
+        2 => dock[10] = 1,
+        3 => {
             dock[10] = 0;
             dock[choice.between(11, 14)] |= 1;
         }
-        5 if over => dock[15] = choice.pick(&[2, 0xFF]),
-        5 if names_page => dock[15..20].fill(0),
-        5 => dock[15] = 1,
-        6 => {
+        4 if over => dock[15] = choice.pick(&[2, 0xFF]),
+        4 if names_page => dock[15..20].fill(0),
+        4 => dock[15] = 1,
+        5 => {
             dock[15] = 0;
             dock[choice.between(16, 19)] |= 1;
         }
-        7 if over => dock[20] = choice.pick(&[0, 5, 0xFF]),
-        7 => dock[20] = choice.pick(&[1, 4, 5, 0xFF]),
-        8 if over => dock[20] = 0,
-        8 => dock[choice.pick(&[21, 22])] = choice.pick(&[0x01, 0x40, 0xFF]),
-        _ => (),
+        6 if over => dock[20] = choice.pick(&[0, 5, 0xFF]),
+        6 => dock[20] = choice.pick(&[1, 4, 5, 0xFF]),
+        7 if over => dock[20] = 0,
+        _ => dock[choice.pick(&[21, 22])] = choice.pick(&[0x01, 0x40, 0xFF]),
     }
 }
 
@@ -337,7 +307,7 @@ pub fn tables(coverage: &Coverage) -> Vec<String> {
     ];
     missing.extend(coverage.table("failures, by cause and frame", &failures));
     let mut refusals = vec![
-        row("zc_start", &["accepted", "1", "5", "6", "7", "9"]),
+        row("zc_start", &["accepted", "1", "5", "6", "7"]),
         row("zc_ask", &["accepted", "1", "5", "6", "7", "9", "4", "8"]),
         row("zc_answer", &["accepted", "1", "5", "6", "7", "9", "8"]),
         row("zc_timeout", &["accepted", "1", "5", "6", "7", "9", "8"]),

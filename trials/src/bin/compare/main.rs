@@ -214,7 +214,7 @@ fn chip_tables(coverage: &Coverage) -> Vec<String> {
     missing.extend(coverage.table("events by phase", &[row("events", &PHASES)]));
     let each = ["1", "2", "3", "9", "4"];
     let mut refusals: Vec<_> = CALLS.iter().map(|call| row(call, &each)).collect();
-    refusals.push(row("zc_fresh", &["1", "9"]));
+    refusals.push(row("zc_fresh", &["1"]));
     for number in each {
         // 4 is the last of the order: with another fault it never shows.
         let both = ["alone", "with more faults"];

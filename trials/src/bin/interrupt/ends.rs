@@ -70,14 +70,18 @@ impl Proved<'_> {
     fn stand(&self, told: door::Report) -> Stand {
         assert_eq!(told.refusal, 0, "the dock refused an answer or a timeout");
         let (frames, retries) = (told.frames_used as usize, told.retries_used as usize);
-        let cause = match told.ended {
+        match told.ended {
             0 => return Stand::GoesOn,
             1 => return Stand::Finished { frames, retries },
-            2 => Cause::Status,
-            3 => Cause::Mismatch,
-            4 => Cause::Unreadable,
-            5 => Cause::Timeout,
+            2 => {}
             other => panic!("the dock told {other} for how it ended"),
+        }
+        let cause = match self.dock[20] {
+            1 => Cause::Status,
+            2 => Cause::Mismatch,
+            3 => Cause::Unreadable,
+            4 => Cause::Timeout,
+            other => panic!("the dock's state has {other} for why it failed"),
         };
         let block = match self.dock[10] {
             0 => None,
@@ -94,22 +98,13 @@ impl Proved<'_> {
 
 impl<'a> Ends<'a> for Proved<'a> {
     fn with(job: &'a Job, flash: &Flash) -> Self {
-        let part = door::Part {
-            code_blocks: CODE_BLOCKS,
-            data_blocks: DATA_BLOCKS,
-            clock: CLOCK,
-            names: &NAMES,
-        };
+        let part = door::part(CODE_BLOCKS, DATA_BLOCKS, CLOCK, &NAMES);
         let mut chip = [0; door::STATE];
         assert_eq!(door::fresh(&part, &mut chip), 0, "the part is described");
         Proved {
             job: door::Job {
                 part,
-                start: job.start() as u32,
-                end: job.end() as u32,
-                rate: RATE,
-                supply: SUPPLY,
-                retries: RETRIES,
+                work: door::work(job.start() as u32, job.end() as u32, RATE, SUPPLY, RETRIES),
                 image: &job.image,
             },
             chip,
@@ -174,7 +169,7 @@ impl<'a> Ends<'a> for Proved<'a> {
         let mut room = [0; door::FRAME_ROOM];
         let (refusal, bytes) = door::ask(&self.job, &mut self.dock, &mut room);
         assert_eq!(refusal, 0, "the dock refused a frame");
-        room[..bytes].to_vec()
+        room[..bytes as usize].to_vec()
     }
 
     fn answer(&mut self, answer: &[u8]) -> Stand {
