@@ -54,6 +54,7 @@
 #define ZC_JOB 11
 #define ZC_DOCK 23
 #define ZC_FRAME_ROOM 260
+#define ZC_ANSWER 31
 
 /* The stage of a dock, and the frame that it sends. */
 #define ZC_STAGE_RATE 1 /* 9Ah */
@@ -121,6 +122,12 @@ uint32_t zc_ask(const uint8_t part[ZC_PART], const uint8_t job[ZC_JOB], const ui
  * ends the job, as a timeout does. */
 uint32_t zc_answer(const uint8_t part[ZC_PART], const uint8_t job[ZC_JOB], const uint8_t *image, uint64_t image_len, uint8_t dock[ZC_DOCK],
                    const uint8_t *answer, uint64_t answer_len, uint64_t told[3]);
+
+/* How many bytes are still wanted of that answer, of which these have come, before it can be readable; 0: hand it in, it is whole (or zc_answer will refuse it
+ * whatever it is). A readable answer wants more after each byte but its last, and none wants more than 31 bytes in all, so a line that is read byte by byte
+ * needs a clock only for an answer that stops short: hand in what came then, or report a timeout where nothing did. */
+uint64_t zc_wants(const uint8_t part[ZC_PART], const uint8_t job[ZC_JOB], const uint8_t *image, uint64_t image_len, const uint8_t dock[ZC_DOCK],
+                  const uint8_t *answer, uint64_t answer_len);
 
 /* No answer came to that frame. Told as by zc_answer. */
 uint32_t zc_timeout(const uint8_t part[ZC_PART], const uint8_t job[ZC_JOB], const uint8_t *image, uint64_t image_len, uint8_t dock[ZC_DOCK],

@@ -9,6 +9,7 @@ pub const STATE: usize = 293;
 pub const DOCK: usize = 23;
 pub const ROOM: usize = 32;
 pub const FRAME_ROOM: usize = 260;
+pub const ANSWER: usize = 31;
 pub const OUTPUT: usize = 192;
 pub const BAD_RECORD: u32 = 16;
 
@@ -328,6 +329,22 @@ pub fn answer(job: &Job, dock: &mut [u8; DOCK], answer: &[u8]) -> Report {
     reported(refusal, told)
 }
 
+/// How many bytes are still wanted of the answer; 0: hand it in.
+#[inline]
+pub fn wants(job: &Job, dock: &[u8; DOCK], answer: &[u8]) -> u64 {
+    unsafe {
+        zc_wants(
+            &job.part,
+            &job.work,
+            job.image.as_ptr(),
+            job.image.len() as u64,
+            dock,
+            answer.as_ptr(),
+            answer.len() as u64,
+        )
+    }
+}
+
 #[inline]
 pub fn timeout(job: &Job, dock: &mut [u8; DOCK]) -> Report {
     let mut told = [UNTOLD; 3];
@@ -486,6 +503,15 @@ extern "C" {
         answer_len: u64,
         told: *mut [u64; 3],
     ) -> u32;
+    fn zc_wants(
+        part: *const [u8; PART],
+        job: *const [u8; JOB],
+        image: *const u8,
+        image_len: u64,
+        dock: *const [u8; DOCK],
+        answer: *const u8,
+        answer_len: u64,
+    ) -> u64;
     fn zc_timeout(
         part: *const [u8; PART],
         job: *const [u8; JOB],

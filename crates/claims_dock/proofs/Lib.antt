@@ -4,3 +4,4 @@ pub mod Stepped
 pub mod Counted
 pub mod Examples
 pub mod Written
+pub mod Wanted

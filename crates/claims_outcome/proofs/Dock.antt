@@ -12,6 +12,8 @@ use Rattle.dock.proofs.calls.answer.Reads as calls-answer
 use Rattle.dock.proofs.calls.answer.Kinds as calls-answer-kinds
 use Rattle.dock.proofs.calls.timeout.Reads as calls-timeout
 use Rattle.dock.proofs.calls.timeout.Kinds as calls-timeout-kinds
+use Rattle.dock.proofs.calls.wants.Reads as calls-wants
+use Rattle.dock.proofs.calls.wants.Kinds as calls-wants-kinds
 
 pub calls-begin-once : Once calls-begin-kinds.ps calls-begin-kinds.r calls-begin.Post (λ κs r x. r)
 calls-begin-once κs a r s x y p q = p ∙ sym q
@@ -24,3 +26,6 @@ calls-answer-once κs a r s x y p q = p ∙ sym q
 
 pub calls-timeout-once : Once calls-timeout-kinds.ps calls-timeout-kinds.r calls-timeout.Post (λ κs r x. r)
 calls-timeout-once κs a r s x y p q = p ∙ sym q
+
+pub calls-wants-once : Once calls-wants-kinds.ps calls-wants-kinds.r calls-wants.Post (λ κs r x. r)
+calls-wants-once κs a r s x y p q = p ∙ sym q

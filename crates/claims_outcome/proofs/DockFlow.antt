@@ -12,6 +12,8 @@ use Rattle.dock_flow.proofs.after_answer.Reads as after-answer
 use Rattle.dock_flow.proofs.after_answer.Kinds as after-answer-kinds
 use Rattle.dock_flow.proofs.after_timeout.Reads as after-timeout
 use Rattle.dock_flow.proofs.after_timeout.Kinds as after-timeout-kinds
+use Rattle.dock_flow.proofs.wanted.Reads as wanted
+use Rattle.dock_flow.proofs.wanted.Kinds as wanted-kinds
 
 pub frames-hand-once : Once frames-hand-kinds.ps frames-hand-kinds.r frames-hand.Post (λ κs r x. handing r (now (x .1 .1 .1 .0)))
 frames-hand-once κs a r s x y p q = p ∙ sym q
@@ -24,3 +26,6 @@ after-answer-once κs a r s x y p q = p ∙ sym q
 
 pub after-timeout-once : Once after-timeout-kinds.ps after-timeout-kinds.r after-timeout.Post (λ κs r x. r)
 after-timeout-once κs a r s x y p q = p ∙ sym q
+
+pub wanted-once : Once wanted-kinds.ps wanted-kinds.r wanted.Post (λ κs r x. r)
+wanted-once κs a r s x y p q = p ∙ sym q

@@ -8,7 +8,7 @@ use Rattle.dock.specs.declared.Report.{Report}
 use Rattle.dock.specs.declared.Report.the-variants.{Due, Ended, Put}
 use Rattle.dock.specs.declared.Report.the-variants as Report
 use Rattle.dock.specs.declared.Stepped.{Stepped}
-use Rattle.dock_flow.specs.Flow.{Heard, afterHeard, firstStage}
+use Rattle.dock_flow.specs.Flow.{Heard, afterHeard, firstStage, wantedAt}
 use Rattle.dock_flow.specs.Frames.{Handing, handOf}
 use Rattle.dock_flow.specs.declared.frames.HandedOut.{HandedOut}
 use Rattle.dock_flow.specs.declared.frames.HandedOut.the-variants.{Sent}
@@ -76,3 +76,12 @@ turning Accepted d t = stepped (standing (t .stage) (moved d t)) (moved d t)
 
 unfoldable pub hearOf : Job → List ℕ → Dock → Heard → Stepped
 hearOf j image d h = turning (callVerdict j (length image) (Tells d)) d (afterHeard j (d .retries) (d .stage) h)
+
+-- How many bytes are still wanted of the awaited answer, before it can be readable; 0 where it is to be handed in, and where an answer would be refused whatever
+-- it is.
+unfoldable pub wantsBy : Verdict → ℕ → ℕ
+wantsBy (Verdict.Refused r) n = 0
+wantsBy Accepted n = n
+
+unfoldable pub wantsOf : Job → List ℕ → Dock → List ℕ → ℕ
+wantsOf j image d bs = wantsBy (callVerdict j (length image) (Tells d)) (wantedAt j (d .stage) bs)

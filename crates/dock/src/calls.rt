@@ -3,7 +3,7 @@ ghost use mathlib.Core.Path.{_≡_};
 ghost use Prim.Native.Nat.{_+_, _<_, _^_};
 ghost use Rattle.part.specs.declared.refusal.Verdict.the-variants.{Accepted};
 ghost use Rattle.dock_flow.specs.Flow.{answered, silence};
-ghost use Rattle.dock.specs.Calls.{beginOf, asking, askOf, hearOf, standing, turning};
+ghost use Rattle.dock.specs.Calls.{beginOf, asking, askOf, hearOf, standing, turning, wantsOf};
 use super::Account;
 use super::Report;
 use super::Stepped;
@@ -130,6 +130,20 @@ pub fn timeout(job: Job, image: &[u8], dock: Dock) -> Stepped
         Verdict::Accepted => {
             let stage = dock.stage;
             moved(dock, dock_flow::after_timeout(job, stage))
+        }
+    }
+}
+
+// How many bytes are still wanted of the awaited answer, before it can be readable.
+pub fn wants(job: Job, image: &[u8], dock: Dock, bytes: &[u8]) -> usize
+    ensures { λ r. ⌜ r ≡ wantsOf job (now (image .entry)) dock (now (bytes .entry)) ⌝ }
+{
+    let v = refusals::verdict(job, image.len(), Call::Tells(dock));
+    match v {
+        Verdict::Refused(refusal) => 0,
+        Verdict::Accepted => {
+            let stage = dock.stage;
+            dock_flow::wanted(job, stage, bytes)
         }
     }
 }

@@ -1,15 +1,15 @@
--- Laws about answers: the rest of lent bytes, and the status that decides of one, two or three.
+-- Laws about answers: the rest of lent bytes, the status that decides of one, two or three, and how long an answer is.
 -- Assumes nothing.
 use mathlib.Core.Bool.{Bool, false, true}
 use mathlib.Core.List.{List, [], _∷_}
 use mathlib.Core.Path.{_≡_, refl}
-use Prim.Native.Nat.{_-_, _≤_, ℕ}
+use Prim.Native.Nat.{_+_, _-_, _≤_, ℕ}
 use native.Mathlib.Omega.{arith}
 use lib.Dec.{eqb}
 use lib.ListN.{drop, drop-of-length-le, length, length-drop, take}
 use lib.Seq.{drop-length, take-all, take-nil}
 use borrow.Author.Tests.{eqb-true}
-use Rattle.dock_answer.specs.Answer.{deciding}
+use Rattle.dock_answer.specs.Answer.{deciding, long}
 use Rattle.words.specs.Words.{if_then_else_}
 
 pub none-after : (l : List ℕ) (n : ℕ) → length l ≤ n → take (length l - length l) (drop (length l) l) ≡ drop n l
@@ -31,3 +31,12 @@ deciding-one s = go (eqb s 0x06) refl
 pub deciding-two : (s t : ℕ) → deciding (s ∷ t ∷ 0x06 ∷ []) ≡ deciding (s ∷ t ∷ [])
 unfolding deciding if_then_else_
 deciding-two s t = refl
+
+-- How long answers of one frame and of two are.
+pub long-one : (n : ℕ) → long (n ∷ []) ≡ n + 4
+unfolding long
+long-one n = omega arith
+
+pub long-two : (n m : ℕ) → long (n ∷ m ∷ []) ≡ n + 4 + (m + 4)
+unfolding long
+long-two n m = omega arith

@@ -1,7 +1,7 @@
 -- The answer to one frame: document 01, "The dock's flow". "The whole answer to one frame is handed in at once".
 use mathlib.Core.Bool.{Bool, true}
 use mathlib.Core.List.{List, [], _∷_}
-use Prim.Native.Nat.{_+_, ℕ}
+use Prim.Native.Nat.{_+_, _-_, ℕ}
 use lib.Dec.{eqb}
 use lib.ListN.{drop, getD, length, take}
 use Rattle.dock_answer.specs.declared.Decoded.{Decoded}
@@ -49,6 +49,15 @@ shape OfLastPage s t = if eqb s 0x06 and eqb t 0x06 then 2 ∷ 1 ∷ [] else 2 �
 
 unfoldable pub readable : Form → List ℕ → Bool
 readable f bs = exactly (shape f (inFirst 0 bs) (inFirst 1 bs)) bs
+
+-- How long an answer of that shape is, and how many bytes are still wanted of one that has begun, before it can be readable: a byte that has not come asks for
+-- nothing more.
+unfoldable pub long : List ℕ → ℕ
+long [] = 0
+long (n ∷ ns) = n + overhead + long ns
+
+unfoldable pub wanted : Form → List ℕ → ℕ
+wanted f bs = long (shape f (inFirst 0 bs) (inFirst 1 bs)) - length bs
 
 -- The statuses of a readable answer; the third of a last page stands where the first two are 06h, and is not looked at elsewhere.
 unfoldable pub statuses : Form → List ℕ → List ℕ

@@ -3,7 +3,8 @@ ghost use mathlib.Core.Path.{_≡_};
 ghost use mathlib.Core.List.{[], _∷_};
 ghost use Prim.Native.Nat.{_≤_};
 ghost use lib.ListN.{drop};
-ghost use Rattle.dock_answer.specs.Answer.{carried, exactly, readable, deciding, statuses, rateMatches, signatureMatches, matching, readAnswer};
+ghost use Rattle.dock_answer.specs.Answer.{carried, exactly, readable, long, shape, wanted};
+ghost use Rattle.dock_answer.specs.Answer.{deciding, statuses, rateMatches, signatureMatches, matching, readAnswer};
 use frame::wire;
 use frame::wire::Read;
 use part::Part;
@@ -105,6 +106,52 @@ fn is_readable(form: Form, bytes: &[u8]) -> bool
             is_one(bytes, 2)
         }
     }
+}
+
+// How long the answer is, by the first two bytes that its first frame carries.
+fn whole(form: Form, first: u8, second: u8) -> usize
+    ensures { λ r. ⌜ r ≡ long (shape form first second) ⌝ }
+{
+    match form {
+        Form::OneStatus => 1 + frame::OVERHEAD,
+        Form::WithRate => {
+            if first == 0x06 {
+                return 3 + frame::OVERHEAD;
+            }
+            1 + frame::OVERHEAD
+        }
+        Form::WithSignature => {
+            if first == 0x06 {
+                return 1 + frame::OVERHEAD + 22 + frame::OVERHEAD;
+            }
+            1 + frame::OVERHEAD
+        }
+        Form::OfPage => 2 + frame::OVERHEAD,
+        Form::OfLastPage => {
+            if first == 0x06 {
+                if second == 0x06 {
+                    return 2 + frame::OVERHEAD + 1 + frame::OVERHEAD;
+                }
+                return 2 + frame::OVERHEAD;
+            }
+            2 + frame::OVERHEAD
+        }
+    }
+}
+
+// How many bytes are still wanted of an answer that has begun so, before it can be readable.
+pub fn wanted(form: Form, bytes: &[u8]) -> usize
+    ensures { λ r. ⌜ r ≡ wanted form (now (bytes .entry)) ⌝ }
+{
+    let n = whole(
+        form,
+        lent::byte_at(bytes, FIRST),
+        lent::byte_at(bytes, SECOND),
+    );
+    if bytes.len() < n {
+        return n - bytes.len();
+    }
+    0
 }
 
 // The first of three statuses that is not 06h.

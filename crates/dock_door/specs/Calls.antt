@@ -5,7 +5,7 @@ use mathlib.Core.List.{List, [], _∷_}
 use Prim.Native.Nat.{ℕ}
 use lib.Dec.{eqb}
 use lib.ListN.{length}
-use Rattle.dock.specs.Calls.{Asking, askOf, beginOf, hearOf}
+use Rattle.dock.specs.Calls.{Asking, askOf, beginOf, hearOf, wantsOf}
 use Rattle.dock.specs.declared.Report.{Report}
 use Rattle.dock.specs.declared.Report.the-variants.{Due, Ended, Put}
 use Rattle.dock.specs.declared.Report.the-variants as Report
@@ -104,3 +104,7 @@ unfoldable pub hearThrough : Job → List ℕ → List ℕ → List ℕ → Hear
 hearThrough j image told state h =
     if isDock state then heardBy (hearOf j image (dockIn state) h) told state
     else hearTold (noState (callVerdict j (length image) Begins)) told state
+
+-- How many bytes are still wanted of the awaited answer; 0 where it is to be handed in.
+unfoldable pub wantsThrough : Job → List ℕ → List ℕ → List ℕ → ℕ
+wantsThrough j image state bs = if isDock state then wantsOf j image (dockIn state) bs else 0

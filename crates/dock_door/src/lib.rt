@@ -6,7 +6,7 @@ ghost use Rattle.dock_job.specs.Refusals.{callVerdict};
 ghost use Rattle.dock_job.specs.declared.refusals.Call.the-variants.{Begins};
 ghost use Rattle.dock_layout.specs.Job.{jobIn};
 ghost use Rattle.dock_door.specs.Calls.{askThrough, askTold, endingNumber, figuresOf, figuresWith, hearThrough, hearTold, heardAs, heardBy};
-ghost use Rattle.dock_door.specs.Calls.{noState, startThrough, startTold};
+ghost use Rattle.dock_door.specs.Calls.{noState, startThrough, startTold, wantsThrough};
 ghost use Rattle.dock.specs.Calls.{hearOf};
 use dock::Report;
 use dock::Stepped;
@@ -205,4 +205,26 @@ pub extern "C" fn zc_timeout(
         &image[0..0],
         told,
     )
+}
+
+// How many bytes are still wanted of the answer, before it can be readable; 0: hand it in.
+#[no_mangle]
+pub extern "C" fn zc_wants(
+    part: &[u8; 19],
+    job: &[u8; 11],
+    image: &[u8],
+    state: &[u8; 23],
+    answer: &[u8],
+) -> usize
+    ensures { λ r. ⌜ r ≡ wantsThrough (jobIn (now (part .entry)) (now (job .entry))) (now (image .entry)) (now (state .entry)) (now (answer .entry)) ⌝ }
+{
+    if dock_layout::is_dock(state) {
+        return calls::wants(
+            job::job_in(part, job),
+            image,
+            dock_layout::dock_in(state),
+            answer,
+        );
+    }
+    0
 }

@@ -5,7 +5,7 @@ use mathlib.Core.List.{List, [], _∷_}
 use Prim.Native.Nat.{_+_, ℕ}
 use lib.Dec.{eqb, ltb}
 use Rattle.commands.specs.Commands.{comOf}
-use Rattle.dock_answer.specs.Answer.{readAnswer}
+use Rattle.dock_answer.specs.Answer.{readAnswer, wanted}
 use Rattle.dock_answer.specs.declared.Decoded.{Decoded}
 use Rattle.dock_answer.specs.declared.Decoded.the-variants.{Garbled, Said}
 use Rattle.dock_flow.specs.Frames.{frameAt, lastPage, queryAt}
@@ -96,6 +96,10 @@ afterAnswer j used st Garbled = fails j Unreadable 0x00 st
 
 abbrev pub afterTimeout : Job → Stage → Turned
 afterTimeout j st = fails j TimedOut 0x00 st
+
+-- How many bytes are still wanted of the answer to the frame of a stage, before it can be readable.
+unfoldable pub wantedAt : Job → Stage → List ℕ → ℕ
+wantedAt j st bs = wanted (queryAt j st .form) bs
 
 -- What came after a frame: "The whole answer to one frame is handed in at once", or a timeout is reported.
 pub data Heard : Type 0 where

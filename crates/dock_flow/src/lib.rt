@@ -2,7 +2,7 @@
 ghost use mathlib.Core.Path.{_≡_};
 ghost use Rattle.dock_job.specs.Job.{setup};
 ghost use Rattle.dock_flow.specs.Flow.{blockFrom, firstStage, afterSetup, afterWork, next, saysNotBlank, inBlock, fails, retried, afterStatus, afterAnswer};
-ghost use Rattle.dock_flow.specs.Flow.{answered, afterHeard, afterTimeout};
+ghost use Rattle.dock_flow.specs.Flow.{answered, afterHeard, afterTimeout, wantedAt};
 use dock_answer::Decoded;
 use dock_job::Cause;
 use dock_job::Ending;
@@ -212,4 +212,13 @@ pub fn after_timeout(job: Job, stage: Stage) -> Turned
     ensures { λ r. ⌜ r ≡ afterTimeout job stage ⌝ }
 {
     fails(job, Cause::TimedOut, 0x00, stage)
+}
+
+// How many bytes are still wanted of the answer to the frame of a stage.
+pub fn wanted(job: Job, stage: Stage, bytes: &[u8]) -> usize
+    ensures { λ r. ⌜ r ≡ wantedAt job stage (now (bytes .entry)) ⌝ }
+{
+    let query = frames::query_with(0, 0, job, stage);
+    let form = query.form;
+    dock_answer::wanted(form, bytes)
 }

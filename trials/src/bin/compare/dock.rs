@@ -2,8 +2,8 @@
 //! compared (01 "The dock's flow", "Refusal numbers"). Beside them, bytes that are no state of a dock, which the twin's types cannot hold.
 
 use trials::dock::{layout, stage_number, work};
-use trials::door::{self, Report as Told, DOCK, UNTOLD};
-use twin::dock::{start, Report, Stage, State};
+use trials::door::{self, Report as Told, ANSWER, DOCK, UNTOLD};
+use twin::dock::{start, Cause, Report, Stage, State};
 use twin::histories::play;
 use twin::random::Generator;
 use twin::replay::hex_line;
@@ -98,7 +98,10 @@ fn unlike(call: &Call, expected: &Outcome) -> Option<String> {
             }
         }
         Action::Answer { bytes, .. } => {
-            unlike_report("zc_answer", door::answer(&job, &mut dock, bytes), expected)
+            let wants = unlike_wants(&job, &dock, bytes, expected);
+            wants.or_else(|| {
+                unlike_report("zc_answer", door::answer(&job, &mut dock, bytes), expected)
+            })
         }
         Action::Timeout { .. } => {
             unlike_report("zc_timeout", door::timeout(&job, &mut dock), expected)
@@ -108,6 +111,45 @@ fn unlike(call: &Call, expected: &Outcome) -> Option<String> {
         (dock != after)
             .then(|| format!("state {}, the twin's {}", hex_line(&dock), hex_line(&after)))
     })
+}
+
+/// zc_wants at every front of the answer: of one that is read all but the whole want more, and none wants more than 31 bytes in all; of one that is refused
+/// whatever it is, none wants anything.
+fn unlike_wants(
+    job: &door::Job,
+    dock: &[u8; DOCK],
+    bytes: &[u8],
+    expected: &Outcome,
+) -> Option<String> {
+    let wanted: Vec<u64> = (0..=bytes.len())
+        .map(|at| door::wants(job, dock, &bytes[..at]))
+        .collect();
+    let (whole, fronts) = wanted.split_last()?;
+    let right = match expected.reply {
+        Reply::Refused(_) => wanted.iter().all(|more| *more == 0),
+        _ if unreadable(expected) => (0..)
+            .zip(&wanted)
+            .all(|(at, more)| *more == 0 || at + more <= ANSWER as u64),
+        _ => {
+            *whole == 0
+                && (0..)
+                    .zip(fronts)
+                    .all(|(at, more)| *more > 0 && at + more <= bytes.len() as u64)
+        }
+    };
+    (!right).then(|| {
+        format!(
+            "zc_wants told {wanted:?} at the fronts of {}",
+            hex_line(bytes)
+        )
+    })
+}
+
+fn unreadable(outcome: &Outcome) -> bool {
+    matches!(
+        outcome.reply,
+        Reply::Told(Report::Failed { failure, .. }) if failure.cause == Cause::Unreadable
+    )
 }
 
 fn unlike_report(name: &str, told: Told, expected: &Outcome) -> Option<String> {
