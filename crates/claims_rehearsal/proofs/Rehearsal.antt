@@ -3,13 +3,13 @@
 -- Assumes nothing.
 use mathlib.Core.Bool.{true}
 use mathlib.Core.List.{_++_}
-use mathlib.Core.Path.{_≡_, refl}
+use mathlib.Core.Path.{_≡_, ap, refl}
 use lib.ListN.{replicate}
 use Rattle.dock_answer.specs.Answer.{carriedBy, deciding, exactly, matching, rateMatches, readAnswer, readable, shape, signatureMatches, statuses}
 use Rattle.chip.specs.Step.{byteIn, frameDoes, heardByte, modeByte, reactTo, settled, stepOf}
 use Rattle.chip_state.specs.Refusals.{goodAwaited, goodBegun, goodCollected, goodCore, goodPhase, goodPlaces, goodState, verdictOf}
 use Rattle.claims_rehearsal.specs.Cable.{cable, exchange, speaks}
-use Rattle.claims_rehearsal.specs.Rehearsal.{finishedAfter, holds, mixed, oldCode, oldData, readyAt, rehearsalImage, rehearsed, rehearsedData, theChip, theDataImage}
+use Rattle.claims_rehearsal.specs.Rehearsal.{finishedAfter, holds, Left, left, leftBy, mixed, oldCode, oldData, readyAt, rehearsalImage, rehearsed, rehearsedData, theChip, theDataImage}
 use Rattle.dock.specs.Calls.{askOf, asked, beginOf, freshDock, hearOf, standing, starting, turning}
 use Rattle.chip_commands.specs.Commands.{allowedIn, commandDoes, readingDoes, work}
 use Rattle.commands.specs.Commands.{comOf, commandTable, fitted, informationOf, payloadOf, readCommand, readIn}
@@ -37,74 +37,53 @@ use Rattle.words.specs.Words.{_and_, _from_to_, _or_, if_then_else_}
 use Rattle.frame.specs.Framing.{frames, framing}
 use Rattle.chip_core.specs.Hearing.{hearing}
 
--- Two blocks that were not blank: 3 + 2 * 12 frames. The chip is ready at the job's rate, the image in place, and all other flash as it was.
-pub rehearsal-dock : rehearsed .dock ≡ finishedAfter 27
+-- Each rehearsal is computed once. Two blocks that were not blank: 3 + 2 * 12 frames. The chip is ready at the job's rate, the image in place, and all other flash
+-- as it was.
+rehearsal : leftBy rehearsed (replicate 2048 0x42 ++ rehearsalImage ++ replicate 4096 0x42) oldData ≡ left (finishedAfter 27) (readyAt 0x03)
 unfolding byteIn frameDoes heardByte modeByte reactTo settled stepOf allowedIn commandDoes readingDoes work hearing blank eraseOf sumOfBytes fixedBits
     freshOptions goodOptions isFresh lastBlock optionBytes optionsIn raises released rises security badData dataDoes footerOf goodData isLastPage lengthOf
     nextPage pageIn pageStored programPage securityData storedReply verifyPage framesOf payloads saidOf goodAwaited goodBegun goodCollected goodCore goodPhase
     goodPlaces goodState verdictOf blankCheck blockErase checksum erasedIn forbidden programming rangeBytes rateSet securityRelease verify cable exchange
-    speaks mixed rehearsalImage rehearsed theChip comOf commandTable fitted informationOf payloadOf readCommand readIn askOf asked beginOf freshDock hearOf
-    standing starting turning carriedBy deciding exactly matching rateMatches readAnswer readable shape signatureMatches statuses afterAnswer afterHeard
-    afterSetup afterStatus afterWork blockFrom inBlock next retried saysNotBlank setupFrom firstOfBlock frameAt handOf handed lastOfBlock lastPage pageFooter
-    queryWith storedForm workFrame areaIn blocksIn bound isOver setup badJob badState callVerdict due goodBlock goodDock goodEnding goodFailure goodNamedBlock
-    goodNamedPage goodPage goodStage goodWork isBad outOfTurn shortRoom spent fresh hear heard holding complete counted framed full isFrame payload frames
-    framing fitting judgeOf summed less lessAll sumOf readOf allAre putAt putOf same lowFirst numberAt blockOf blockSize described endsBlock lastOf liesIn
-    pageOf placeIn placeOf rangeOf startsBlock stretch wholeBlocks acceptsRate modeOf firstOf signature _and_ _from_to_ _or_ if_then_else_
-rehearsal-dock = refl
+    speaks holds leftBy mixed rehearsalImage rehearsed theChip comOf commandTable fitted informationOf payloadOf readCommand readIn askOf asked beginOf freshDock
+    hearOf standing starting turning carriedBy deciding exactly matching rateMatches readAnswer readable shape signatureMatches statuses afterAnswer
+    afterHeard afterSetup afterStatus afterWork blockFrom inBlock next retried saysNotBlank setupFrom firstOfBlock frameAt handOf handed lastOfBlock lastPage
+    pageFooter queryWith storedForm workFrame areaIn blocksIn bound isOver setup badJob badState callVerdict due goodBlock goodDock goodEnding goodFailure
+    goodNamedBlock goodNamedPage goodPage goodStage goodWork isBad outOfTurn shortRoom spent fresh hear heard holding complete counted framed full isFrame
+    payload frames framing fitting judgeOf summed less lessAll sumOf readOf allAre putAt putOf same lowFirst numberAt blockOf blockSize described endsBlock
+    lastOf liesIn pageOf placeIn placeOf rangeOf startsBlock stretch wholeBlocks acceptsRate modeOf firstOf signature _and_ _from_to_ _or_ if_then_else_
+rehearsal = refl
+
+pub rehearsal-dock : rehearsed .dock ≡ finishedAfter 27
+unfolding leftBy
+rehearsal-dock = ap (λ (x : Left). x .dock) rehearsal
 
 pub rehearsal-chip : rehearsed .chip .chip .core ≡ readyAt 0x03
-unfolding byteIn frameDoes heardByte modeByte reactTo settled stepOf allowedIn commandDoes readingDoes work hearing blank eraseOf sumOfBytes fixedBits
-    freshOptions goodOptions isFresh lastBlock optionBytes optionsIn raises released rises security badData dataDoes footerOf goodData isLastPage lengthOf
-    nextPage pageIn pageStored programPage securityData storedReply verifyPage framesOf payloads saidOf goodAwaited goodBegun goodCollected goodCore goodPhase
-    goodPlaces goodState verdictOf blankCheck blockErase checksum erasedIn forbidden programming rangeBytes rateSet securityRelease verify cable exchange
-    speaks mixed rehearsalImage rehearsed theChip comOf commandTable fitted informationOf payloadOf readCommand readIn askOf asked beginOf freshDock hearOf
-    standing starting turning carriedBy deciding exactly matching rateMatches readAnswer readable shape signatureMatches statuses afterAnswer afterHeard
-    afterSetup afterStatus afterWork blockFrom inBlock next retried saysNotBlank setupFrom firstOfBlock frameAt handOf handed lastOfBlock lastPage pageFooter
-    queryWith storedForm workFrame areaIn blocksIn bound isOver setup badJob badState callVerdict due goodBlock goodDock goodEnding goodFailure goodNamedBlock
-    goodNamedPage goodPage goodStage goodWork isBad outOfTurn shortRoom spent fresh hear heard holding complete counted framed full isFrame payload frames
-    framing fitting judgeOf summed less lessAll sumOf readOf allAre putAt putOf same lowFirst numberAt blockOf blockSize described endsBlock lastOf liesIn
-    pageOf placeIn placeOf rangeOf startsBlock stretch wholeBlocks acceptsRate modeOf firstOf signature _and_ _from_to_ _or_ if_then_else_
-rehearsal-chip = refl
+unfolding leftBy
+rehearsal-chip = ap (λ (x : Left). x .core) rehearsal
 
 pub rehearsal-flash : holds (rehearsed .chip .memory) (replicate 2048 0x42 ++ rehearsalImage ++ replicate 4096 0x42) oldData ≡ true
-unfolding byteIn frameDoes heardByte modeByte reactTo settled stepOf allowedIn commandDoes readingDoes work hearing blank eraseOf sumOfBytes fixedBits
-    freshOptions goodOptions isFresh lastBlock optionBytes optionsIn raises released rises security badData dataDoes footerOf goodData isLastPage lengthOf
-    nextPage pageIn pageStored programPage securityData storedReply verifyPage framesOf payloads saidOf goodAwaited goodBegun goodCollected goodCore goodPhase
-    goodPlaces goodState verdictOf blankCheck blockErase checksum erasedIn forbidden programming rangeBytes rateSet securityRelease verify cable exchange
-    speaks holds mixed rehearsalImage rehearsed theChip comOf commandTable fitted informationOf payloadOf readCommand readIn askOf asked beginOf freshDock
-    hearOf standing starting turning carriedBy deciding exactly matching rateMatches readAnswer readable shape signatureMatches statuses afterAnswer
-    afterHeard afterSetup afterStatus afterWork blockFrom inBlock next retried saysNotBlank setupFrom firstOfBlock frameAt handOf handed lastOfBlock lastPage
-    pageFooter queryWith storedForm workFrame areaIn blocksIn bound isOver setup badJob badState callVerdict due goodBlock goodDock goodEnding goodFailure
-    goodNamedBlock goodNamedPage goodPage goodStage goodWork isBad outOfTurn shortRoom spent fresh hear heard holding complete counted framed full isFrame
-    payload frames framing fitting judgeOf summed less lessAll sumOf readOf allAre putAt putOf same lowFirst numberAt blockOf blockSize described endsBlock
-    lastOf liesIn pageOf placeIn placeOf rangeOf startsBlock stretch wholeBlocks acceptsRate modeOf firstOf signature _and_ _from_to_ _or_ if_then_else_
-rehearsal-flash = refl
+unfolding leftBy
+rehearsal-flash = ap (λ (x : Left). x .flash) rehearsal
 
 -- One block of data flash: 3 + 12 frames, and no byte of code flash changed.
-pub rehearsal-data : rehearsedData .dock ≡ finishedAfter 15
+data-rehearsal : leftBy rehearsedData oldCode theDataImage ≡ left (finishedAfter 15) (readyAt 0x00)
 unfolding byteIn frameDoes heardByte modeByte reactTo settled stepOf allowedIn commandDoes readingDoes work hearing blank eraseOf sumOfBytes fixedBits
     freshOptions goodOptions isFresh lastBlock optionBytes optionsIn raises released rises security badData dataDoes footerOf goodData isLastPage lengthOf
     nextPage pageIn pageStored programPage securityData storedReply verifyPage framesOf payloads saidOf goodAwaited goodBegun goodCollected goodCore goodPhase
     goodPlaces goodState verdictOf blankCheck blockErase checksum erasedIn forbidden programming rangeBytes rateSet securityRelease verify cable exchange
-    speaks mixed rehearsedData theChip theDataImage comOf commandTable fitted informationOf payloadOf readCommand readIn askOf asked beginOf freshDock hearOf
-    standing starting turning carriedBy deciding exactly matching rateMatches readAnswer readable shape signatureMatches statuses afterAnswer afterHeard
-    afterSetup afterStatus afterWork blockFrom inBlock next retried saysNotBlank setupFrom firstOfBlock frameAt handOf handed lastOfBlock lastPage pageFooter
-    queryWith storedForm workFrame areaIn blocksIn bound isOver setup badJob badState callVerdict due goodBlock goodDock goodEnding goodFailure goodNamedBlock
-    goodNamedPage goodPage goodStage goodWork isBad outOfTurn shortRoom spent fresh hear heard holding complete counted framed full isFrame payload frames
-    framing fitting judgeOf summed less lessAll sumOf readOf allAre putAt putOf same lowFirst numberAt blockOf blockSize described endsBlock lastOf liesIn
-    pageOf placeIn placeOf rangeOf startsBlock stretch wholeBlocks acceptsRate modeOf firstOf signature _and_ _from_to_ _or_ if_then_else_
-rehearsal-data = refl
-
-pub rehearsal-data-flash : holds (rehearsedData .chip .memory) oldCode theDataImage ≡ true
-unfolding byteIn frameDoes heardByte modeByte reactTo settled stepOf allowedIn commandDoes readingDoes work hearing blank eraseOf sumOfBytes fixedBits
-    freshOptions goodOptions isFresh lastBlock optionBytes optionsIn raises released rises security badData dataDoes footerOf goodData isLastPage lengthOf
-    nextPage pageIn pageStored programPage securityData storedReply verifyPage framesOf payloads saidOf goodAwaited goodBegun goodCollected goodCore goodPhase
-    goodPlaces goodState verdictOf blankCheck blockErase checksum erasedIn forbidden programming rangeBytes rateSet securityRelease verify cable exchange
-    speaks holds mixed rehearsedData theChip theDataImage comOf commandTable fitted informationOf payloadOf readCommand readIn askOf asked beginOf freshDock
+    speaks holds leftBy mixed rehearsedData theChip theDataImage comOf commandTable fitted informationOf payloadOf readCommand readIn askOf asked beginOf freshDock
     hearOf standing starting turning carriedBy deciding exactly matching rateMatches readAnswer readable shape signatureMatches statuses afterAnswer
     afterHeard afterSetup afterStatus afterWork blockFrom inBlock next retried saysNotBlank setupFrom firstOfBlock frameAt handOf handed lastOfBlock lastPage
     pageFooter queryWith storedForm workFrame areaIn blocksIn bound isOver setup badJob badState callVerdict due goodBlock goodDock goodEnding goodFailure
     goodNamedBlock goodNamedPage goodPage goodStage goodWork isBad outOfTurn shortRoom spent fresh hear heard holding complete counted framed full isFrame
     payload frames framing fitting judgeOf summed less lessAll sumOf readOf allAre putAt putOf same lowFirst numberAt blockOf blockSize described endsBlock
     lastOf liesIn pageOf placeIn placeOf rangeOf startsBlock stretch wholeBlocks acceptsRate modeOf firstOf signature _and_ _from_to_ _or_ if_then_else_
-rehearsal-data-flash = refl
+data-rehearsal = refl
+
+pub rehearsal-data : rehearsedData .dock ≡ finishedAfter 15
+unfolding leftBy
+rehearsal-data = ap (λ (x : Left). x .dock) data-rehearsal
+
+pub rehearsal-data-flash : holds (rehearsedData .chip .memory) oldCode theDataImage ≡ true
+unfolding leftBy
+rehearsal-data-flash = ap (λ (x : Left). x .flash) data-rehearsal

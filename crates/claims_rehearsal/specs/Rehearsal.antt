@@ -1,5 +1,5 @@
 -- A job of two blocks over flash that is not blank, on a chip that has its mode byte.
-use mathlib.Core.Bool.{Bool, false}
+use mathlib.Core.Bool.{Bool, false, true}
 use mathlib.Core.List.{List, [], _∷_}
 use Prim.Native.Nat.{_%_, _*_, _/_, suc, zero, ℕ}
 use lib.ListN.{replicate}
@@ -84,3 +84,15 @@ readyAt rate = record { options = freshOptions rehearsalPart; rate = rate; phase
 -- Whether both areas of flash hold these bytes.
 unfoldable pub holds : Flash → List ℕ → List ℕ → Bool
 holds m code extra = same (m .codeFlash) code and same (m .dataFlash) extra
+
+-- What a rehearsal leaves: the dock, the chip's record, and whether flash holds these bytes.
+pub record Left : Type 0 where
+  pub dock : Dock
+  pub core : Core
+  pub flash : Bool
+
+unfoldable pub leftBy : Ends → List ℕ → List ℕ → Left
+leftBy e code extra = record { dock = e .dock; core = e .chip .chip .core; flash = holds (e .chip .memory) code extra }
+
+abbrev pub left : Dock → Core → Left
+left d k = record { dock = d; core = k; flash = true }
