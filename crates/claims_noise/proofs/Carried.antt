@@ -17,11 +17,11 @@ use Rattle.claims_noise.proofs.Allowed.{allowed-or-none, done-completes
 use Rattle.claims_noise.proofs.Claims.{LeftAt, left-at}
 use Rattle.claims_fed.proofs.Frames.{Completed, bytes-proper, completed, does-same, fed-is-done, no-frame}
 use Rattle.claims_fed.specs.Fed.{FedIsDone, doesIn}
-use Rattle.claims_noise.proofs.Noise.{Left, noise-run, run-by}
+use Rattle.claims_noise.proofs.Noise.{Left, noise-run}
 use Rattle.claims_noise.proofs.OneByte.{footerIn, good-judged}
 use Rattle.claims_fed.specs.Awaits.{Awaits, AwaitsFrame, awaitsIn, eventOf, goodFor, headerIn, headerOf}
 use Rattle.claims_fed.proofs.Steps.{stepped}
-use Rattle.claims_noise.proofs.Rooms.{as-if}
+use Rattle.claims_noise.proofs.Rooms.{as-if, run-by}
 use Rattle.claims_noise.specs.Claims.{AsIf, Carried, Line, Noise, OneFrameCarried, OnlyThis, frameCame, lastGood, leftAt, lineAfter, noiseOnly, noneGood, runBy}
 use Rattle.claims_noise.specs.Noise.{noFrame, thenAwaits}
 use Rattle.chip_core.specs.Effect.{Effect}

@@ -17,8 +17,8 @@ use Rattle.claims_good.proofs.Rooms.{leaves, reactionOf}
 use Rattle.claims_good.proofs.Stays.{stays}
 use Rattle.chip_state.proofs.Laws.{accepted, accepts}
 use Rattle.claims_good.specs.Good.{Stands, aGap, aPowerOn}
-use Rattle.claims_noise.proofs.Noise.{NoiseLeaves, from-nothing, gap-forgets, leftCore, leftIn, noise-heard, noise-leaves, run-by, run-last}
-use Rattle.claims_noise.proofs.Rooms.{as-if}
+use Rattle.claims_noise.proofs.Noise.{NoiseLeaves, from-nothing, gap-forgets, leftCore, leftIn, noise-heard, noise-leaves, run-last}
+use Rattle.claims_noise.proofs.Rooms.{as-if, run-by}
 use Rattle.claims_noise.specs.Claims.{AsIf, GapEndsNoise, NoiseAtCommand, NoiseAtData, NoiseBranches, PowerOnEndsNoise, commandOver, leftAt, leftBy, runBy, withCollected}
 use Rattle.claims_fed.specs.Awaits.{AwaitsCommand, AwaitsFrame, command, eventOf, inReady, inSetup, page}
 use Rattle.claims_noise.specs.Noise.{dataCompleted, empty, thenGap, thenPowerOn}

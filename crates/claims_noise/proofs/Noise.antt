@@ -4,20 +4,20 @@ use mathlib.Core.Bool.{Bool, false, false≢true, not, true}
 use mathlib.Core.List.{List, [], _++_, _∷_, map}
 use mathlib.Core.Path.{_∙_, _≡_, ap, refl, subst, sym}
 use Prim.Native.Nat.{ℕ}
-use Rattle.chip.specs.Run.{answers, onward, run, spokenIn}
-use Rattle.chip.specs.Step.{Outcome, reactTo, stepOf}
+use Rattle.chip.specs.Run.{onward, run}
+use Rattle.chip.specs.Step.{Outcome, reactTo}
 use Rattle.chip.specs.declared.Event.{Event}
 use Rattle.chip.specs.declared.Event.the-variants.{Gap}
 use Rattle.claims_frame.proofs.Framing.{Same, nothing}
 use Rattle.claims_good.proofs.Rooms.{leaves, reactionOf}
 use Rattle.claims_good.proofs.Stays.{run-stands, stays}
-use Rattle.claims_good.specs.Good.{AllProper, Proper, Stands, Utterance, aGap, andEvent, utterances, uttered}
+use Rattle.claims_good.specs.Good.{AllProper, Proper, Stands, aGap, andEvent}
 use Rattle.claims_fed.proofs.Bad.{bad-frame-does}
 use Rattle.claims_fed.specs.Fed.{badCore}
 use Rattle.claims_fed.proofs.Steps.{Stepped, frameDone, onlyHeard, stepped}
 use Rattle.claims_fed.specs.Awaits.{Awaits, AwaitsFrame, awaitsIn, command, eventOf, goodFor, headerIn, inReady, inSetup, page}
 use Rattle.claims_noise.proofs.Collected.{Leads, chip-stood, leads-frames, leads-quiet}
-use Rattle.claims_noise.specs.Claims.{Line, Noise, NoiseAfter, lineAfter, runBy, saysBy, withCollected}
+use Rattle.claims_noise.specs.Claims.{Line, Noise, NoiseAfter, lineAfter, withCollected}
 use Rattle.claims_noise.specs.Noise.{allows, completesOnly, empty, noFrame, permitted, thenAwaits, thenGap}
 use Rattle.chip_pages.specs.Pages.{ready}
 use Rattle.chip_core.specs.declared.Core.{Core}
@@ -30,17 +30,6 @@ use Rattle.frame.specs.declared.Header.the-variants.{Data}
 use Rattle.part.specs.declared.Part.{Part}
 use Rattle.words.proofs.Laws.{and-left, and-right}
 use Rattle.words.specs.Words.{_and_, _or_, if_then_else_}
-
--- The definition's runs are runs.
-pub run-by : (p : Part) (vs : List Event) (o : Outcome) → runBy stepOf p vs o ≡ run p vs o
-unfolding runBy run
-run-by p [] o = refl
-run-by p (v ∷ vs) o = run-by p vs (onward p o v)
-
-pub says-by : (p : Part) (vs : List Event) (o : Outcome) → saysBy stepOf p vs o ≡ utterances p vs o
-unfolding saysBy utterances answers
-says-by p [] o = refl
-says-by p (v ∷ vs) o = ap (λ (xs : List Utterance). uttered (spokenIn (onward p o v)) ∷ xs) (says-by p vs (onward p o v))
 
 -- The record that noise leaves, from a place in a frame.
 unfoldable pub leftIn : Phase → Core → Framing → List Sound → Core

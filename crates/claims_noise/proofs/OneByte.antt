@@ -17,9 +17,8 @@ use Rattle.claims_fed.proofs.Bad.{bad-frame-does}
 use Rattle.claims_fed.specs.Fed.{badCore, doesIn, silence}
 use Rattle.claims_noise.proofs.Claims.{over-stands}
 use Rattle.claims_fed.proofs.Frames.{bytes-proper, fed-is-done}
-use Rattle.claims_noise.proofs.Noise.{run-by, says-by}
 use Rattle.claims_fed.specs.Awaits.{Awaits, AwaitsFrame, aCommand, aPage, awaitsIn, command, goodFor, headerIn, inReady, inSetup, page}
-use Rattle.claims_noise.proofs.Rooms.{as-if}
+use Rattle.claims_noise.proofs.Rooms.{as-if, run-by, says-by}
 use Rattle.claims_noise.specs.Claims.{OneByteChanged, afterBad, commandOver}
 use Rattle.chip_core.specs.declared.Phase.{Phase}
 use Rattle.chip_core.specs.declared.Phase.the-variants.{Awaiting, ModeByte, Ready, Setup}

@@ -1,14 +1,14 @@
--- What is alike is as if it were the same, whatever rooms are lent to it: the proofs of `AsIf` from `Alike`, and of `ShortRefused`.
+-- What is alike is as if it were the same, whatever rooms are lent to it: the proofs of `AsIf` from `Alike`, of `ShortRefused` and of `AnyRooms`.
 -- Assumes nothing.
 use mathlib.Core.Bool.{not}
-use mathlib.Core.List.{List, [], _∷_}
+use mathlib.Core.List.{List, [], _∷_, map}
 use mathlib.Core.Path.{_∙_, _≡_, ap, refl, sym}
 use Prim.Native.Nat.{_<_, _≤_, ℕ}
 use native.Mathlib.Decide.{decLe}
 use native.Mathlib.Omega.{arith}
 use lib.ListN.{length, length-replicate, replicate}
 use borrow.Author.Tests.{eq-eqb, lt-ltb}
-use Rattle.chip.specs.Run.{Spoken, onward, spokenIn}
+use Rattle.chip.specs.Run.{Spoken, answers, onward, run, spokenIn}
 use Rattle.chip.specs.Step.{Outcome, Reaction, reactTo, settled, stepOf}
 use Rattle.chip.specs.declared.Answer.the-variants.{Refused}
 use Rattle.chip.specs.declared.Event.{Event}
@@ -18,10 +18,10 @@ use Rattle.chip_state.proofs.Laws.{Accepts, accepts}
 use Rattle.chip_state.specs.Refusals.{verdictOf}
 use Rattle.chip_state.specs.declared.Chip.{Chip}
 use Rattle.chip_state.specs.declared.Handed.{Handed}
-use Rattle.claims_good.proofs.Rooms.{alike-onward, stands-anywhere}
-use Rattle.claims_good.proofs.Stays.{onward-is, stays}
-use Rattle.claims_good.specs.Good.{Alike, AllProper, Proper, Stands, andEvent, noEvent, verdictIn}
-use Rattle.claims_noise.specs.Claims.{AsIf, Call, ShortRefused, answersBy, callsBy, eventsIn}
+use Rattle.claims_good.proofs.Rooms.{alike-onward, said-anywhere, same-alike, stands-anywhere}
+use Rattle.claims_good.proofs.Stays.{onward-is, run-stands, stays}
+use Rattle.claims_good.specs.Good.{Alike, AllProper, Proper, SameChip, Stands, Utterance, andEvent, noEvent, utterances, uttered, verdictIn}
+use Rattle.claims_noise.specs.Claims.{AnyRooms, AsIf, Call, Roomy, ShortRefused, andCall, answersBy, callsBy, eventsIn, noCall, runBy, saysBy}
 use Rattle.frame.specs.Collector.{heard}
 use Rattle.part.proofs.Laws.{first-here, first-on}
 use Rattle.part.specs.declared.Part.{Part}
@@ -29,6 +29,17 @@ use Rattle.part.specs.declared.refusal.Refusal.the-variants.{ShortRoom}
 use Rattle.part.specs.declared.refusal.Verdict.{Verdict}
 use Rattle.part.specs.declared.refusal.Verdict.the-variants.{Accepted}
 use Rattle.part.specs.declared.refusal.Verdict.the-variants as Verdict
+
+-- The definition's runs are runs.
+pub run-by : (p : Part) (vs : List Event) (o : Outcome) → runBy stepOf p vs o ≡ run p vs o
+unfolding runBy run
+run-by p [] o = refl
+run-by p (v ∷ vs) o = run-by p vs (onward p o v)
+
+pub says-by : (p : Part) (vs : List Event) (o : Outcome) → saysBy stepOf p vs o ≡ utterances p vs o
+unfolding saysBy utterances answers
+says-by p [] o = refl
+says-by p (v ∷ vs) o = ap (λ (xs : List Utterance). uttered (spokenIn (onward p o v)) ∷ xs) (says-by p vs (onward p o v))
 
 -- The chip and flash that an outcome left, with another room lent.
 abbrev lent : Outcome → List ℕ → Outcome
@@ -138,10 +149,32 @@ alike-calls p (c ∷ cs) o u s t (andEvent h q) a =
     let r = one-call p o u (c .event) (c .room) s t h a in
     alike-calls p cs (onward p (lent o (c .room)) (c .event)) (onward p (lent u (c .room)) (c .event)) (r .one) (r .other) q (r .alike)
 
+living-as-if : (p : Part) (o u : Outcome) → Lives p o → Lives p u → Alike o u → AsIf stepOf p o u
+living-as-if p o u s t a = record { now = a; answers = λ cs q. alike-answers p cs o u s t q a; later = λ cs q. alike-calls p cs o u s t q a }
+
 pub as-if : (p : Part) (o u : Outcome) → Stands p o → Stands p u → Alike o u → AsIf stepOf p o u
-as-if p o u s t a =
+as-if p o u s t a = living-as-if p o u (lives p o o s refl refl) (lives p u u t refl refl) a
+
+-- A run with one room, and the same events with a room each.
+record Along (p : Part) (o u : Outcome) (cs : List Call) : Type 0 where
+  said : map (λ s. uttered s) (answersBy stepOf p cs u) ≡ utterances p (eventsIn cs) o
+  left : SameChip (run p (eventsIn cs) o) (callsBy stepOf p cs u)
+
+along : (p : Part) (cs : List Call) (o u : Outcome) → Stands p o → SameChip o u → AllProper (eventsIn cs) → Roomy cs → Along p o u cs
+unfolding answersBy callsBy run utterances answers
+along p [] o u s e noEvent noCall = record { said = refl; left = e }
+along p (c ∷ cs) o u s e (andEvent h q) (andCall k r) =
+    let x = said-anywhere p o (lent u (c .room)) (c .event) s (record { chip = e .chip; memory = e .memory }) k in
+    let z = along p cs (onward p o (c .event)) (onward p (lent u (c .room)) (c .event)) (stays p o (c .event) s h) (record { chip = x .chip; memory = x .memory }) q r in
+    record { said = rw (z .said, ← x .said); left = z .left }
+
+pub any-rooms : AnyRooms stepOf
+any-rooms p o cs s q r =
+    let z = along p cs o o s (record { chip = refl; memory = refl }) q r in
+    let t = run-stands p (eventsIn cs) o s q in
     record {
-      now = a;
-      answers = λ cs q. alike-answers p cs o u (lives p o o s refl refl) (lives p u u t refl refl) q a;
-      later = λ cs q. alike-calls p cs o u (lives p o o s refl refl) (lives p u u t refl refl) q a;
+      said = z .said ∙ sym (says-by p (eventsIn cs) o);
+      left =
+          rw (run-by p (eventsIn cs) o)
+          (living-as-if p (run p (eventsIn cs) o) (callsBy stepOf p cs o) (lives p _ _ t refl refl) (lives p _ _ t (z .left .chip) (z .left .memory)) (same-alike (z .left)));
     }

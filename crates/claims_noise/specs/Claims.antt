@@ -77,6 +77,18 @@ ShortRefused M =
     (p : Part) (o : Outcome) (v : Event) (room : List ℕ) → Stands p o → length room < 32
     → M p (o .chip) v (o .memory) room ≡ record { answer = Refused ShortRoom; chip = o .chip; memory = o .memory; room = room }
 
+-- The runs below go with one room. It has no part in them: with any rooms that are accepted, one for each event, the same is said, and the chip is as if.
+pub data Roomy : List Call → Type 0 where
+  noCall : Roomy []
+  andCall : {c : Call} {cs : List Call} → 32 ≤ length (c .room) → Roomy cs → Roomy (c ∷ cs)
+
+pub record SameRun (M : Machine) (p : Part) (o : Outcome) (cs : List Call) : Type 0 where
+  pub said : map (λ s. uttered s) (answersBy M p cs o) ≡ saysBy M p (eventsIn cs) o
+  pub left : AsIf M p (runBy M p (eventsIn cs) o) (callsBy M p cs o)
+
+abbrev pub AnyRooms : Machine → Type 0
+AnyRooms M = (p : Part) (o : Outcome) (cs : List Call) → Stands p o → AllProper (eventsIn cs) → Roomy cs → SameRun M p o cs
+
 -- "Take a chip that awaits a command (`AwaitsCommand`), with nothing collected. Let it hear any bytes and gaps in which the framing rule of demand 2 completes
 -- no good frame": g is the one good frame allowed, or none.
 pub record Noise (g : Allowed) (p : Part) (o : Outcome) (vs : List Sound) : Type 0 where
