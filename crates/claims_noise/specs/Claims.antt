@@ -77,7 +77,7 @@ ShortRefused M =
     (p : Part) (o : Outcome) (v : Event) (room : List ℕ) → Stands p o → length room < 32
     → M p (o .chip) v (o .memory) room ≡ record { answer = Refused ShortRoom; chip = o .chip; memory = o .memory; room = room }
 
--- The runs below go with one room. It has no part in them: with any rooms that are accepted, one for each event, the same is said, and the chip is as if.
+-- The runs below go with one room. It has no part in them: any rooms that are accepted, one for each event, are as good as that one.
 pub data Roomy : List Call → Type 0 where
   noCall : Roomy []
   andCall : {c : Call} {cs : List Call} → 32 ≤ length (c .room) → Roomy cs → Roomy (c ∷ cs)

@@ -1,5 +1,5 @@
--- A capture in pieces: the proofs of `InPieces`, `PiecesStand` and `PrintedInPieces`. A report is followed record by record, without the output; with enough output a replay has that
--- report, and reports of records one after the other add up.
+-- A capture in pieces: the proofs of `InPieces`, `PiecesStand` and `PrintedInPieces`. An upshot is followed record by record, without the output; with enough output a
+-- replay has that upshot, and upshots of records one after the other add up.
 -- Assumes nothing.
 use mathlib.Core.List.{List, [], _++_, _∷_, append-assoc, append-nil, map}
 use mathlib.Core.Path.{_∙_, _≡_, ap, refl, subst, sym}
@@ -25,7 +25,7 @@ use Rattle.claims_good.specs.Good.{AllProper, Stands, aGap, andEvent, noEvent}
 use Rattle.claims_replay.proofs.Lines.{FramesIn, frames-append, lines-append, noFrame, played-frames}
 use Rattle.claims_replay.proofs.NeverRefused.{AllBelow, again, all-bytes, andRecord, noRecord, plays, records-below, replay-unhalted}
 use Rattle.claims_replay.specs.Cases.{firstPiece, secondPiece}
-use Rattle.claims_replay.specs.Printed.{Report, freshFlash, lastLine, lines, linesIn, printed, reported}
+use Rattle.claims_replay.specs.Printed.{Upshot, freshFlash, lastLine, lines, linesIn, printed, upshotOf}
 use Rattle.claims_replay.specs.Pieces.{InPieces, Piece, Pieces, PiecesStand, PrintedInPieces, andPiece, andThen, freshStart, inPieces, joined, lastPiece, linesInPieces, noPiece, ofPiece, onlyOn, printedInPieces, starting, whileOn, withPiece}
 use Rattle.frame.proofs.Laws.Sum.{Below, below-drop, below-take}
 use Rattle.part.specs.Part.{Arrays, blockSize}
@@ -41,9 +41,9 @@ use Rattle.replay_play.specs.declared.RecordEnded.the-variants.{NotGood, Played
 use Rattle.replay_play.specs.declared.RecordEnded.the-variants as RecordEnded
 use Rattle.words.specs.Words.{if_then_else_}
 
--- The report of one more record.
-playedReport : Answer → Playing → Report → Report
-playedReport (Replied n k) y g =
+-- The upshot of one more record.
+playedUpshot : Answer → Playing → Upshot → Upshot
+playedUpshot (Replied n k) y g =
     record {
       ended = Whole;
       records = g .records + 1;
@@ -53,7 +53,7 @@ playedReport (Replied n k) y g =
       memory = y .left .memory;
       room = y .left .room;
     }
-playedReport (Answer.Refused r) y g =
+playedUpshot (Answer.Refused r) y g =
     record {
       ended = Ended.Refused r;
       records = g .records + 0;
@@ -64,13 +64,13 @@ playedReport (Answer.Refused r) y g =
       room = y .left .room;
     }
 
-eventsReport : Part → List Event → Report → Report
-eventsReport p vs g = let y = played p vs (beforePlaying (g .chip) (g .memory) (g .room)) in playedReport (y .left .answer) y g
+eventsUpshot : Part → List Event → Upshot → Upshot
+eventsUpshot p vs g = let y = played p vs (beforePlaying (g .chip) (g .memory) (g .room)) in playedUpshot (y .left .answer) y g
 
-recordReport : Record → Part → List ℕ → Report → Report
-recordReport GapRecord p bs g = eventsReport p (eventsOf GapRecord bs) g
-recordReport (BytesRecord n) p bs g = eventsReport p (eventsOf (BytesRecord n) bs) g
-recordReport BadRecord p bs g =
+recordUpshot : Record → Part → List ℕ → Upshot → Upshot
+recordUpshot GapRecord p bs g = eventsUpshot p (eventsOf GapRecord bs) g
+recordUpshot (BytesRecord n) p bs g = eventsUpshot p (eventsOf (BytesRecord n) bs) g
+recordUpshot BadRecord p bs g =
     record {
       ended = AtBadRecord;
       records = g .records + 0;
@@ -81,18 +81,18 @@ recordReport BadRecord p bs g =
       room = g .room;
     }
 
-nextReport : Part → List ℕ → Report → Report
-nextReport p r g = recordReport (recordOf recordSize r) p r g
+nextUpshot : Part → List ℕ → Upshot → Upshot
+nextUpshot p r g = recordUpshot (recordOf recordSize r) p r g
 
-reportFrom : Part → List (List ℕ) → Report → Report
-reportFrom p [] g = g
-reportFrom p (r ∷ rs) g = whileOn (nextReport p r g .ended) (reportFrom p rs (nextReport p r g)) (nextReport p r g)
+upshotFrom : Part → List (List ℕ) → Upshot → Upshot
+upshotFrom p [] g = g
+upshotFrom p (r ∷ rs) g = whileOn (nextUpshot p r g .ended) (upshotFrom p rs (nextUpshot p r g)) (nextUpshot p r g)
 
--- Two reports that agree in what they count and say.
-same-report : (e : Ended) (c : Chip) (m : Flash) (room : List ℕ) {i j k l : ℕ} {s t : List ℕ} → i ≡ j → k ≡ l → s ≡ t
-    → _≡_ {A = Report} (record { ended = e; records = i; frames = k; said = s; chip = c; memory = m; room = room })
+-- Two upshots that agree in what they count and say.
+same-upshot : (e : Ended) (c : Chip) (m : Flash) (room : List ℕ) {i j k l : ℕ} {s t : List ℕ} → i ≡ j → k ≡ l → s ≡ t
+    → _≡_ {A = Upshot} (record { ended = e; records = i; frames = k; said = s; chip = c; memory = m; room = room })
     (record { ended = e; records = j; frames = l; said = t; chip = c; memory = m; room = room })
-same-report e c m room p q r = rw (p, q, r)
+same-upshot e c m room p q r = rw (p, q, r)
 
 -- The output's first bytes after a record's replies.
 grown : (l z : List ℕ) (b n : ℕ) → b ≤ length l → take (b + n) (take b l ++ z) ≡ take b l ++ take n z
@@ -106,29 +106,29 @@ module _ (p : Part) (r : List ℕ) (x : Replaying) (within : x .bytes ≤ length
   rest : List ℕ
   rest = drop (x .bytes) (x .output)
 
-  played-reports : (a : Answer) (y : Playing) → reported (nextBy (endedBy a y) (playedInto y rest) x) ≡ playedReport a y (reported x)
-  unfolding nextBy endedBy playedInto playedReport
-  played-reports (Replied n k) y =
-      same-report Whole _ _ _ refl refl
+  played-upshot : (a : Answer) (y : Playing) → upshotOf (nextBy (endedBy a y) (playedInto y rest) x) ≡ playedUpshot a y (upshotOf x)
+  unfolding nextBy endedBy playedInto playedUpshot
+  played-upshot (Replied n k) y =
+      same-upshot Whole _ _ _ refl refl
       (grown (x .output) (y .said ++ drop (length (y .said)) rest) (x .bytes) (length (y .said)) within
       ∙ ap (λ (s : List ℕ). take (x .bytes) (x .output) ++ s) (take-append-seam (y .said) (drop (length (y .said)) rest)))
-  played-reports (Answer.Refused q) y = same-report (Ended.Refused q) _ _ _ refl refl (grown-none (x .output) _ (x .bytes) within)
+  played-upshot (Answer.Refused q) y = same-upshot (Ended.Refused q) _ _ _ refl refl (grown-none (x .output) _ (x .bytes) within)
 
-  events-report : (vs : List Event) → let t = playWith vs p (x .chip) (x .memory) (x .room) rest in reported (nextBy (t .ended) t x) ≡ eventsReport p vs (reported x)
-  unfolding rest playWith playedInto eventsReport if_then_else_
-  events-report vs =
+  events-upshot : (vs : List Event) → let t = playWith vs p (x .chip) (x .memory) (x .room) rest in upshotOf (nextBy (t .ended) t x) ≡ eventsUpshot p vs (upshotOf x)
+  unfolding rest playWith playedInto eventsUpshot if_then_else_
+  events-upshot vs =
       let y = played p vs (beforePlaying (x .chip) (x .memory) (x .room)) in
-      rw (le-ltb (length (drop (x .bytes) (x .output))) 192 roomy) (played-reports (y .left .answer) y)
+      rw (le-ltb (length (drop (x .bytes) (x .output))) 192 roomy) (played-upshot (y .left .answer) y)
 
-  record-reports : (k : Record) → let t = playBy k p r (x .chip) (x .memory) (x .room) rest in reported (nextBy (t .ended) t x) ≡ recordReport k p r (reported x)
-  unfolding playBy recordReport nextBy
-  record-reports GapRecord = events-report (eventsOf GapRecord r)
-  record-reports (BytesRecord n) = events-report (eventsOf (BytesRecord n) r)
-  record-reports BadRecord = same-report AtBadRecord _ _ _ refl refl (grown-none (x .output) rest (x .bytes) within)
+  record-upshot : (k : Record) → let t = playBy k p r (x .chip) (x .memory) (x .room) rest in upshotOf (nextBy (t .ended) t x) ≡ recordUpshot k p r (upshotOf x)
+  unfolding playBy recordUpshot nextBy
+  record-upshot GapRecord = events-upshot (eventsOf GapRecord r)
+  record-upshot (BytesRecord n) = events-upshot (eventsOf (BytesRecord n) r)
+  record-upshot BadRecord = same-upshot AtBadRecord _ _ _ refl refl (grown-none (x .output) rest (x .bytes) within)
 
-  next-reports : reported (nextOf p r x) ≡ nextReport p r (reported x)
-  unfolding rest playOf nextReport
-  next-reports = record-reports (recordOf recordSize r)
+  next-upshot : upshotOf (nextOf p r x) ≡ nextUpshot p r (upshotOf x)
+  unfolding rest playOf nextUpshot
+  next-upshot = record-upshot (recordOf recordSize r)
 
 -- Output with room for the replies of the records to come.
 record Enough (rs : List (List ℕ)) (x : Replaying) : Type 0 where
@@ -151,79 +151,79 @@ enough-next p r rs x n k a g e =
     ∙ (rw (length-take-le (x .bytes) (x .output) (g .within), play-keeps p r (x .chip) (x .memory) (x .room) l a) (omega (arith, w, g .within))) in
     record { within = omega (arith, o, w, f .bytes n k e, g .within); enough = omega (arith, o, g .enough, f .short n k e) }
 
--- A replay with enough output has the report of its records.
-abbrev thenReport : Part → List (List ℕ) → Report → Report
-thenReport p rs g = whileOn (g .ended) (reportFrom p rs g) g
+-- A replay with enough output has the upshot of its records.
+abbrev thenUpshot : Part → List (List ℕ) → Upshot → Upshot
+thenUpshot p rs g = whileOn (g .ended) (upshotFrom p rs g) g
 
-replayed-reports : (p : Part) (rs : List (List ℕ)) (x : Replaying) → Arrays p → Enough rs x → reported (replayedFrom p rs x) ≡ reportFrom p rs (reported x)
-unfolding replayedFrom reportFrom whileWhole nextBy whileOn
-replayed-reports p [] x a g = refl
-replayed-reports p (r ∷ rs) x a g =
-    go (t .ended) refl (λ y w. replayed-reports p rs y a w)
-    ∙ ap (thenReport p rs) (next-reports p r x (g .within) (room-left r rs x g))
+replayed-upshot : (p : Part) (rs : List (List ℕ)) (x : Replaying) → Arrays p → Enough rs x → upshotOf (replayedFrom p rs x) ≡ upshotFrom p rs (upshotOf x)
+unfolding replayedFrom upshotFrom whileWhole nextBy whileOn
+replayed-upshot p [] x a g = refl
+replayed-upshot p (r ∷ rs) x a g =
+    go (t .ended) refl (λ y w. replayed-upshot p rs y a w)
+    ∙ ap (thenUpshot p rs) (next-upshot p r x (g .within) (room-left r rs x g))
   where
     t : RecordPlaying
     t = playOf p r (x .chip) (x .memory) (x .room) (drop (x .bytes) (x .output))
 
-    go : (b : RecordEnded) → t .ended ≡ b → ((y : Replaying) → Enough rs y → reported (replayedFrom p rs y) ≡ reportFrom p rs (reported y))
-        → reported (whileWhole (nextBy b t x .ended) (replayedFrom p rs (nextBy b t x)) (nextBy b t x)) ≡ thenReport p rs (reported (nextBy b t x))
+    go : (b : RecordEnded) → t .ended ≡ b → ((y : Replaying) → Enough rs y → upshotOf (replayedFrom p rs y) ≡ upshotFrom p rs (upshotOf y))
+        → upshotOf (whileWhole (nextBy b t x .ended) (replayedFrom p rs (nextBy b t x)) (nextBy b t x)) ≡ thenUpshot p rs (upshotOf (nextBy b t x))
     go (Played n k) e rest = rest (afterRecord Whole 1 n k t x) (enough-next p r rs x n k a g e)
     go NotGood e rest = refl
     go (RecordEnded.Refused s) e rest = refl
 
-replay-reports : (p : Part) (capture : List ℕ) (c : Chip) (m : Flash) (room output : List ℕ) → Arrays p → outputLeast * length (recordsOf recordSize capture) ≤ length output
-    → reported (replayOf p capture c m room output) ≡ reportFrom p (recordsOf recordSize capture) (starting c m room)
+replay-upshot : (p : Part) (capture : List ℕ) (c : Chip) (m : Flash) (room output : List ℕ) → Arrays p → outputLeast * length (recordsOf recordSize capture) ≤ length output
+    → upshotOf (replayOf p capture c m room output) ≡ upshotFrom p (recordsOf recordSize capture) (starting c m room)
 unfolding replayOf
-replay-reports p capture c m room output a h =
-    replayed-reports p (recordsOf recordSize capture)
+replay-upshot p capture c m room output a h =
+    replayed-upshot p (recordsOf recordSize capture)
     (record { ended = Whole; records = 0; bytes = 0; frames = 0; chip = c; memory = m; room = room; output = output }) a
     (record { within = omega arith; enough = omega (arith, h) })
 
--- Reports add up: what came before a record has no part in what it adds.
-played-adds : (a : Answer) (y : Playing) (g h : Report) → playedReport a y (andThen g h) ≡ andThen g (playedReport a y h)
-unfolding playedReport
-played-adds (Replied n k) y g h = same-report Whole _ _ _ (omega arith) (omega arith) (append-assoc (g .said) (h .said) (y .said))
-played-adds (Answer.Refused r) y g h = same-report (Ended.Refused r) _ _ _ (omega arith) (omega arith) refl
+-- Upshots add up: what came before a record has no part in what it adds.
+played-adds : (a : Answer) (y : Playing) (g h : Upshot) → playedUpshot a y (andThen g h) ≡ andThen g (playedUpshot a y h)
+unfolding playedUpshot
+played-adds (Replied n k) y g h = same-upshot Whole _ _ _ (omega arith) (omega arith) (append-assoc (g .said) (h .said) (y .said))
+played-adds (Answer.Refused r) y g h = same-upshot (Ended.Refused r) _ _ _ (omega arith) (omega arith) refl
 
-record-adds : (k : Record) (p : Part) (r : List ℕ) (g h : Report) → recordReport k p r (andThen g h) ≡ andThen g (recordReport k p r h)
-unfolding recordReport eventsReport
+record-adds : (k : Record) (p : Part) (r : List ℕ) (g h : Upshot) → recordUpshot k p r (andThen g h) ≡ andThen g (recordUpshot k p r h)
+unfolding recordUpshot eventsUpshot
 record-adds GapRecord p r g h = played-adds _ _ g h
 record-adds (BytesRecord n) p r g h = played-adds _ _ g h
-record-adds BadRecord p r g h = same-report AtBadRecord _ _ _ (omega arith) (omega arith) refl
+record-adds BadRecord p r g h = same-upshot AtBadRecord _ _ _ (omega arith) (omega arith) refl
 
-while-adds : (e : Ended) (g x y : Report) → whileOn e (andThen g x) (andThen g y) ≡ andThen g (whileOn e x y)
+while-adds : (e : Ended) (g x y : Upshot) → whileOn e (andThen g x) (andThen g y) ≡ andThen g (whileOn e x y)
 unfolding whileOn
 while-adds Whole g x y = refl
 while-adds AtBadRecord g x y = refl
 while-adds (Ended.Refused r) g x y = refl
 
-next-adds : (p : Part) (r : List ℕ) (g h : Report) → nextReport p r (andThen g h) ≡ andThen g (nextReport p r h)
-unfolding nextReport
+next-adds : (p : Part) (r : List ℕ) (g h : Upshot) → nextUpshot p r (andThen g h) ≡ andThen g (nextUpshot p r h)
+unfolding nextUpshot
 next-adds p r g h = record-adds (recordOf recordSize r) p r g h
 
-reports-add : (p : Part) (rs : List (List ℕ)) (g h : Report) → reportFrom p rs (andThen g h) ≡ andThen g (reportFrom p rs h)
-unfolding reportFrom
-reports-add p [] g h = refl
-reports-add p (r ∷ rs) g h =
-    let k = nextReport p r h in
-    ap (thenReport p rs) (next-adds p r g h)
-    ∙ ap (λ (z : Report). whileOn (k .ended) z (andThen g k)) (reports-add p rs g k)
-    ∙ while-adds (k .ended) g (reportFrom p rs k) k
+upshots-add : (p : Part) (rs : List (List ℕ)) (g h : Upshot) → upshotFrom p rs (andThen g h) ≡ andThen g (upshotFrom p rs h)
+unfolding upshotFrom
+upshots-add p [] g h = refl
+upshots-add p (r ∷ rs) g h =
+    let k = nextUpshot p r h in
+    ap (thenUpshot p rs) (next-adds p r g h)
+    ∙ ap (λ (z : Upshot). whileOn (k .ended) z (andThen g k)) (upshots-add p rs g k)
+    ∙ while-adds (k .ended) g (upshotFrom p rs k) k
 
 -- Records and then more records.
-reports-append : (p : Part) (rs ss : List (List ℕ)) (g : Report) → g .ended ≡ Whole → reportFrom p (rs ++ ss) g ≡ thenReport p ss (reportFrom p rs g)
-unfolding reportFrom whileOn
-reports-append p [] ss g e = sym (ap (λ (z : Ended). whileOn z (reportFrom p ss g) g) e)
-reports-append p (r ∷ rs) ss g e = go (k .ended) refl (λ q. reports-append p rs ss k q)
+upshots-append : (p : Part) (rs ss : List (List ℕ)) (g : Upshot) → g .ended ≡ Whole → upshotFrom p (rs ++ ss) g ≡ thenUpshot p ss (upshotFrom p rs g)
+unfolding upshotFrom whileOn
+upshots-append p [] ss g e = sym (ap (λ (z : Ended). whileOn z (upshotFrom p ss g) g) e)
+upshots-append p (r ∷ rs) ss g e = go (k .ended) refl (λ q. upshots-append p rs ss k q)
   where
-    k : Report
-    k = nextReport p r g
+    k : Upshot
+    k = nextUpshot p r g
 
-    go : (z : Ended) → k .ended ≡ z → (k .ended ≡ Whole → reportFrom p (rs ++ ss) k ≡ thenReport p ss (reportFrom p rs k))
-        → whileOn z (reportFrom p (rs ++ ss) k) k ≡ thenReport p ss (whileOn z (reportFrom p rs k) k)
+    go : (z : Ended) → k .ended ≡ z → (k .ended ≡ Whole → upshotFrom p (rs ++ ss) k ≡ thenUpshot p ss (upshotFrom p rs k))
+        → whileOn z (upshotFrom p (rs ++ ss) k) k ≡ thenUpshot p ss (whileOn z (upshotFrom p rs k) k)
     go Whole q next = next q
-    go AtBadRecord q next = sym (ap (λ (z : Ended). whileOn z (reportFrom p ss k) k) q)
-    go (Ended.Refused x) q next = sym (ap (λ (z : Ended). whileOn z (reportFrom p ss k) k) q)
+    go AtBadRecord q next = sym (ap (λ (z : Ended). whileOn z (upshotFrom p ss k) k) q)
+    go (Ended.Refused x) q next = sym (ap (λ (z : Ended). whileOn z (upshotFrom p ss k) k) q)
 
 -- The records of a capture whose first piece is whole records.
 fuel : (m n : ℕ) (bs : List ℕ) → length bs ≤ m → length bs ≤ n → recordsIn recordSize m bs ≡ recordsIn recordSize n bs
@@ -263,50 +263,50 @@ unfolding recordsOf
 records-append a b e = cut-at (length a) a b (omega arith) e
 
 -- One more piece is its records.
-and-start : (g : Report) → g .ended ≡ Whole → andThen g (starting (g .chip) (g .memory) (g .room)) ≡ g
+and-start : (g : Upshot) → g .ended ≡ Whole → andThen g (starting (g .chip) (g .memory) (g .room)) ≡ g
 and-start g e =
-    same-report Whole (g .chip) (g .memory) (g .room) (omega arith) (omega arith) (append-nil (g .said))
-    ∙ ap {B = Report}
+    same-upshot Whole (g .chip) (g .memory) (g .room) (omega arith) (omega arith) (append-nil (g .said))
+    ∙ ap {B = Upshot}
     (λ (z : Ended). record { ended = z; records = g .records; frames = g .frames; said = g .said; chip = g .chip; memory = g .memory; room = g .room }) (sym e)
 
-piece-reports : (p : Part) (g : Report) (q : Piece) → Arrays p → g .ended ≡ Whole → outputLeast * length (recordsOf recordSize (q .capture)) ≤ length (q .output)
-    → withPiece p g q ≡ reportFrom p (recordsOf recordSize (q .capture)) g
-piece-reports p g q a e h =
-    ap (λ (x : Report). andThen g x) (replay-reports p (q .capture) (g .chip) (g .memory) (g .room) (q .output) a h)
-    ∙ sym (reports-add p (recordsOf recordSize (q .capture)) g (starting (g .chip) (g .memory) (g .room)))
-    ∙ ap (reportFrom p (recordsOf recordSize (q .capture))) (and-start g e)
+piece-upshot : (p : Part) (g : Upshot) (q : Piece) → Arrays p → g .ended ≡ Whole → outputLeast * length (recordsOf recordSize (q .capture)) ≤ length (q .output)
+    → withPiece p g q ≡ upshotFrom p (recordsOf recordSize (q .capture)) g
+piece-upshot p g q a e h =
+    ap (λ (x : Upshot). andThen g x) (replay-upshot p (q .capture) (g .chip) (g .memory) (g .room) (q .output) a h)
+    ∙ sym (upshots-add p (recordsOf recordSize (q .capture)) g (starting (g .chip) (g .memory) (g .room)))
+    ∙ ap (upshotFrom p (recordsOf recordSize (q .capture))) (and-start g e)
 
-while-same : (e : Ended) (g : Report) → whileOn e g g ≡ g
+while-same : (e : Ended) (g : Upshot) → whileOn e g g ≡ g
 unfolding whileOn
 while-same Whole g = refl
 while-same AtBadRecord g = refl
 while-same (Ended.Refused r) g = refl
 
-pieces-report : (p : Part) (qs : List Piece) (g : Report) → Arrays p → Pieces qs → g .ended ≡ Whole → inPieces p qs g ≡ reportFrom p (recordsOf recordSize (joined qs)) g
-unfolding inPieces joined recordsOf recordsIn reportFrom whileOn
-pieces-report p [] g a noPiece e = refl
-pieces-report p (q ∷ []) g a (lastPiece x h) e =
+pieces-upshot : (p : Part) (qs : List Piece) (g : Upshot) → Arrays p → Pieces qs → g .ended ≡ Whole → inPieces p qs g ≡ upshotFrom p (recordsOf recordSize (joined qs)) g
+unfolding inPieces joined recordsOf recordsIn upshotFrom whileOn
+pieces-upshot p [] g a noPiece e = refl
+pieces-upshot p (q ∷ []) g a (lastPiece x h) e =
     while-same (withPiece p g q .ended) (withPiece p g q)
-    ∙ piece-reports p g q a e h
-    ∙ ap (λ (bs : List ℕ). reportFrom p (recordsOf recordSize bs) g) (sym (append-nil (q .capture)))
-pieces-report p (q ∷ qs) g a (andPiece x xs w h r) e =
-    ap (λ (z : Report). whileOn (z .ended) (inPieces p qs z) z) (piece-reports p g q a e h)
-    ∙ go (k .ended) refl (λ z. pieces-report p qs k a r z)
-    ∙ sym (reports-append p (recordsOf recordSize (q .capture)) (recordsOf recordSize (joined qs)) g e)
-    ∙ ap (λ (rs : List (List ℕ)). reportFrom p rs g) (sym (records-append (q .capture) (joined qs) w))
+    ∙ piece-upshot p g q a e h
+    ∙ ap (λ (bs : List ℕ). upshotFrom p (recordsOf recordSize bs) g) (sym (append-nil (q .capture)))
+pieces-upshot p (q ∷ qs) g a (andPiece x xs w h r) e =
+    ap (λ (z : Upshot). whileOn (z .ended) (inPieces p qs z) z) (piece-upshot p g q a e h)
+    ∙ go (k .ended) refl (λ z. pieces-upshot p qs k a r z)
+    ∙ sym (upshots-append p (recordsOf recordSize (q .capture)) (recordsOf recordSize (joined qs)) g e)
+    ∙ ap (λ (rs : List (List ℕ)). upshotFrom p rs g) (sym (records-append (q .capture) (joined qs) w))
   where
-    k : Report
-    k = reportFrom p (recordsOf recordSize (q .capture)) g
+    k : Upshot
+    k = upshotFrom p (recordsOf recordSize (q .capture)) g
 
-    go : (z : Ended) → k .ended ≡ z → (k .ended ≡ Whole → inPieces p qs k ≡ reportFrom p (recordsOf recordSize (joined qs)) k)
-        → whileOn z (inPieces p qs k) k ≡ whileOn z (reportFrom p (recordsOf recordSize (joined qs)) k) k
+    go : (z : Ended) → k .ended ≡ z → (k .ended ≡ Whole → inPieces p qs k ≡ upshotFrom p (recordsOf recordSize (joined qs)) k)
+        → whileOn z (inPieces p qs k) k ≡ whileOn z (upshotFrom p (recordsOf recordSize (joined qs)) k) k
     go Whole y next = next y
     go AtBadRecord y next = refl
     go (Ended.Refused x) y next = refl
 
 pub in-pieces : InPieces
 in-pieces p qs c m room output a r h =
-    pieces-report p qs (starting c m room) a r refl ∙ sym (replay-reports p (joined qs) c m room output a h)
+    pieces-upshot p qs (starting c m room) a r refl ∙ sym (replay-upshot p (joined qs) c m room output a h)
 
 pub pieces-stand : PiecesStand
 pieces-stand p qs c m room s b r =
@@ -316,58 +316,58 @@ pieces-stand p qs c m room s b r =
     let u = replay-unhalted p (joined qs) c m room output s b h in
     rw (in-pieces p qs c m room output (s .arrays) r h) (record { stands = u .stands; unrefused = u .unrefused })
 
--- A report of whole frames and a chip that stands stays one.
-record Kept (p : Part) (g : Report) : Type 0 where
+-- An upshot of whole frames and a chip that stands stays one.
+record Kept (p : Part) (g : Upshot) : Type 0 where
   stands : Stands p (before (g .chip) (g .memory) (g .room))
   frames : FramesIn (g .said)
 
-played-kept : (p : Part) (a : Answer) (y : Playing) (g : Report) → Stands p (y .left) → FramesIn (y .said) → Kept p g → Kept p (playedReport a y g)
-unfolding playedReport
+played-kept : (p : Part) (a : Answer) (y : Playing) (g : Upshot) → Stands p (y .left) → FramesIn (y .said) → Kept p g → Kept p (playedUpshot a y g)
+unfolding playedUpshot
 played-kept p (Replied n i) y g s f k = record { stands = again s; frames = frames-append (k .frames) f }
 played-kept p (Answer.Refused r) y g s f k = record { stands = again s; frames = k .frames }
 
-events-kept : (p : Part) (vs : List Event) (g : Report) → AllProper vs → Kept p g → Kept p (eventsReport p vs g)
-unfolding eventsReport
+events-kept : (p : Part) (vs : List Event) (g : Upshot) → AllProper vs → Kept p g → Kept p (eventsUpshot p vs g)
+unfolding eventsUpshot
 events-kept p vs g q k =
     let b = beforePlaying (g .chip) (g .memory) (g .room) in
     let w = plays p vs b (record { bytes = 0; frames = 0; replied = refl; stands = k .stands }) q in
     played-kept p _ (played p vs b) g (w .stands) (played-frames p vs b (k .stands) q noFrame) k
 
-record-kept : (e : Record) (p : Part) (r : List ℕ) (g : Report) → Below 256 r → Kept p g → Kept p (recordReport e p r g)
-unfolding recordReport eventsOf
+record-kept : (e : Record) (p : Part) (r : List ℕ) (g : Upshot) → Below 256 r → Kept p g → Kept p (recordUpshot e p r g)
+unfolding recordUpshot eventsOf
 record-kept GapRecord p r g b k = events-kept p (Gap ∷ []) g (andEvent aGap noEvent) k
 record-kept (BytesRecord n) p r g b k = events-kept p (map Byte (carriedBytes n r)) g (all-bytes (carriedBytes n r) (below-take 256 n (below-drop 256 2 b))) k
 record-kept BadRecord p r g b k = record { stands = k .stands; frames = k .frames }
 
-while-kept : (p : Part) (e : Ended) (x y : Report) → Kept p x → Kept p y → Kept p (whileOn e x y)
+while-kept : (p : Part) (e : Ended) (x y : Upshot) → Kept p x → Kept p y → Kept p (whileOn e x y)
 unfolding whileOn
 while-kept p Whole x y k l = k
 while-kept p AtBadRecord x y k l = l
 while-kept p (Ended.Refused r) x y k l = l
 
-reports-kept : (p : Part) (rs : List (List ℕ)) (g : Report) → AllBelow rs → Kept p g → Kept p (reportFrom p rs g)
-unfolding reportFrom nextReport
-reports-kept p [] g noRecord k = k
-reports-kept p (r ∷ rs) g (andRecord b bs) k =
+upshots-kept : (p : Part) (rs : List (List ℕ)) (g : Upshot) → AllBelow rs → Kept p g → Kept p (upshotFrom p rs g)
+unfolding upshotFrom nextUpshot
+upshots-kept p [] g noRecord k = k
+upshots-kept p (r ∷ rs) g (andRecord b bs) k =
     let l = record-kept (recordOf recordSize r) p r g b k in
-    while-kept p _ _ _ (reports-kept p rs (nextReport p r g) bs l) l
+    while-kept p _ _ _ (upshots-kept p rs (nextUpshot p r g) bs l) l
 
-capture-kept : (p : Part) (capture : List ℕ) (g : Report) → Below 256 capture → Kept p g → Kept p (reportFrom p (recordsOf recordSize capture) g)
+capture-kept : (p : Part) (capture : List ℕ) (g : Upshot) → Below 256 capture → Kept p g → Kept p (upshotFrom p (recordsOf recordSize capture) g)
 unfolding recordsOf
-capture-kept p capture g b k = reports-kept p (recordsIn recordSize (length capture) capture) g (records-below (length capture) capture b) k
+capture-kept p capture g b k = upshots-kept p (recordsIn recordSize (length capture) capture) g (records-below (length capture) capture b) k
 
 -- The lines of the pieces.
-module _ (p : Part) (q : Piece) (qs : List Piece) (g : Report) (kept : Kept p g) (e : g .ended ≡ Whole)
+module _ (p : Part) (q : Piece) (qs : List Piece) (g : Upshot) (kept : Kept p g) (e : g .ended ≡ Whole)
     (h : outputLeast * length (recordsOf recordSize (q .capture)) ≤ length (q .output)) (b : Below 256 (q .capture))
-    (rest : (k : Report) → Kept p k → k .ended ≡ Whole → lines (k .said) ++ linesInPieces p qs k ≡ lines (inPieces p qs k .said)) where
+    (rest : (k : Upshot) → Kept p k → k .ended ≡ Whole → lines (k .said) ++ linesInPieces p qs k ≡ lines (inPieces p qs k .said)) where
   piece-kept : Kept p (withPiece p g q)
-  piece-kept = rw (piece-reports p g q (kept .stands .arrays) e h) (capture-kept p (q .capture) g b kept)
+  piece-kept = rw (piece-upshot p g q (kept .stands .arrays) e h) (capture-kept p (q .capture) g b kept)
 
   piece-lines : lines (g .said) ++ linesInPieces p (q ∷ qs) g ≡ lines (inPieces p (q ∷ qs) g .said)
   unfolding linesInPieces inPieces onlyOn whileOn
   piece-lines = go (k .ended) refl
     where
-      k : Report
+      k : Upshot
       k = withPiece p g q
 
       shown : lines (k .said) ≡ lines (g .said) ++ lines (ofPiece p g q .said)
@@ -388,7 +388,7 @@ below-front xs ys b = subst (λ (l : List ℕ). Below 256 l) (take-append-seam x
 below-back : (xs ys : List ℕ) → Below 256 (xs ++ ys) → Below 256 ys
 below-back xs ys b = subst (λ (l : List ℕ). Below 256 l) (drop-append-seam xs ys) (below-drop 256 (length xs) b)
 
-pieces-lines : (p : Part) (qs : List Piece) (g : Report) → Pieces qs → Below 256 (joined qs) → Kept p g → g .ended ≡ Whole
+pieces-lines : (p : Part) (qs : List Piece) (g : Upshot) → Pieces qs → Below 256 (joined qs) → Kept p g → g .ended ≡ Whole
     → lines (g .said) ++ linesInPieces p qs g ≡ lines (inPieces p qs g .said)
 unfolding joined linesInPieces inPieces
 pieces-lines p [] g noPiece b k e = append-nil (lines (g .said))
@@ -423,7 +423,7 @@ unfolding printedInPieces printed linesIn
 printed-in-pieces qs b r =
     let g = inPieces replayPart qs freshStart in
     ap (λ (t : List ℕ). t ++ lastLine g (g .ended)) (pieces-lines replayPart qs freshStart r b fresh-kept refl)
-    ∙ ap (λ (z : Report). lines (z .said) ++ lastLine z (z .ended))
+    ∙ ap (λ (z : Upshot). lines (z .said) ++ lastLine z (z .ended))
     (in-pieces replayPart qs (freshChip replayPart) freshFlash (replicate 32 0x00) (replicate (outputLeast * length (joined qs)) 0x00) (fresh-kept .stands .arrays) r
     (fresh-output (joined qs)))
 

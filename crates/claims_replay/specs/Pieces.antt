@@ -10,7 +10,7 @@ use Rattle.chip.specs.Step.{freshChip}
 use Rattle.chip_state.specs.declared.Chip.{Chip}
 use Rattle.claims_good.specs.Good.{Stands}
 use Rattle.chip_core.specs.Effect.{Flash}
-use Rattle.claims_replay.specs.Printed.{Report, freshFlash, lastLine, lines, printed, reported}
+use Rattle.claims_replay.specs.Printed.{Upshot, freshFlash, lastLine, lines, printed, upshotOf}
 use Rattle.frame.proofs.Laws.Sum.{Below}
 use Rattle.part.specs.Part.{Arrays}
 use Rattle.part.specs.declared.Part.{Part}
@@ -20,11 +20,11 @@ use Rattle.replay_play.specs.Play.{outputLeast}
 use Rattle.replay_records.specs.declared.Ended.{Ended}
 use Rattle.replay_records.specs.declared.Ended.the-variants.{AtBadRecord, Refused, Whole}
 
-abbrev pub starting : Chip → Flash → List ℕ → Report
+abbrev pub starting : Chip → Flash → List ℕ → Upshot
 starting c m room = record { ended = Whole; records = 0; frames = 0; said = []; chip = c; memory = m; room = room }
 
--- One report after another: the numbers add up, the frames follow each other, and the last one says how it ended and what is left.
-abbrev pub andThen : Report → Report → Report
+-- One upshot after another: the numbers add up, the frames follow each other, and the last one says how it ended and what is left.
+abbrev pub andThen : Upshot → Upshot → Upshot
 andThen g h =
     record {
       ended = h .ended;
@@ -41,19 +41,19 @@ pub record Piece : Type 0 where
   pub output : List ℕ
 
 -- One more piece, to the chip that was left.
-abbrev pub ofPiece : Part → Report → Piece → Report
-ofPiece p g q = reported (replayOf p (q .capture) (g .chip) (g .memory) (g .room) (q .output))
+abbrev pub ofPiece : Part → Upshot → Piece → Upshot
+ofPiece p g q = upshotOf (replayOf p (q .capture) (g .chip) (g .memory) (g .room) (q .output))
 
-abbrev pub withPiece : Part → Report → Piece → Report
+abbrev pub withPiece : Part → Upshot → Piece → Upshot
 withPiece p g q = andThen g (ofPiece p g q)
 
 -- Only a piece that was replayed whole is followed by the next.
-unfoldable pub whileOn : Ended → Report → Report → Report
+unfoldable pub whileOn : Ended → Upshot → Upshot → Upshot
 whileOn Whole rest g = rest
 whileOn AtBadRecord rest g = g
 whileOn (Refused r) rest g = g
 
-unfoldable pub inPieces : Part → List Piece → Report → Report
+unfoldable pub inPieces : Part → List Piece → Upshot → Upshot
 inPieces p [] g = g
 inPieces p (q ∷ qs) g = whileOn (withPiece p g q .ended) (inPieces p qs (withPiece p g q)) (withPiece p g q)
 
@@ -71,14 +71,14 @@ pub data Pieces : List Piece → Type 0 where
   lastPiece : (q : Piece) → Suffices (q .capture) (q .output) → Pieces (q ∷ [])
   andPiece : (q : Piece) (qs : List Piece) → length (q .capture) % recordSize ≡ 0 → Suffices (q .capture) (q .output) → Pieces qs → Pieces (q ∷ qs)
 
--- The pieces together report what the whole reports, its record numbers included: a bad record's number is that in the whole capture.
+-- The pieces together have the upshot of the whole, its record numbers included: a bad record's number is that in the whole capture.
 abbrev pub InPieces : Type 0
 InPieces =
     (p : Part) (qs : List Piece) (c : Chip) (m : Flash) (room output : List ℕ) → Arrays p → Pieces qs → Suffices (joined qs) output
-    → inPieces p qs (starting c m room) ≡ reported (replayOf p (joined qs) c m room output)
+    → inPieces p qs (starting c m room) ≡ upshotOf (replayOf p (joined qs) c m room output)
 
 -- From a chip that stands, no piece is refused, and the chip stands after each.
-pub record Standing (p : Part) (g : Report) : Type 0 where
+pub record Standing (p : Part) (g : Upshot) : Type 0 where
   pub stands : Stands p (before (g .chip) (g .memory) (g .room))
   pub unrefused : (r : Refusal) → g .ended ≡ Refused r → ⊥
 
@@ -93,11 +93,11 @@ onlyOn Whole text = text
 onlyOn AtBadRecord text = []
 onlyOn (Refused r) text = []
 
-unfoldable pub linesInPieces : Part → List Piece → Report → List ℕ
+unfoldable pub linesInPieces : Part → List Piece → Upshot → List ℕ
 linesInPieces p [] g = []
 linesInPieces p (q ∷ qs) g = lines (ofPiece p g q .said) ++ onlyOn (withPiece p g q .ended) (linesInPieces p qs (withPiece p g q))
 
-abbrev pub freshStart : Report
+abbrev pub freshStart : Upshot
 freshStart = starting (freshChip replayPart) freshFlash (replicate 32 0x00)
 
 unfoldable pub printedInPieces : List Piece → List ℕ

@@ -33,8 +33,8 @@ digitsIn (suc most) n = if ltb n 10 then (0x30 + n) ∷ [] else digitsIn most (n
 abbrev pub decimal : ℕ → List ℕ
 decimal n = digitsIn (suc n) n
 
--- What a replay reports: how it ended, how many records were played, the reply frames end to end and their number, and what it leaves.
-pub record Report : Type 0 where
+-- The upshot of a replay: how it ended, how many records were played, the reply frames end to end and their number, and what it leaves.
+pub record Upshot : Type 0 where
   pub ended : Ended
   pub records : ℕ
   pub frames : ℕ
@@ -43,8 +43,8 @@ pub record Report : Type 0 where
   pub memory : Flash
   pub room : List ℕ
 
-abbrev pub reported : Replaying → Report
-reported x =
+abbrev pub upshotOf : Replaying → Upshot
+upshotOf x =
     record {
       ended = x .ended;
       records = x .records;
@@ -56,7 +56,7 @@ reported x =
     }
 
 -- "a bad or short record prints `BAD`, a space and its number from 0, and stops there; else the last line is `END` and the count of reply frames"
-unfoldable pub lastLine : Report → Ended → List ℕ
+unfoldable pub lastLine : Upshot → Ended → List ℕ
 lastLine x Whole = 0x45 ∷ 0x4E ∷ 0x44 ∷ 0x20 ∷ decimal (x .frames) ++ 0x0A ∷ []
 lastLine x AtBadRecord = 0x42 ∷ 0x41 ∷ 0x44 ∷ 0x20 ∷ decimal (x .records) ++ 0x0A ∷ []
 lastLine x (Refused r) = []
@@ -70,4 +70,4 @@ freshReplay capture =
     replayOf replayPart capture (freshChip replayPart) freshFlash (replicate 32 0x00) (replicate (outputLeast * length capture) 0x00)
 
 unfoldable pub printed : List ℕ → List ℕ
-printed capture = let g = reported (freshReplay capture) in lines (g .said) ++ lastLine g (g .ended)
+printed capture = let g = upshotOf (freshReplay capture) in lines (g .said) ++ lastLine g (g .ended)
