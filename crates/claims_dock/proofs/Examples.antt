@@ -5,7 +5,7 @@ use mathlib.Core.Path.{_≡_, refl}
 use lib.ListN.{length}
 use Rattle.dock_answer.specs.Answer.{carriedBy, deciding, exactly, matching, rateMatches, readAnswer, readable, shape, signatureMatches, statuses}
 use Rattle.claims_dock.specs.Examples.{Frame, PlaceRow, RefusalRow, framesPrinted, places, refusals, twoBlockImage, twoBlockJob, worst}
-use Rattle.claims_dock.specs.Order.{before, has, inOrder, order, refusedBy}
+use Rattle.claims_dock.specs.Order.{beforeEach, dockOrder, has, inOrder, refusedBy}
 use Rattle.dock.specs.Calls.{askOf, asked, beginOf, hearOf, standing, starting, turning}
 use Rattle.dock_flow.specs.Flow.{afterAnswer, afterHeard, afterSetup, afterStatus, afterWork, blockFrom, exchanges, flow, framesIn, inBlock, next, placeAfter, retried, saysNotBlank, setupFrom, spentIn}
 use Rattle.dock_flow.specs.Frames.{firstOfBlock, frameAt, handOf, handed, lastOfBlock, lastPage, pageFooter, queryWith, storedForm, workFrame}
@@ -55,8 +55,8 @@ unfolding refusals areaIn blocksIn bound isOver setup badJob badState callVerdic
 refusals-expected = refl
 
 -- "Order .. for the dock: 1, 5, 6, 7, 9, 4, 8", for each call and each two of its numbers.
-pub order-expected : map (λ (x : RefusalRow). x .gives) order ≡ map (λ (x : RefusalRow). x .expected) order
-unfolding order inOrder before has refusedBy askOf asked beginOf hearOf standing starting turning carriedBy deciding exactly matching readAnswer readable shape
+pub order-expected : map (λ (x : RefusalRow). x .gives) dockOrder ≡ map (λ (x : RefusalRow). x .expected) dockOrder
+unfolding dockOrder inOrder beforeEach has refusedBy askOf asked beginOf hearOf standing starting turning carriedBy deciding exactly matching readAnswer readable shape
     statuses afterAnswer afterHeard afterStatus afterWork next queryWith handOf handed areaIn blocksIn bound isOver setup badJob badState callVerdict due
     goodBlock goodDock goodStage goodWork isBad outOfTurn shortRoom spent counted framed isFrame judgeOf summed less lessAll sumOf readOf blockOf blockSize
     described endsBlock liesIn rangeOf startsBlock stretch wholeBlocks acceptsRate firstOf _and_ _from_to_ _or_ if_then_else_

@@ -44,11 +44,11 @@ abbrev pub twoBlockJob : Job
 twoBlockJob = record { part = twoBlockPart; start = 0x0000; end = 0x07FF; rate = 0x00; supply = 33; retries = 1 }
 
 -- Its image: eight pages that begin with 00h to 07h and have 255 bytes 5Ah after that.
-abbrev pub page : ℕ → List ℕ
-page b = b ∷ replicate 255 0x5A
+abbrev pub imagePage : ℕ → List ℕ
+imagePage b = b ∷ replicate 255 0x5A
 
 abbrev pub twoBlockImage : List ℕ
-twoBlockImage = page 0x00 ++ page 0x01 ++ page 0x02 ++ page 0x03 ++ page 0x04 ++ page 0x05 ++ page 0x06 ++ page 0x07
+twoBlockImage = imagePage 0x00 ++ imagePage 0x01 ++ imagePage 0x02 ++ imagePage 0x03 ++ imagePage 0x04 ++ imagePage 0x05 ++ imagePage 0x06 ++ imagePage 0x07
 
 -- The frames that 01, 000 and 003 print, or that their SUM rule completes.
 pub record Frame : Type 0 where

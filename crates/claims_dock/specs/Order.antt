@@ -43,31 +43,31 @@ refusedBy (Ended a) = 0
 refusedBy (Refused r) = number r
 
 -- The four calls with such faults. 8: a frame asked while an answer is awaited, an answer or a timeout told while none is.
-abbrev pub start : List ℕ → ℕ
-start faults = refusedBy (beginOf (jobOf faults) (imageOf faults) .report)
+abbrev pub startWith : List ℕ → ℕ
+startWith faults = refusedBy (beginOf (jobOf faults) (imageOf faults) .report)
 
-abbrev pub ask : List ℕ → ℕ
-ask faults = refusedBy (askOf (jobOf faults) (imageOf faults) (dockOf (has 8 faults) faults) (roomOf faults) .report)
+abbrev pub askWith : List ℕ → ℕ
+askWith faults = refusedBy (askOf (jobOf faults) (imageOf faults) (dockOf (has 8 faults) faults) (roomOf faults) .report)
 
-abbrev pub tell : Heard → List ℕ → ℕ
-tell h faults = refusedBy (hearOf (jobOf faults) (imageOf faults) (dockOf (not (has 8 faults)) faults) h .report)
+abbrev pub tellWith : Heard → List ℕ → ℕ
+tellWith h faults = refusedBy (hearOf (jobOf faults) (imageOf faults) (dockOf (not (has 8 faults)) faults) h .report)
 
 -- Each number alone, and before each that comes after it.
 abbrev pub given : (List ℕ → ℕ) → List ℕ → ℕ → RefusalRow
 given call faults n = record { gives = call faults; expected = n }
 
-unfoldable pub before : (List ℕ → ℕ) → ℕ → List ℕ → List RefusalRow
-before call n [] = []
-before call n (m ∷ ms) = given call (m ∷ n ∷ []) n ∷ before call n ms
+unfoldable pub beforeEach : (List ℕ → ℕ) → ℕ → List ℕ → List RefusalRow
+beforeEach call n [] = []
+beforeEach call n (m ∷ ms) = given call (m ∷ n ∷ []) n ∷ beforeEach call n ms
 
 unfoldable pub inOrder : (List ℕ → ℕ) → List ℕ → List RefusalRow
 inOrder call [] = given call [] 0 ∷ []
-inOrder call (n ∷ ns) = given call (n ∷ []) n ∷ before call n ns ++ inOrder call ns
+inOrder call (n ∷ ns) = given call (n ∷ []) n ∷ beforeEach call n ns ++ inOrder call ns
 
 -- A start has neither a state nor a room, an answer and a timeout have no room.
-unfoldable pub order : List RefusalRow
-order =
-    inOrder start (1 ∷ 5 ∷ 6 ∷ 7 ∷ [])
-    ++ inOrder ask (1 ∷ 5 ∷ 6 ∷ 7 ∷ 9 ∷ 4 ∷ 8 ∷ [])
-    ++ inOrder (tell (say 0x06)) (1 ∷ 5 ∷ 6 ∷ 7 ∷ 9 ∷ 8 ∷ [])
-    ++ inOrder (tell silence) (1 ∷ 5 ∷ 6 ∷ 7 ∷ 9 ∷ 8 ∷ [])
+unfoldable pub dockOrder : List RefusalRow
+dockOrder =
+    inOrder startWith (1 ∷ 5 ∷ 6 ∷ 7 ∷ [])
+    ++ inOrder askWith (1 ∷ 5 ∷ 6 ∷ 7 ∷ 9 ∷ 4 ∷ 8 ∷ [])
+    ++ inOrder (tellWith (say 0x06)) (1 ∷ 5 ∷ 6 ∷ 7 ∷ 9 ∷ 8 ∷ [])
+    ++ inOrder (tellWith silence) (1 ∷ 5 ∷ 6 ∷ 7 ∷ 9 ∷ 8 ∷ [])

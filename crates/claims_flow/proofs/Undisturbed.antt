@@ -11,7 +11,7 @@ use borrow.Author.Tests.{eq-eqb, le-ltb, lt-ltb}
 use Rattle.claims_dock.proofs.Stepped.{dock-is-flow}
 use Rattle.claims_dock.specs.Examples.{both, say, third}
 use Rattle.claims_dock.specs.Stepping.{resultAt, resultsOf}
-use Rattle.claims_flow.specs.Undisturbed.{Undisturbed, UndisturbedDock, allAnswers, allFrames, answersOf, blankAnswers, blockAnswers, blockCount, blockFrames, command, eraseCount, eraseFrames, fourPages, fromTo, framesFrom, pageAnswers}
+use Rattle.claims_flow.specs.Undisturbed.{Undisturbed, UndisturbedDock, allAnswers, allFrames, answersOf, blankAnswers, blockAnswers, blockCount, blockFrames, commandFrame, eraseCount, eraseFrames, fourPages, fromTo, framesFrom, pageAnswers}
 use Rattle.claims_frame.proofs.RoundTrip.{ReadBack, read-back}
 use Rattle.commands.specs.Commands.{comOf, informationOf, payloadOf}
 use Rattle.dock_answer.specs.Answer.{carriedBy, deciding, exactly, matching, rateMatches, readAnswer, readable, shape, signatureMatches, statuses}
@@ -164,7 +164,7 @@ module _ (j : Job) (image : List ℕ) where
     -- From 40h to the end of the block.
     programmed : (after : Stage) (hs : List Heard) (fs : List (List ℕ)) → blockFrom j (k + 1) ≡ after → Runs j image after hs fs
         → Runs j image (InBlock k Program) (say 0x06 ∷ pageAnswers (third 0x06) ++ say 0x06 ∷ pageAnswers (both 0x06 0x06) ++ hs)
-        (command (0x40 ∷ fromTo j k) ∷ fourPages image k ++ command (0x13 ∷ fromTo j k) ∷ fourPages image k ++ fs)
+        (commandFrame (0x40 ∷ fromTo j k) ∷ fourPages image k ++ commandFrame (0x13 ∷ fromTo j k) ∷ fourPages image k ++ fs)
     unfolding afterWork queryWith frameAt workFrame payloadOf comOf informationOf firstOfBlock lastOfBlock blockSize
     programmed after hs fs n r = one Program (ProgramPage 0) _ _ refl refl (stored _ _ (one VerifyBlock (VerifyPage 0) _ _ refl refl (verified after hs fs n r)))
 

@@ -17,7 +17,7 @@ use Rattle.claims_dock.specs.Examples.{twoBlockImage, twoBlockJob}
 use Rattle.claims_dock.specs.Stepping.{resultAt, resultsOf}
 use Rattle.claims_flow.proofs.Undisturbed.{flow-long}
 use Rattle.claims_flow.specs.Undisturbed.{allAnswers, blockCount}
-use Rattle.claims_flow.specs.Wrong.{AddingSendsMore, BlindDiffers, DiffersOn, Invents, InventsDiffers, IsFlow, Machine, MoreDiffers, OnOneOf, OneEnding, ReportingDiffers, Seen}
+use Rattle.claims_flow.specs.Wrong.{AddingSendsMore, BlindDiffers, DiffersOn, Invents, InventsDiffers, IsFlow, AnyDock, MoreDiffers, OnOneOf, OneEnding, ReportingDiffers, Seen}
 use Rattle.claims_flow.specs.Wrong.{afterAgain, atOnce, byCalls, byFlow, here, nothingSent, overBound, reporting, seen, there, unanswered, undisturbed, wrongFrames, wrongRetries}
 use Rattle.commands.specs.Commands.{comOf}
 use Rattle.dock.specs.declared.Account.{Account}
@@ -46,7 +46,7 @@ calls-are-flow room r j image hs v =
     let c = dock-is-flow j image room hs v r in
     ap (λ (x : List (List ℕ)). seen x (byCalls room j image hs .results)) (c .sameFrames) ∙ ap (λ (x : List Account). seen (flow j image hs .sent) x) (c .sameResults)
 
-pub differs-is-not : (M : Machine) (j : Job) (image : List ℕ) (hs : List Heard) → DiffersOn M j image hs → IsFlow M → ⊥
+pub differs-is-not : (M : AnyDock) (j : Job) (image : List ℕ) (hs : List Heard) → DiffersOn M j image hs → IsFlow M → ⊥
 differs-is-not M j image hs d f = d .apart (f j image hs (d .begins))
 
 -- A result of the flow is the only one, and has its counts.
@@ -76,7 +76,7 @@ only-one (Over x) n r (b ∷ before) after a e =
     absurd (omega arith)
 
 -- So of a dock that is the flow on an input, of any result that it reports there.
-result-only : (M : Machine) (j : Job) (image : List ℕ) (hs : List Heard) (before after : List Account) (a : Account) → M j image hs .results ≡ before ++ a ∷ after
+result-only : (M : AnyDock) (j : Job) (image : List ℕ) (hs : List Heard) (before after : List Account) (a : Account) → M j image hs .results ≡ before ++ a ∷ after
     → M j image hs ≡ byFlow j image hs → Only a (length (flow j image hs .sent)) (flow j image hs .spent)
 result-only M j image hs before after a e f = only-one (flow j image hs .place) _ _ before after a (sym (ap (λ (s : Seen). s .results) f) ∙ e)
 
@@ -103,7 +103,7 @@ flow-answered : (j : Job) (image : List ℕ) (hs : List Heard) → length (flow 
 unfolding flow
 flow-answered j image hs = answered-frames j image 0 (firstStage j) hs
 
-as-many : (M : Machine) (j : Job) (image : List ℕ) (hs : List Heard) → M j image hs ≡ byFlow j image hs → length (M j image hs .sent) ≡ length (flow j image hs .sent)
+as-many : (M : AnyDock) (j : Job) (image : List ℕ) (hs : List Heard) → M j image hs ≡ byFlow j image hs → length (M j image hs .sent) ≡ length (flow j image hs .sent)
 as-many M j image hs f = ap (λ (s : Seen). length (s .sent)) f
 
 pub more-differs : MoreDiffers
@@ -128,7 +128,7 @@ unfolding areaIn blocksIn badJob badState callVerdict isBad outOfTurn shortRoom 
 may-begin = refl
 
 -- A dock that is the flow on an input reports as many frames as it says.
-reported : (M : Machine) (hs : List Heard) (rs : List Account) → M twoBlockJob twoBlockImage hs .results ≡ rs
+reported : (M : AnyDock) (hs : List Heard) (rs : List Account) → M twoBlockJob twoBlockImage hs .results ≡ rs
     → (n : ℕ) → first-frames (resultsOf (flow twoBlockJob twoBlockImage hs)) ≡ n → M twoBlockJob twoBlockImage hs ≡ byFlow twoBlockJob twoBlockImage hs → first-frames rs ≡ n
 reported M hs rs e n k f = ap first-frames (sym e ∙ ap (λ (s : Seen). s .results) f) ∙ k
 

@@ -27,12 +27,12 @@ use Rattle.part.specs.declared.refusal.Verdict.the-variants.{Accepted}
 use Rattle.words.specs.Words.{if_then_else_}
 
 -- A command's frame by COM and information.
-abbrev pub command : List ℕ → List ℕ
-command bs = framed Command bs Last
+abbrev pub commandFrame : List ℕ → List ℕ
+commandFrame bs = framed Command bs Last
 
 -- "Frames: 9Ah .., 00h, C0h": the first with rate and supply.
 abbrev pub setupFrames : Job → List (List ℕ)
-setupFrames j = command (0x9A ∷ j .rate ∷ j .supply ∷ []) ∷ command (0x00 ∷ []) ∷ command (0xC0 ∷ []) ∷ []
+setupFrames j = commandFrame (0x9A ∷ j .rate ∷ j .supply ∷ []) ∷ commandFrame (0x00 ∷ []) ∷ commandFrame (0xC0 ∷ []) ∷ []
 
 -- A block of 1,024 bytes, counted from 0: its first address, and its first and its last as they travel.
 abbrev pub firstAt : Job → ℕ → ℕ
@@ -42,24 +42,24 @@ abbrev pub fromTo : Job → ℕ → List ℕ
 fromTo j k = lowFirst 3 (firstAt j k) ++ lowFirst 3 (firstAt j k + 1023)
 
 -- The four pages of a block of the image, 256 bytes each: "then 03h on the last frame, else 17h".
-abbrev pub pageFrame : List ℕ → ℕ → ℕ → Footer → List ℕ
-pageFrame image k p f = dataFrame (take 256 (drop (k * 1024 + p * 256) image)) f
+abbrev pub imagePageFrame : List ℕ → ℕ → ℕ → Footer → List ℕ
+imagePageFrame image k p f = dataFrame (take 256 (drop (k * 1024 + p * 256) image)) f
 
 abbrev pub fourPages : List ℕ → ℕ → List (List ℕ)
-fourPages image k = pageFrame image k 0 More ∷ pageFrame image k 1 More ∷ pageFrame image k 2 More ∷ pageFrame image k 3 Last ∷ []
+fourPages image k = imagePageFrame image k 0 More ∷ imagePageFrame image k 1 More ∷ imagePageFrame image k 2 More ∷ imagePageFrame image k 3 Last ∷ []
 
 -- "32h with 00h; 22h if that said 1Bh; 40h and four pages; 13h and four pages."
 unfoldable pub eraseFrames : Job → ℕ → Bool → List (List ℕ)
 eraseFrames j k true = []
-eraseFrames j k false = command (0x22 ∷ lowFirst 3 (firstAt j k)) ∷ []
+eraseFrames j k false = commandFrame (0x22 ∷ lowFirst 3 (firstAt j k)) ∷ []
 
 abbrev pub blockFrames : Job → List ℕ → ℕ → Bool → List (List ℕ)
 blockFrames j image k wasBlank =
-    command (0x32 ∷ fromTo j k ++ 0x00 ∷ [])
+    commandFrame (0x32 ∷ fromTo j k ++ 0x00 ∷ [])
     ∷ eraseFrames j k wasBlank
-    ++ command (0x40 ∷ fromTo j k)
+    ++ commandFrame (0x40 ∷ fromTo j k)
     ∷ fourPages image k
-    ++ command (0x13 ∷ fromTo j k)
+    ++ commandFrame (0x13 ∷ fromTo j k)
     ∷ fourPages image k
 
 -- "per block, ascending", from block k on.

@@ -21,7 +21,7 @@ use Rattle.chip_state.specs.declared.Handed.{Handed}
 use Rattle.claims_good.proofs.Rooms.{alike-onward, said-anywhere, same-alike, stands-anywhere}
 use Rattle.claims_good.proofs.Stays.{onward-is, run-stands, stays}
 use Rattle.claims_good.specs.Good.{Alike, AllProper, Proper, SameChip, Stands, Utterance, andEvent, noEvent, utterances, uttered, verdictIn}
-use Rattle.claims_noise.specs.Claims.{AnyRooms, AsIf, Call, Roomy, ShortRefused, andCall, answersBy, callsBy, eventsIn, noCall, runBy, saysBy}
+use Rattle.claims_noise.specs.Claims.{AnyRooms, AsIf, ChipCall, Roomy, ShortRefused, andCall, answersBy, callsBy, eventsIn, noCall, runBy, saysBy}
 use Rattle.frame.specs.Collector.{heard}
 use Rattle.part.proofs.Laws.{first-here, first-on}
 use Rattle.part.specs.declared.Part.{Part}
@@ -131,7 +131,7 @@ module _ (p : Part) (o u : Outcome) (v : Event) (room : List ℕ) (so : Lives p 
       go (no k) = short-call (omega arith)
 
 -- Any calls.
-alike-answers : (p : Part) (cs : List Call) (o u : Outcome) → Lives p o → Lives p u → AllProper (eventsIn cs) → Alike o u
+alike-answers : (p : Part) (cs : List ChipCall) (o u : Outcome) → Lives p o → Lives p u → AllProper (eventsIn cs) → Alike o u
     → answersBy stepOf p cs o ≡ answersBy stepOf p cs u
 unfolding answersBy
 alike-answers p [] o u s t noEvent a = refl
@@ -141,7 +141,7 @@ alike-answers p (c ∷ cs) o u s t (andEvent h q) a =
     ∙ ap (λ (xs : List Spoken). spokenIn (onward p (lent u (c .room)) (c .event)) ∷ xs)
     (alike-answers p cs (onward p (lent o (c .room)) (c .event)) (onward p (lent u (c .room)) (c .event)) (r .one) (r .other) q (r .alike))
 
-alike-calls : (p : Part) (cs : List Call) (o u : Outcome) → Lives p o → Lives p u → AllProper (eventsIn cs) → Alike o u
+alike-calls : (p : Part) (cs : List ChipCall) (o u : Outcome) → Lives p o → Lives p u → AllProper (eventsIn cs) → Alike o u
     → Alike (callsBy stepOf p cs o) (callsBy stepOf p cs u)
 unfolding callsBy
 alike-calls p [] o u s t noEvent a = a
@@ -156,11 +156,11 @@ pub as-if : (p : Part) (o u : Outcome) → Stands p o → Stands p u → Alike o
 as-if p o u s t a = living-as-if p o u (lives p o o s refl refl) (lives p u u t refl refl) a
 
 -- A run with one room, and the same events with a room each.
-record Along (p : Part) (o u : Outcome) (cs : List Call) : Type 0 where
+record Along (p : Part) (o u : Outcome) (cs : List ChipCall) : Type 0 where
   said : map (λ s. uttered s) (answersBy stepOf p cs u) ≡ utterances p (eventsIn cs) o
   left : SameChip (run p (eventsIn cs) o) (callsBy stepOf p cs u)
 
-along : (p : Part) (cs : List Call) (o u : Outcome) → Stands p o → SameChip o u → AllProper (eventsIn cs) → Roomy cs → Along p o u cs
+along : (p : Part) (cs : List ChipCall) (o u : Outcome) → Stands p o → SameChip o u → AllProper (eventsIn cs) → Roomy cs → Along p o u cs
 unfolding answersBy callsBy run utterances answers
 along p [] o u s e noEvent noCall = record { said = refl; left = e }
 along p (c ∷ cs) o u s e (andEvent h q) (andCall k r) =

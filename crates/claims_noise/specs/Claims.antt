@@ -45,31 +45,31 @@ saysBy M p [] o = []
 saysBy M p (v ∷ vs) o = uttered (spokenIn (onwardBy M p o v)) ∷ saysBy M p vs (onwardBy M p o v)
 
 -- A call: an event, and the room lent for it. A room is lent anew for every event, and it may be a short one.
-pub record Call : Type 0 where
+pub record ChipCall : Type 0 where
   pub event : Event
   pub room : List ℕ
 
-abbrev pub calledBy : Machine → Part → Outcome → Call → Outcome
+abbrev pub calledBy : Machine → Part → Outcome → ChipCall → Outcome
 calledBy M p o c = M p (o .chip) (c .event) (o .memory) (c .room)
 
-unfoldable pub callsBy : Machine → Part → List Call → Outcome → Outcome
+unfoldable pub callsBy : Machine → Part → List ChipCall → Outcome → Outcome
 callsBy M p [] o = o
 callsBy M p (c ∷ cs) o = callsBy M p cs (calledBy M p o c)
 
 -- The answer to each call, with its room afterwards.
-unfoldable pub answersBy : Machine → Part → List Call → Outcome → List Spoken
+unfoldable pub answersBy : Machine → Part → List ChipCall → Outcome → List Spoken
 answersBy M p [] o = []
 answersBy M p (c ∷ cs) o = spokenIn (calledBy M p o c) ∷ answersBy M p cs (calledBy M p o c)
 
-abbrev pub eventsIn : List Call → List Event
+abbrev pub eventsIn : List ChipCall → List Event
 eventsIn cs = map (λ c. c .event) cs
 
 -- u is as if it were o: flash, options, rate and phase are the same, and nothing more or else is collected; "every later event gets the answer" that o
 -- would give, whatever room is lent for each, and every byte of each room is the same; after any later events flash, options, rate and phase are those of o.
 pub record AsIf (M : Machine) (p : Part) (o u : Outcome) : Type 0 where
   pub now : Alike o u
-  pub answers : (cs : List Call) → AllProper (eventsIn cs) → answersBy M p cs o ≡ answersBy M p cs u
-  pub later : (cs : List Call) → AllProper (eventsIn cs) → Alike (callsBy M p cs o) (callsBy M p cs u)
+  pub answers : (cs : List ChipCall) → AllProper (eventsIn cs) → answersBy M p cs o ≡ answersBy M p cs u
+  pub later : (cs : List ChipCall) → AllProper (eventsIn cs) → Alike (callsBy M p cs o) (callsBy M p cs u)
 
 -- A room under 32 bytes is refused (4), and changes nothing: such a call may stand anywhere among the later ones.
 abbrev pub ShortRefused : Machine → Type 0
@@ -78,16 +78,16 @@ ShortRefused M =
     → M p (o .chip) v (o .memory) room ≡ record { answer = Refused ShortRoom; chip = o .chip; memory = o .memory; room = room }
 
 -- The runs below go with one room. It has no part in them: any rooms that are accepted, one for each event, are as good as that one.
-pub data Roomy : List Call → Type 0 where
+pub data Roomy : List ChipCall → Type 0 where
   noCall : Roomy []
-  andCall : {c : Call} {cs : List Call} → 32 ≤ length (c .room) → Roomy cs → Roomy (c ∷ cs)
+  andCall : {c : ChipCall} {cs : List ChipCall} → 32 ≤ length (c .room) → Roomy cs → Roomy (c ∷ cs)
 
-pub record SameRun (M : Machine) (p : Part) (o : Outcome) (cs : List Call) : Type 0 where
+pub record SameRun (M : Machine) (p : Part) (o : Outcome) (cs : List ChipCall) : Type 0 where
   pub said : map (λ s. uttered s) (answersBy M p cs o) ≡ saysBy M p (eventsIn cs) o
   pub left : AsIf M p (runBy M p (eventsIn cs) o) (callsBy M p cs o)
 
 abbrev pub AnyRooms : Machine → Type 0
-AnyRooms M = (p : Part) (o : Outcome) (cs : List Call) → Stands p o → AllProper (eventsIn cs) → Roomy cs → SameRun M p o cs
+AnyRooms M = (p : Part) (o : Outcome) (cs : List ChipCall) → Stands p o → AllProper (eventsIn cs) → Roomy cs → SameRun M p o cs
 
 -- "Take a chip that awaits a command (`AwaitsCommand`), with nothing collected. Let it hear any bytes and gaps in which the framing rule of demand 2 completes
 -- no good frame": g is the one good frame allowed, or none.

@@ -9,7 +9,7 @@ use Rattle.dock_answer.specs.Answer.{carriedBy, deciding, exactly, matching, ra
 use Rattle.chip.specs.Step.{byteIn, frameDoes, heardByte, modeByte, reactTo, settled, stepOf}
 use Rattle.chip_state.specs.Refusals.{goodAwaited, goodBegun, goodCollected, goodCore, goodPhase, goodPlaces, goodState, verdictOf}
 use Rattle.claims_rehearsal.specs.Cable.{cable, exchange, speaks}
-use Rattle.claims_rehearsal.specs.Rehearsal.{finishedAfter, holds, Left, left, leftBy, mixed, oldCode, oldData, readyAt, rehearsalImage, rehearsed, rehearsedData, theChip, theDataImage}
+use Rattle.claims_rehearsal.specs.Rehearsal.{finishedAfter, holds, Remains, remains, remainsOf, mixed, oldCode, oldData, readyAt, rehearsalImage, rehearsed, rehearsedData, theChip, theDataImage}
 use Rattle.dock.specs.Calls.{askOf, asked, beginOf, freshDock, hearOf, standing, starting, turning}
 use Rattle.chip_commands.specs.Commands.{allowedIn, commandDoes, readingDoes, work}
 use Rattle.commands.specs.Commands.{comOf, commandTable, fitted, informationOf, payloadOf, readCommand, readIn}
@@ -39,12 +39,12 @@ use Rattle.chip_core.specs.Hearing.{hearing}
 
 -- Each rehearsal is computed once. Two blocks that were not blank: 3 + 2 * 12 frames. The chip is ready at the job's rate, the image in place, and all other flash
 -- as it was.
-rehearsal : leftBy rehearsed (replicate 2048 0x42 ++ rehearsalImage ++ replicate 4096 0x42) oldData ≡ left (finishedAfter 27) (readyAt 0x03)
+rehearsal : remainsOf rehearsed (replicate 2048 0x42 ++ rehearsalImage ++ replicate 4096 0x42) oldData ≡ remains (finishedAfter 27) (readyAt 0x03)
 unfolding byteIn frameDoes heardByte modeByte reactTo settled stepOf allowedIn commandDoes readingDoes work hearing blank eraseOf sumOfBytes fixedBits
     freshOptions goodOptions isFresh lastBlock optionBytes optionsIn raises released rises security badData dataDoes footerOf goodData isLastPage lengthOf
     nextPage pageIn pageStored programPage securityData storedReply verifyPage framesOf payloads saidOf goodAwaited goodBegun goodCollected goodCore goodPhase
     goodPlaces goodState verdictOf blankCheck blockErase checksum erasedIn forbidden programming rangeBytes rateSet securityRelease verify cable exchange
-    speaks holds leftBy mixed rehearsalImage rehearsed theChip comOf commandTable fitted informationOf payloadOf readCommand readIn askOf asked beginOf freshDock
+    speaks holds remainsOf mixed rehearsalImage rehearsed theChip comOf commandTable fitted informationOf payloadOf readCommand readIn askOf asked beginOf freshDock
     hearOf standing starting turning carriedBy deciding exactly matching rateMatches readAnswer readable shape signatureMatches statuses afterAnswer
     afterHeard afterSetup afterStatus afterWork blockFrom inBlock next retried saysNotBlank setupFrom firstOfBlock frameAt handOf handed lastOfBlock lastPage
     pageFooter queryWith storedForm workFrame areaIn blocksIn bound isOver setup badJob badState callVerdict due goodBlock goodDock goodEnding goodFailure
@@ -54,24 +54,24 @@ unfolding byteIn frameDoes heardByte modeByte reactTo settled stepOf allowedIn c
 rehearsal = refl
 
 pub rehearsal-dock : rehearsed .dock ≡ finishedAfter 27
-unfolding leftBy
-rehearsal-dock = ap (λ (x : Left). x .dock) rehearsal
+unfolding remainsOf
+rehearsal-dock = ap (λ (x : Remains). x .dock) rehearsal
 
 pub rehearsal-chip : rehearsed .chip .chip .core ≡ readyAt 0x03
-unfolding leftBy
-rehearsal-chip = ap (λ (x : Left). x .core) rehearsal
+unfolding remainsOf
+rehearsal-chip = ap (λ (x : Remains). x .core) rehearsal
 
 pub rehearsal-flash : holds (rehearsed .chip .memory) (replicate 2048 0x42 ++ rehearsalImage ++ replicate 4096 0x42) oldData ≡ true
-unfolding leftBy
-rehearsal-flash = ap (λ (x : Left). x .flash) rehearsal
+unfolding remainsOf
+rehearsal-flash = ap (λ (x : Remains). x .flash) rehearsal
 
 -- One block of data flash: 3 + 12 frames, and no byte of code flash changed.
-data-rehearsal : leftBy rehearsedData oldCode theDataImage ≡ left (finishedAfter 15) (readyAt 0x00)
+data-rehearsal : remainsOf rehearsedData oldCode theDataImage ≡ remains (finishedAfter 15) (readyAt 0x00)
 unfolding byteIn frameDoes heardByte modeByte reactTo settled stepOf allowedIn commandDoes readingDoes work hearing blank eraseOf sumOfBytes fixedBits
     freshOptions goodOptions isFresh lastBlock optionBytes optionsIn raises released rises security badData dataDoes footerOf goodData isLastPage lengthOf
     nextPage pageIn pageStored programPage securityData storedReply verifyPage framesOf payloads saidOf goodAwaited goodBegun goodCollected goodCore goodPhase
     goodPlaces goodState verdictOf blankCheck blockErase checksum erasedIn forbidden programming rangeBytes rateSet securityRelease verify cable exchange
-    speaks holds leftBy mixed rehearsedData theChip theDataImage comOf commandTable fitted informationOf payloadOf readCommand readIn askOf asked beginOf freshDock
+    speaks holds remainsOf mixed rehearsedData theChip theDataImage comOf commandTable fitted informationOf payloadOf readCommand readIn askOf asked beginOf freshDock
     hearOf standing starting turning carriedBy deciding exactly matching rateMatches readAnswer readable shape signatureMatches statuses afterAnswer
     afterHeard afterSetup afterStatus afterWork blockFrom inBlock next retried saysNotBlank setupFrom firstOfBlock frameAt handOf handed lastOfBlock lastPage
     pageFooter queryWith storedForm workFrame areaIn blocksIn bound isOver setup badJob badState callVerdict due goodBlock goodDock goodEnding goodFailure
@@ -81,9 +81,9 @@ unfolding byteIn frameDoes heardByte modeByte reactTo settled stepOf allowedIn c
 data-rehearsal = refl
 
 pub rehearsal-data : rehearsedData .dock ≡ finishedAfter 15
-unfolding leftBy
-rehearsal-data = ap (λ (x : Left). x .dock) data-rehearsal
+unfolding remainsOf
+rehearsal-data = ap (λ (x : Remains). x .dock) data-rehearsal
 
 pub rehearsal-data-flash : holds (rehearsedData .chip .memory) oldCode theDataImage ≡ true
-unfolding leftBy
-rehearsal-data-flash = ap (λ (x : Left). x .flash) data-rehearsal
+unfolding remainsOf
+rehearsal-data-flash = ap (λ (x : Remains). x .flash) data-rehearsal

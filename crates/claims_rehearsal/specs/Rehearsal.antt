@@ -86,13 +86,13 @@ unfoldable pub holds : Flash → List ℕ → List ℕ → Bool
 holds m code extra = same (m .codeFlash) code and same (m .dataFlash) extra
 
 -- What a rehearsal leaves: the dock, the chip's record, and whether flash holds these bytes.
-pub record Left : Type 0 where
+pub record Remains : Type 0 where
   pub dock : Dock
   pub core : Core
   pub flash : Bool
 
-unfoldable pub leftBy : Ends → List ℕ → List ℕ → Left
-leftBy e code extra = record { dock = e .dock; core = e .chip .chip .core; flash = holds (e .chip .memory) code extra }
+unfoldable pub remainsOf : Ends → List ℕ → List ℕ → Remains
+remainsOf e code extra = record { dock = e .dock; core = e .chip .chip .core; flash = holds (e .chip .memory) code extra }
 
-abbrev pub left : Dock → Core → Left
-left d k = record { dock = d; core = k; flash = true }
+abbrev pub remains : Dock → Core → Remains
+remains d k = record { dock = d; core = k; flash = true }

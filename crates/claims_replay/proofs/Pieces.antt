@@ -26,7 +26,7 @@ use Rattle.claims_replay.proofs.Lines.{FramesIn, frames-append, lines-a
 use Rattle.claims_replay.proofs.NeverRefused.{AllBelow, again, all-bytes, andRecord, noRecord, plays, records-below, replay-unhalted}
 use Rattle.claims_replay.specs.Cases.{firstPiece, secondPiece}
 use Rattle.claims_replay.specs.Printed.{Upshot, freshFlash, lastLine, lines, linesIn, printed, upshotOf}
-use Rattle.claims_replay.specs.Pieces.{InPieces, Piece, Pieces, PiecesStand, PrintedInPieces, andPiece, andThen, freshStart, inPieces, joined, lastPiece, linesInPieces, noPiece, ofPiece, onlyOn, printedInPieces, starting, whileOn, withPiece}
+use Rattle.claims_replay.specs.Pieces.{InPieces, Piece, Pieces, PiecesStand, PrintedInPieces, andPiece, andThen, freshStart, inPieces, joined, lastPiece, linesInPieces, noPiece, ofPiece, onlyOn, printedInPieces, beginning, whileOn, withPiece}
 use Rattle.frame.proofs.Laws.Sum.{Below, below-drop, below-take}
 use Rattle.part.specs.Part.{Arrays, blockSize}
 use Rattle.part.specs.declared.Part.{Part}
@@ -172,7 +172,7 @@ replayed-upshot p (r ∷ rs) x a g =
     go (RecordEnded.Refused s) e rest = refl
 
 replay-upshot : (p : Part) (capture : List ℕ) (c : Chip) (m : Flash) (room output : List ℕ) → Arrays p → outputLeast * length (recordsOf recordSize capture) ≤ length output
-    → upshotOf (replayOf p capture c m room output) ≡ upshotFrom p (recordsOf recordSize capture) (starting c m room)
+    → upshotOf (replayOf p capture c m room output) ≡ upshotFrom p (recordsOf recordSize capture) (beginning c m room)
 unfolding replayOf
 replay-upshot p capture c m room output a h =
     replayed-upshot p (recordsOf recordSize capture)
@@ -263,7 +263,7 @@ unfolding recordsOf
 records-append a b e = cut-at (length a) a b (omega arith) e
 
 -- One more piece is its records.
-and-start : (g : Upshot) → g .ended ≡ Whole → andThen g (starting (g .chip) (g .memory) (g .room)) ≡ g
+and-start : (g : Upshot) → g .ended ≡ Whole → andThen g (beginning (g .chip) (g .memory) (g .room)) ≡ g
 and-start g e =
     same-upshot Whole (g .chip) (g .memory) (g .room) (omega arith) (omega arith) (append-nil (g .said))
     ∙ ap {B = Upshot}
@@ -273,7 +273,7 @@ piece-upshot : (p : Part) (g : Upshot) (q : Piece) → Arrays p → g .ended ≡
     → withPiece p g q ≡ upshotFrom p (recordsOf recordSize (q .capture)) g
 piece-upshot p g q a e h =
     ap (λ (x : Upshot). andThen g x) (replay-upshot p (q .capture) (g .chip) (g .memory) (g .room) (q .output) a h)
-    ∙ sym (upshots-add p (recordsOf recordSize (q .capture)) g (starting (g .chip) (g .memory) (g .room)))
+    ∙ sym (upshots-add p (recordsOf recordSize (q .capture)) g (beginning (g .chip) (g .memory) (g .room)))
     ∙ ap (upshotFrom p (recordsOf recordSize (q .capture))) (and-start g e)
 
 while-same : (e : Ended) (g : Upshot) → whileOn e g g ≡ g
@@ -306,7 +306,7 @@ pieces-upshot p (q ∷ qs) g a (andPiece x xs w h r) e =
 
 pub in-pieces : InPieces
 in-pieces p qs c m room output a r h =
-    pieces-upshot p qs (starting c m room) a r refl ∙ sym (replay-upshot p (joined qs) c m room output a h)
+    pieces-upshot p qs (beginning c m room) a r refl ∙ sym (replay-upshot p (joined qs) c m room output a h)
 
 pub pieces-stand : PiecesStand
 pieces-stand p qs c m room s b r =

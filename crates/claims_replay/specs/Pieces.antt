@@ -20,8 +20,8 @@ use Rattle.replay_play.specs.Play.{outputLeast}
 use Rattle.replay_records.specs.declared.Ended.{Ended}
 use Rattle.replay_records.specs.declared.Ended.the-variants.{AtBadRecord, Refused, Whole}
 
-abbrev pub starting : Chip → Flash → List ℕ → Upshot
-starting c m room = record { ended = Whole; records = 0; frames = 0; said = []; chip = c; memory = m; room = room }
+abbrev pub beginning : Chip → Flash → List ℕ → Upshot
+beginning c m room = record { ended = Whole; records = 0; frames = 0; said = []; chip = c; memory = m; room = room }
 
 -- One upshot after another: the numbers add up, the frames follow each other, and the last one says how it ended and what is left.
 abbrev pub andThen : Upshot → Upshot → Upshot
@@ -75,7 +75,7 @@ pub data Pieces : List Piece → Type 0 where
 abbrev pub InPieces : Type 0
 InPieces =
     (p : Part) (qs : List Piece) (c : Chip) (m : Flash) (room output : List ℕ) → Arrays p → Pieces qs → Suffices (joined qs) output
-    → inPieces p qs (starting c m room) ≡ upshotOf (replayOf p (joined qs) c m room output)
+    → inPieces p qs (beginning c m room) ≡ upshotOf (replayOf p (joined qs) c m room output)
 
 -- From a chip that stands, no piece is refused, and the chip stands after each.
 pub record Standing (p : Part) (g : Upshot) : Type 0 where
@@ -85,7 +85,7 @@ pub record Standing (p : Part) (g : Upshot) : Type 0 where
 abbrev pub PiecesStand : Type 0
 PiecesStand =
     (p : Part) (qs : List Piece) (c : Chip) (m : Flash) (room : List ℕ) → Stands p (before c m room) → Below 256 (joined qs) → Pieces qs
-    → Standing p (inPieces p qs (starting c m room))
+    → Standing p (inPieces p qs (beginning c m room))
 
 -- What is printed of the pieces: the lines of each one's reply frames as it is replayed, and the last line, of the numbers added up.
 unfoldable pub onlyOn : Ended → List ℕ → List ℕ
@@ -98,7 +98,7 @@ linesInPieces p [] g = []
 linesInPieces p (q ∷ qs) g = lines (ofPiece p g q .said) ++ onlyOn (withPiece p g q .ended) (linesInPieces p qs (withPiece p g q))
 
 abbrev pub freshStart : Upshot
-freshStart = starting (freshChip replayPart) freshFlash (replicate 32 0x00)
+freshStart = beginning (freshChip replayPart) freshFlash (replicate 32 0x00)
 
 unfoldable pub printedInPieces : List Piece → List ℕ
 printedInPieces qs = let g = inPieces replayPart qs freshStart in linesInPieces replayPart qs freshStart ++ lastLine g (g .ended)

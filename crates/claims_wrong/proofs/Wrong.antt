@@ -22,7 +22,7 @@ use Rattle.chip.specs.declared.Event.the-variants.{Byte}
 use Rattle.claims_good.proofs.Rooms.{same-alike}
 use Rattle.claims_good.specs.Good.{SameChip, Utterance, uttered}
 use Rattle.claims_noise.proofs.Examples.{wrong-page, wrong-page-completes-one}
-use Rattle.claims_noise.specs.Claims.{AsIf, Call, Machine, NoiseAtCommand, NoiseAtData, answersBy, calledBy, callsBy, commandOver, leftBy, onwardBy, runBy, saysBy}
+use Rattle.claims_noise.specs.Claims.{AsIf, ChipCall, Machine, NoiseAtCommand, NoiseAtData, answersBy, calledBy, callsBy, commandOver, leftBy, onwardBy, runBy, saysBy}
 use Rattle.claims_noise.specs.Examples.{reset, secondPage, writingChip, wrongPage}
 use Rattle.claims_noise.specs.Noise.{thenGap}
 use Rattle.claims_stars.specs.Table.{readyChip, thePart}
@@ -57,12 +57,12 @@ unfolding runBy deaf
 deaf-same p [] o = record { chip = refl; memory = refl }
 deaf-same p (v ∷ vs) o = let r = deaf-same p vs (onwardBy deaf p o v) in record { chip = r .chip; memory = r .memory }
 
-deaf-called : (p : Part) (cs : List Call) (o : Outcome) → SameChip o (callsBy deaf p cs o)
+deaf-called : (p : Part) (cs : List ChipCall) (o : Outcome) → SameChip o (callsBy deaf p cs o)
 unfolding callsBy deaf
 deaf-called p [] o = record { chip = refl; memory = refl }
 deaf-called p (c ∷ cs) o = let r = deaf-called p cs (calledBy deaf p o c) in record { chip = r .chip; memory = r .memory }
 
-deaf-answers : (p : Part) (cs : List Call) (o u : Outcome) → answersBy deaf p cs o ≡ answersBy deaf p cs u
+deaf-answers : (p : Part) (cs : List ChipCall) (o u : Outcome) → answersBy deaf p cs o ≡ answersBy deaf p cs u
 unfolding answersBy deaf
 deaf-answers p [] o u = refl
 deaf-answers p (c ∷ cs) o u =
