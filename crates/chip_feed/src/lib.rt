@@ -7,7 +7,6 @@ ghost use Rattle.chip_feed.specs.Feed.{fed, feedOf};
 ghost use Rattle.frame.specs.Frame.{counted, lackingOf};
 use chip::Answer;
 use chip::Event;
-use chip::Step;
 use chip::events;
 use chip_state::Chip;
 use chip_state::Handed;
@@ -41,22 +40,19 @@ pub fn feed(
     ensures { λ r. ⌜ fed r (flash (now (code .exit)) (now («data» .exit))) (now (room .exit))
         ≡ feedOf part (now (bytes .entry)) (before chip (flash (now (code .entry)) (now («data» .entry))) (now (room .entry))) ⌝ }
 {
-    let mut last = Step {
-        answer: Answer::Replied {
-            bytes: 0,
-            frames: 0,
-        },
-        chip,
+    let mut core = chip.core;
+    let mut collector = chip.collector;
+    let mut answer = Answer::Replied {
+        bytes: 0,
+        frames: 0,
     };
     let mut i = 0;
     while i < bytes.len() {
-        let next = last.chip;
-        let old = next.collector;
+        let old = collector;
         let at = old.len;
         let len = old.bytes[1];
         let k = lacking(at, len, bytes.len() - i);
         if 0 < k {
-            let core = next.core;
             let handed = Handed {
                 count: at,
                 head: old.bytes[0],
@@ -71,33 +67,37 @@ pub fn feed(
                     return Fed {
                         taken: i,
                         answer: Answer::Refused(refusal),
-                        chip: next,
+                        chip: Chip {
+                            core,
+                            collector: old,
+                        },
                     };
                 }
                 Verdict::Accepted => {
                     let end = i + k;
-                    let collector = old.add_all(&bytes[i..end]);
+                    collector = old.add_all(&bytes[i..end]);
                     i = end;
-                    last = Step {
-                        answer: Answer::Replied {
-                            bytes: 0,
-                            frames: 0,
-                        },
-                        chip: Chip { core, collector },
+                    answer = Answer::Replied {
+                        bytes: 0,
+                        frames: 0,
                     };
                 }
             }
         } else {
             let b = bytes[i];
             let taken = i + 1;
-            let stepped = events::step(part, next, Event::Byte(b), code, data, room);
-            let answer = stepped.answer;
+            let whole = Chip {
+                core,
+                collector: old,
+            };
+            let stepped = events::step(part, whole, Event::Byte(b), code, data, room);
             let chip = stepped.chip;
-            match answer {
+            let said = stepped.answer;
+            match said {
                 Answer::Refused(refusal) => {
                     return Fed {
                         taken: i,
-                        answer,
+                        answer: Answer::Refused(refusal),
                         chip,
                     };
                 }
@@ -109,20 +109,26 @@ pub fn feed(
                     if 0 < replies {
                         return Fed {
                             taken,
-                            answer,
+                            answer: Answer::Replied {
+                                bytes: n,
+                                frames: replies,
+                            },
                             chip,
                         };
                     }
-                    last = Step { answer, chip };
+                    core = chip.core;
+                    collector = chip.collector;
+                    answer = Answer::Replied {
+                        bytes: n,
+                        frames: replies,
+                    };
                 }
             }
         }
     }
-    let answer = last.answer;
-    let chip = last.chip;
     Fed {
         taken: i,
         answer,
-        chip,
+        chip: Chip { core, collector },
     }
 }

@@ -1,32 +1,40 @@
 -- `chip_feed::feed` meets its contract: what the bytes still to come make of the last step's outcome stays the same from turn to turn, until one is
 -- answered or refused. A turn takes a stretch of bytes that are only added, under one verdict, or one byte by a step.
 -- Assumes nothing.
+use mathlib.Core.List.{List}
 use mathlib.Core.Path.{_∙_, _≡_, refl, sym}
-use Prim.Native.Nat.{_-_, _≤_}
+use Prim.Native.Nat.{_-_, _≤_, ℕ}
 use native.Mathlib.Omega.{arith}
 use lib.ListN.{length}
 use borrow.Author.Needs.{needs}
 use Rattle.chip.proofs.Settling.{step-barred}
-use Rattle.chip.specs.Step.{outcome}
+use Rattle.chip.specs.Step.{Outcome}
+use Rattle.chip.specs.declared.Answer.{Answer}
 use Rattle.chip_core.specs.Effect.{flash}
+use Rattle.chip_core.specs.declared.Core.{Core}
 use Rattle.chip_feed.proofs.Feeding.{FedFrom, fed-end, fed-refused, fed-said, fed-start, fed-turn, looked-at}
 use Rattle.chip_feed.proofs.Stretching.{fed-stretch}
 use Rattle.chip_feed.specs.Feed.{feedOf}
 use Rattle.frame.proofs.Laws.Frame.{lacks}
+use Rattle.frame.specs.declared.collector.Collector.{Collector}
 use Rattle.chip_feed.proofs.feed.Statement.{statement}
 use Rattle.chip_feed.proofs.feed.Tie as tie
 
+abbrev standing : Core → Collector → Answer → List ℕ → List ℕ → List ℕ → Outcome
+standing core collector answer code extra room =
+    record { answer = answer; chip = record { core = core; collector = collector }; memory = flash code extra; room = room }
+
 abbrev Inv-loop : tie.InvT-loop
-Inv-loop part bytes code₀ data₀ room₀ last₀ i₀ code «data» room last i =
+Inv-loop part bytes code₀ data₀ room₀ core₀ collector₀ answer₀ i₀ code «data» room core collector answer i =
     (i ≤ length bytes)
     × (length code ≡ length code₀)
     × (length «data» ≡ length data₀)
     × (length room ≡ length room₀)
-    × (length (last .chip .collector .bytes) ≡ 260)
-    × FedFrom part bytes i (outcome last (flash code «data») room) (feedOf part bytes (outcome last₀ (flash code₀ data₀) room₀))
+    × (length (collector .bytes) ≡ 260)
+    × FedFrom part bytes i (standing core collector answer code «data» room) (feedOf part bytes (standing core₀ collector₀ answer₀ code₀ data₀ room₀))
 
 abbrev μ-loop : tie.MeasureT-loop
-μ-loop part bytes code₀ data₀ room₀ last₀ i₀ code «data» room last i = length bytes - i
+μ-loop part bytes code₀ data₀ room₀ core₀ collector₀ answer₀ i₀ code «data» room core collector answer i = length bytes - i
 
 long : (c : tie.Start Inv-loop μ-loop) → length (c .args .chip .collector .bytes) ≡ 260
 long c = search needs
@@ -39,47 +47,46 @@ stepped-long c = search needs
 
 loop-holds : tie.Need-loop-holds Inv-loop μ-loop
 loop-holds c =
-    let start = c .before .before .before .before in
-    (omega arith, refl, refl, refl, long start, fed-start _ _ _)
+    (omega arith, refl, refl, refl, long (c .before .before .before .before .before .before), fed-start _ _ _)
 
 returns : tie.Need-returns Inv-loop μ-loop
 returns c =
-    let loop = c .before .before .before .before .before .before .before .before .before .before .before .before .loop in
-    let loop-test = c .before .before .before .before .before .before .before .before .before .before .before .loop-test in
+    let loop = c .before .before .before .before .before .before .before .before .before .loop in
+    let loop-test = c .before .before .before .before .before .before .before .before .loop-test in
     let verdict = c .before .before .before .verdict in
     let v = c .before .v in
     fed-refused (loop .inv .5) (step-barred _ _ _ _ _ _ (sym (verdict .ensures) ∙ v .given .1)) (loop-test .taken) refl
 
 -- A stretch lies in the bytes.
 known : (c : tie.Then1 Inv-loop μ-loop)
-    → c .before .lacking .result ≤ length (c .before .before .before .before .before .before .before .before .before .before .before .args .bytes .now) - c .before .before .before .before .before .before .loop .i
+    → c .before .lacking .result ≤ length (c .before .before .before .before .before .before .before .before .before .before .before .args .bytes .now) - c .before .before .before .before .loop .i
 known c = lacks _ _ _ _ (c .before .lacking .ensures .0) (c .if1 .taken) .there
 
 add-end : tie.Need-add-end Inv-loop μ-loop
 add-end c =
-    let loop-test = c .before .before .before .before .before .before .before .before .before .before .loop-test in
-    omega (arith, known (c .before .before .before .before .before), loop-test .taken)
+    let loop-test = c .before .before .before .before .before .before .before .loop-test in
+    omega (arith, known (c .before .before .before .before), loop-test .taken)
 
 part-add-all-end : tie.Need-part-add-all-end Inv-loop μ-loop
 part-add-all-end c =
-    let loop-test = c .before .before .before .before .before .before .before .before .before .before .loop-test in
-    omega (arith, known (c .before .before .before .before .before), loop-test .taken)
+    let loop-test = c .before .before .before .before .before .before .before .loop-test in
+    omega (arith, known (c .before .before .before .before), loop-test .taken)
 
 loop-less : tie.Need-loop-less Inv-loop μ-loop
 loop-less c =
-    let loop-test = c .before .before .before .before .before .before .before .before .before .before .before .before .loop-test in
-    let if1 = c .before .before .before .before .before .before .before .if1 in
-    omega (arith, known (c .before .before .before .before .before .before .before), if1 .taken, loop-test .taken)
+    let loop-test = c .before .before .before .before .before .before .before .before .before .loop-test in
+    let if1 = c .before .before .before .before .before .before .if1 in
+    omega (arith, known (c .before .before .before .before .before .before), if1 .taken, loop-test .taken)
 
 loop-again : tie.Need-loop-again Inv-loop μ-loop
 loop-again c =
-    let loop = c .before .before .before .before .before .before .before .before .before .before .before .before .before .loop in
-    let loop-test = c .before .before .before .before .before .before .before .before .before .before .before .before .loop-test in
-    let lacking = c .before .before .before .before .before .before .before .before .lacking in
-    let if1 = c .before .before .before .before .before .before .before .if1 in
+    let loop = c .before .before .before .before .before .before .before .before .before .before .loop in
+    let loop-test = c .before .before .before .before .before .before .before .before .before .loop-test in
+    let lacking = c .before .before .before .before .before .before .before .lacking in
+    let if1 = c .before .before .before .before .before .before .if1 in
     let verdict = c .before .before .before .before .verdict in
     let enum-told = c .before .before .enum-told in (
-      omega (arith, known (c .before .before .before .before .before .before .before), loop-test .taken),
+      omega (arith, known (c .before .before .before .before .before .before), loop-test .taken),
       loop .inv .1,
       loop .inv .2,
       loop .inv .3,
@@ -89,63 +96,55 @@ loop-again c =
 
 same-length-4 : tie.Need-same-length-4 Inv-loop μ-loop
 same-length-4 c =
-    let far = c .before .before .before .before .before .before .before .before .before .before .before .before .before .before .before .before .before .before .before .before in
-    let loop = far .before .loop in
+    let loop = c .before .before .before .before .before .before .before .before .before .before .before .before .before .before .before .before .before .before .before .loop in
     let step = c .before .before .before .before .before .before .before .before .before .before .step in
     step .kept .1 .1 .1 .0 ∙ loop .inv .1
 
 same-length-5 : tie.Need-same-length-5 Inv-loop μ-loop
 same-length-5 c =
-    let far = c .before .before .before .before .before .before .before .before .before .before .before .before .before .before .before .before .before .before .before .before in
-    let loop = far .before .loop in
+    let loop = c .before .before .before .before .before .before .before .before .before .before .before .before .before .before .before .before .before .before .before .loop in
     let step = c .before .before .before .before .before .before .before .before .before .before .step in
     step .kept .1 .1 .1 .1 .0 ∙ loop .inv .2
 
 same-length-6 : tie.Need-same-length-6 Inv-loop μ-loop
 same-length-6 c =
-    let far = c .before .before .before .before .before .before .before .before .before .before .before .before .before .before .before .before .before .before .before .before in
-    let loop = far .before .loop in
+    let loop = c .before .before .before .before .before .before .before .before .before .before .before .before .before .before .before .before .before .before .before .loop in
     let step = c .before .before .before .before .before .before .before .before .before .before .step in
     step .kept .1 .1 .1 .1 .1 .0 ∙ loop .inv .3
 
 returns-2 : tie.Need-returns-2 Inv-loop μ-loop
 returns-2 c =
-    let far = c .before .before .before .before .before .before .before .before .before .before .before .before .before .before .before .before .before .before .before .before in
-    let loop = far .before .loop in
-    let loop-test = c .before .before .before .before .before .before .before .before .before .before .before .before .before .before .before .before .before .before .before .before .loop-test in
+    let loop = c .before .before .before .before .before .before .before .before .before .before .before .before .before .before .before .before .before .before .before .loop in
+    let loop-test = c .before .before .before .before .before .before .before .before .before .before .before .before .before .before .before .before .before .before .loop-test in
     let step = c .before .before .before .before .before .before .before .before .before .before .step in
-    let answer = c .before .answer in
-    fed-refused (loop .inv .5) (looked-at (answer .given .1) ∙ step .ensures) (loop-test .taken) refl
+    let said = c .before .said in
+    fed-refused (loop .inv .5) (looked-at (said .given .1) ∙ step .ensures) (loop-test .taken) refl
 
 same-length-7 : tie.Need-same-length-7 Inv-loop μ-loop
 same-length-7 c =
-    let far = c .before .before .before .before .before .before .before .before .before .before .before .before .before .before .before .before .before .before .before .before in
-    let loop = far .before .before .loop in
+    let loop = c .before .before .before .before .before .before .before .before .before .before .before .before .before .before .before .before .before .before .before .before .loop in
     let step = c .before .before .before .before .before .before .before .before .before .before .before .step in
     step .kept .1 .1 .1 .0 ∙ loop .inv .1
 
 same-length-8 : tie.Need-same-length-8 Inv-loop μ-loop
 same-length-8 c =
-    let far = c .before .before .before .before .before .before .before .before .before .before .before .before .before .before .before .before .before .before .before .before in
-    let loop = far .before .before .loop in
+    let loop = c .before .before .before .before .before .before .before .before .before .before .before .before .before .before .before .before .before .before .before .before .loop in
     let step = c .before .before .before .before .before .before .before .before .before .before .before .step in
     step .kept .1 .1 .1 .1 .0 ∙ loop .inv .2
 
 same-length-9 : tie.Need-same-length-9 Inv-loop μ-loop
 same-length-9 c =
-    let far = c .before .before .before .before .before .before .before .before .before .before .before .before .before .before .before .before .before .before .before .before in
-    let loop = far .before .before .loop in
+    let loop = c .before .before .before .before .before .before .before .before .before .before .before .before .before .before .before .before .before .before .before .before .loop in
     let step = c .before .before .before .before .before .before .before .before .before .before .before .step in
     step .kept .1 .1 .1 .1 .1 .0 ∙ loop .inv .3
 
 returns-3 : tie.Need-returns-3 Inv-loop μ-loop
 returns-3 c =
-    let far = c .before .before .before .before .before .before .before .before .before .before .before .before .before .before .before .before .before .before .before .before in
-    let loop = far .before .before .loop in
-    let loop-test = far .before .loop-test in
+    let loop = c .before .before .before .before .before .before .before .before .before .before .before .before .before .before .before .before .before .before .before .before .loop in
+    let loop-test = c .before .before .before .before .before .before .before .before .before .before .before .before .before .before .before .before .before .before .before .loop-test in
     let step = c .before .before .before .before .before .before .before .before .before .before .before .step in
-    let answer2 = c .before .before .answer2 in
-    fed-said (loop .inv .5) (looked-at (answer2 .given .1) ∙ step .ensures) (loop-test .taken) refl (c .if2 .taken)
+    let said2 = c .before .before .said2 in
+    fed-said (loop .inv .5) (looked-at (said2 .given .1) ∙ step .ensures) (loop-test .taken) refl (c .if2 .taken)
 
 loop-less-2 : tie.Need-loop-less-2 Inv-loop μ-loop
 loop-less-2 c =
@@ -158,18 +157,22 @@ loop-again-2 c =
     let far = c .before .before .before .before .before .before .before .before .before .before .before .before .before .before .before .before .before .before .before .before in
     let loop = far .before .before .loop in
     let loop-test = far .before .loop-test in
-    let step = c .before .before .before .before .before .before .before .before .before .before .before .step in
-    let answer2 = c .before .before .answer2 in (
+    let step = c .before .before .before .before .before .before .before .before .before .before .before .before .before .step in
+    let said2 = c .before .before .before .before .said2 in
+    let if2 = c .before .before .if2 in (
       omega (arith, loop-test .taken),
       step .kept .1 .1 .1 .0 ∙ loop .inv .1,
       step .kept .1 .1 .1 .1 .0 ∙ loop .inv .2,
       step .kept .1 .1 .1 .1 .1 .0 ∙ loop .inv .3,
-      stepped-long (c .before .before .before .before .before .before .before .before .before .before .before),
-      fed-turn (loop .inv .5) (looked-at (answer2 .given .1) ∙ step .ensures) (loop-test .taken) refl (c .if2 .left),
+      stepped-long (c .before .before .before .before .before .before .before .before .before .before .before .before .before),
+      fed-turn (loop .inv .5) (looked-at (said2 .given .1) ∙ step .ensures) (loop-test .taken) refl (if2 .left),
     )
 
 returns-4 : tie.Need-returns-4 Inv-loop μ-loop
-returns-4 c = fed-end (c .before .before .loop .inv .5) (c .before .loop-test .left)
+returns-4 c =
+    let loop = c .before .loop in
+    let loop-test = c .loop-test in
+    fed-end (loop .inv .5) (loop-test .left)
 
 pub feed-spec : {M : Type 1} → statement M
 feed-spec =
