@@ -1,12 +1,13 @@
 -- A byte that is only added to what is collected: it is a step that answers nothing, and the verdict on the next call stays accepted.
 -- Assumes nothing.
-use mathlib.Core.Bool.{true}
+use mathlib.Core.Bool.{Bool, false, true}
 use mathlib.Core.List.{List, [], _∷_}
 use mathlib.Core.Path.{_∙_, _≡_, ap, refl, sym}
 use Prim.Native.Nat.{_+_, _<_, _≤_, ℕ}
 use native.Mathlib.Omega.{arith}
 use lib.ListN.{getD, length}
-use borrow.Author.Tests.{le-leb, lt-leb}
+use lib.Dec.{leb}
+use borrow.Author.Tests.{lt-leb}
 use Rattle.chip_state.proofs.Laws.{Begun, accepts, begun, command-collected, data-collected, none-collected, one-more-accepted, state-collected}
 use Rattle.chip.proofs.Settling.{byte-accepted, hears-settles, same-event}
 use Rattle.chip.specs.Run.{before}
@@ -22,7 +23,7 @@ use Rattle.chip_core.specs.Hearing.{hearing}
 use Rattle.chip_core.specs.declared.Hearing.{Hearing}
 use Rattle.chip_core.specs.declared.Hearing.the-variants.{HearsCommands, HearsData, HearsNothing}
 use Rattle.frame.proofs.Laws.Collector.{added-before, added-byte, added-count}
-use Rattle.frame.proofs.Laws.Frame.{lacks}
+use Rattle.frame.proofs.Laws.Frame.{counted-some, lacks}
 use Rattle.frame.specs.Collector.{added, byteOf}
 use Rattle.frame.specs.Frame.{counted, lackingOf}
 use Rattle.frame.specs.declared.Header.{Header}
@@ -44,33 +45,52 @@ record HeardAs (f : Hearing) (c : Collector) : Type 0 where
   way : wayOf f (c .len) (getD (c .bytes) 1 0) ≡ Hears header
   begins : Begun c
 
-heard-as : (f : Hearing) (c : Collector) → length (c .bytes) ≡ 260 → 2 ≤ c .len → c .len < counted (getD (c .bytes) 1 0) + 3
+heard-as : (f : Hearing) (c : Collector) → length (c .bytes) ≡ 260 → 1 ≤ c .len → completesAt (c .len) (getD (c .bytes) 1 0) ≡ false
     → goodCollected f (c .len) (getD (c .bytes) 0 0) (getD (c .bytes) 1 0) ≡ true → HeardAs f c
-unfolding wayOf wayOn completesAt if_then_else_ _and_
+unfolding wayOf wayOn if_then_else_
 heard-as HearsNothing c l h s e = absurd (let z : c .len ≡ 0 = none-collected _ _ _ e in omega arith)
-heard-as HearsCommands c l h s e =
-    record { header = Command; way = simp (le-leb 2 (c .len) h, lt-leb (counted (getD (c .bytes) 1 0) + 3) (c .len) s); begins = begun Command c l (sym (command-collected _ _ _) ∙ e) }
-heard-as (HearsData w) c l h s e =
-    record { header = Data; way = simp (le-leb 2 (c .len) h, lt-leb (counted (getD (c .bytes) 1 0) + 3) (c .len) s); begins = begun Data c l (sym (data-collected w _ _ _) ∙ e) }
+heard-as HearsCommands c l h s e = record { header = Command; way = simp s; begins = begun Command c l (sym (command-collected _ _ _) ∙ e) }
+heard-as (HearsData w) c l h s e = record { header = Data; way = simp s; begins = begun Data c l (sym (data-collected w _ _ _) ∙ e) }
+
+not-last : (n len : ℕ) → n < counted len + 3 → completesAt n len ≡ false
+unfolding completesAt _and_
+not-last n len s = go (leb 2 n)
+  where
+    go : (t : Bool) → t and leb (counted len + 3) n ≡ false
+    go true = lt-leb (counted len + 3) n s
+    go false = refl
 
 abbrev pub after : Chip → ℕ → Chip
 after c b = record { core = c .core; collector = added (c .collector) (b ∷ []) }
 
 module _ (p : Part) (c : Chip) (m : Flash) (room : List ℕ) (places : length (c .collector .bytes) ≡ 260) (accepted : verdictAt p c m room ≡ Accepted)
-    (begun : 2 ≤ c .collector .len) (short : c .collector .len < counted (getD (c .collector .bytes) 1 0) + 3) where
+    (some : 1 ≤ c .collector .len) (short : completesAt (c .collector .len) (getD (c .collector .bytes) 1 0) ≡ false) where
   heard-so : HeardAs (hearing (c .core .phase)) (c .collector)
-  heard-so = heard-as (hearing (c .core .phase)) (c .collector) places begun short (state-collected p (c .core) _ _ _ (hearing (c .core .phase)) (accepts accepted .state) refl)
+  heard-so = heard-as (hearing (c .core .phase)) (c .collector) places some short (state-collected p (c .core) _ _ _ (hearing (c .core .phase)) (accepts accepted .state) refl)
 
-  pub byte-heard : (b : ℕ) → before (after c b) m room ≡ stepOf p c (Byte b) m room
-  byte-heard b =
+  only-added : (b : ℕ) → before (after c b) m room ≡ stepOf p c (Byte b) m room
+  only-added b =
       let w = heard-so in
       let adds : added (c .collector) (b ∷ []) ≡ byteOf (c .collector) (w .header) b =
       added-byte (c .collector) (w .header) b (λ z. omega arith) places (w .begins .within) (w .begins .lacks) in
       byte-accepted (before (after c b) m room) p c b m room accepted
       (hears-settles p (c .collector) (added (c .collector) (b ∷ [])) (c .core) (w .header) b m room places (accepts accepted) (w .way) adds)
 
+-- The LEN byte is one: it comes after the header, and no frame is complete with it.
+pub len-heard : (p : Part) (c : Chip) (m : Flash) (room : List ℕ) → length (c .collector .bytes) ≡ 260 → verdictAt p c m room ≡ Accepted → c .collector .len ≡ 1
+    → (b : ℕ) → before (after c b) m room ≡ stepOf p c (Byte b) m room
+len-heard p c m room l a e b = only-added p c m room l a (omega arith) (not-last _ _ (omega (arith, counted-some (getD (c .collector .bytes) 1 0)))) b
+
+module _ (p : Part) (c : Chip) (m : Flash) (room : List ℕ) (places : length (c .collector .bytes) ≡ 260) (accepted : verdictAt p c m room ≡ Accepted)
+    (begun : 2 ≤ c .collector .len) (short : c .collector .len < counted (getD (c .collector .bytes) 1 0) + 3) where
+  within : c .collector .len < 260
+  within = heard-so p c m room places accepted (omega arith) (not-last _ _ short) .begins .within
+
+  pub byte-heard : (b : ℕ) → before (after c b) m room ≡ stepOf p c (Byte b) m room
+  byte-heard b = only-added p c m room places accepted (omega arith) (not-last _ _ short) b
+
   pub added-at : (i b : ℕ) → i < 2 → getD (added (c .collector) (b ∷ []) .bytes) i 0 ≡ getD (c .collector .bytes) i 0
-  added-at i b h = added-before (c .collector) (b ∷ []) i places (omega (arith, heard-so .begins .within)) (omega arith)
+  added-at i b h = added-before (c .collector) (b ∷ []) i places (omega (arith, within)) (omega arith)
 
   pub still-accepted : (b : ℕ) → counted (getD (c .collector .bytes) 1 0) ≤ 256 → verdictAt p (after c b) m room ≡ Accepted
   still-accepted b small =

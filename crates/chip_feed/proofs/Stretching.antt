@@ -1,27 +1,32 @@
 -- A stretch of bytes that are only added to what is collected, in the loop over all: each is a step that answers nothing.
 -- Assumes nothing.
+use mathlib.Core.Bool.{Bool, false, true}
 use mathlib.Core.List.{List, [], _∷_}
 use mathlib.Core.Path.{_∙_, _≡_, ap, refl, subst, sym}
 use Prim.Native.Nat.{_+_, _-_, _<_, _≤_, suc, zero, ℕ}
 use native.Mathlib.Numerals.{add-one}
 use native.Mathlib.Omega.{arith}
+use lib.Dec.{eqb}
 use lib.ListN.{drop, getD, length, take}
 use lib.Seq.{drop-cons}
-use Rattle.chip.proofs.Adding.{added-at, after, byte-heard, still-accepted, verdictAt}
+use borrow.Author.Tests.{eqb-true}
+use Rattle.chip.proofs.Adding.{added-at, after, byte-heard, len-heard, still-accepted, verdictAt}
 use Rattle.chip_feed.proofs.Feeding.{FedFrom, fed-turn}
 use Rattle.chip.specs.Run.{before}
 use Rattle.chip_feed.specs.Feed.{Feeding, feedFrom}
+use Rattle.chip_feed.specs.inner.Turn.{addedNext}
 use Rattle.chip.specs.Step.{Outcome, stepOf}
 use Rattle.chip_state.specs.declared.Chip.{Chip}
 use Rattle.chip.specs.declared.Event.the-variants.{Byte}
 use Rattle.chip_core.specs.Effect.{Flash}
 use Rattle.frame.proofs.Laws.Collector.{added-count, added-more, added-none, added-places}
-use Rattle.frame.proofs.Laws.Frame.{lacks}
+use Rattle.frame.proofs.Laws.Frame.{Lacks, lacks}
 use Rattle.frame.specs.Collector.{added}
 use Rattle.frame.specs.Frame.{counted, lackingOf}
 use Rattle.frame.specs.declared.collector.Collector.{Collector}
 use Rattle.part.specs.declared.Part.{Part}
 use Rattle.part.specs.declared.refusal.Verdict.the-variants.{Accepted}
+use Rattle.words.specs.Words.{if_then_else_}
 
 -- The loop over a stretch: what the bytes still to come make of it stays the same.
 any-answer : {p : Part} {bs : List ℕ} {i : ℕ} {o : Outcome} {t : Feeding} → FedFrom p bs i o t → i < length bs → FedFrom p bs i (before (o .chip) (o .memory) (o .room)) t
@@ -64,14 +69,47 @@ stretch-fed p bs (suc k) i c m room t f l s a h n r =
 the-part : (i k : ℕ) → i + k - i ≡ k
 the-part i k = omega arith
 
--- A turn of the loop that takes a stretch.
+-- How many bytes a turn takes: the LEN byte, or as many as the frame begun lacks.
+pub data Takes (count len rest n : ℕ) : Type 0 where
+  theLen : count ≡ 1 → n ≡ 1 → 0 < rest → Takes count len rest n
+  theRest : Lacks count len rest n → Takes count len rest n
+
+takes : (count len rest n : ℕ) → 0 < rest → n ≡ addedNext count len rest → 0 < n → Takes count len rest n
+unfolding addedNext if_then_else_
+takes count len rest n r e h = go (eqb count 1) refl e
+  where
+    go : (t : Bool) → eqb count 1 ≡ t → n ≡ (if t then 1 else lackingOf count len rest) → Takes count len rest n
+    go true t e = theLen (eqb-true count 1 t) e r
+    go false t e = theRest (lacks count len rest n e h)
+
+pub takes-there : (count len rest n : ℕ) → 0 < rest → n ≡ addedNext count len rest → 0 < n → n ≤ rest
+takes-there count len rest n r e h = go (takes count len rest n r e h)
+  where
+    go : Takes count len rest n → n ≤ rest
+    go (theLen c o q) = omega arith
+    go (theRest x) = x .there
+
+one-taken : (bs : List ℕ) (i k : ℕ) → k ≡ 1 → i < length bs → take (i + k - i) (drop i bs) ≡ getD bs i 0 ∷ []
+one-taken bs i k e h = let n : i + k - i ≡ 1 = omega arith in rw (n, drop-cons bs i 0 h)
+
+-- A turn of the loop that takes bytes that are only added.
 pub fed-stretch : {p : Part} {bs : List ℕ} {i : ℕ} {o : Outcome} {t : Feeding} (k : ℕ) (d : Collector) → FedFrom p bs i o t → length (o .chip .collector .bytes) ≡ 260
     → counted (getD (o .chip .collector .bytes) 1 0) ≤ 256 → verdictAt p (o .chip) (o .memory) (o .room) ≡ Accepted
-    → k ≡ lackingOf (o .chip .collector .len) (getD (o .chip .collector .bytes) 1 0) (length bs - i) → 0 < k → i < length bs
+    → k ≡ addedNext (o .chip .collector .len) (getD (o .chip .collector .bytes) 1 0) (length bs - i) → 0 < k → i < length bs
     → d ≡ added (o .chip .collector) (take (i + k - i) (drop i bs))
     → FedFrom p bs (i + k) (before (record { core = o .chip .core; collector = d }) (o .memory) (o .room)) t
-fed-stretch {p} {bs} {i} {o} {t} k d f l s a e h q g =
-    let x = lacks (o .chip .collector .len) (getD (o .chip .collector .bytes) 1 0) (length bs - i) k e h in
-    subst (λ (z : Collector). FedFrom p bs (i + k) (before (record { core = o .chip .core; collector = z }) (o .memory) (o .room)) t)
-    (sym (g ∙ ap (λ (j : ℕ). added (o .chip .collector) (take j (drop i bs))) (the-part i k)))
-    (stretch-fed p bs k i (o .chip) (o .memory) (o .room) t (any-answer f q) l s a (x .begun) (x .short) (omega (arith, x .there)))
+fed-stretch {p} {bs} {i} {o} {t} k d f l s a e h q g = go (takes _ _ (length bs - i) k (omega arith) e h)
+  where
+    go : Takes (o .chip .collector .len) (getD (o .chip .collector .bytes) 1 0) (length bs - i) k
+        → FedFrom p bs (i + k) (before (record { core = o .chip .core; collector = d }) (o .memory) (o .room)) t
+    go (theLen c n r) =
+        let b = getD bs i 0 in
+        let y : d ≡ added (o .chip .collector) (b ∷ []) = g ∙ ap (added (o .chip .collector)) (one-taken bs i k n q) in
+        let x : FedFrom p bs (i + 1) (before (after (o .chip) b) (o .memory) (o .room)) t =
+        fed-turn (any-answer f q) (len-heard p (o .chip) (o .memory) (o .room) l a c b) q refl (omega arith) in
+        subst (λ (j : ℕ). FedFrom p bs j (before (record { core = o .chip .core; collector = d }) (o .memory) (o .room)) t) (omega arith)
+        (subst (λ (z : Collector). FedFrom p bs (i + 1) (before (record { core = o .chip .core; collector = z }) (o .memory) (o .room)) t) (sym y) x)
+    go (theRest x) =
+        subst (λ (z : Collector). FedFrom p bs (i + k) (before (record { core = o .chip .core; collector = z }) (o .memory) (o .room)) t)
+        (sym (g ∙ ap (λ (j : ℕ). added (o .chip .collector) (take j (drop i bs))) (the-part i k)))
+        (stretch-fed p bs k i (o .chip) (o .memory) (o .room) t (any-answer f q) l s a (x .begun) (x .short) (omega (arith, x .there)))

@@ -2,9 +2,10 @@
 ghost use mathlib.Core.Path.{_≡_};
 ghost use Rattle.chip.specs.Run.{before};
 ghost use Rattle.chip_core.specs.Effect.{flash};
-ghost use Prim.Native.Nat.{_≤_};
+ghost use Prim.Native.Nat.{_<_, _≤_};
 ghost use Rattle.chip_feed.specs.Feed.{fed, feedOf};
-ghost use Rattle.frame.specs.Frame.{counted, lackingOf};
+ghost use Rattle.chip_feed.specs.inner.Turn.{addedNext};
+ghost use Rattle.frame.specs.Frame.{counted};
 use chip::Answer;
 use chip::Event;
 use chip::events;
@@ -20,10 +21,15 @@ pub struct Fed {
     pub chip: Chip,
 }
 
-// How many bytes are only added; and what any LEN counts at most, which the loop over them needs to know.
+// How many bytes are only added: after the header its LEN byte, and then all up to the frame's last. And what any LEN counts at most, which the loop over them
+// needs to know.
 fn lacking(count: usize, len: u8, rest: usize) -> usize
-    ensures { λ r. ⌜ (r ≡ lackingOf count len rest) × (counted len ≤ 256) ⌝ }
+    requires { ⌜ 0 < rest ⌝ }
+    ensures { λ r. ⌜ (r ≡ addedNext count len rest) × (counted len ≤ 256) ⌝ }
 {
+    if count == 1 {
+        return 1;
+    }
     frame::lacking(count, len, rest)
 }
 

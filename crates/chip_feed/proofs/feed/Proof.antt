@@ -13,9 +13,8 @@ use Rattle.chip.specs.declared.Answer.{Answer}
 use Rattle.chip_core.specs.Effect.{flash}
 use Rattle.chip_core.specs.declared.Core.{Core}
 use Rattle.chip_feed.proofs.Feeding.{FedFrom, fed-end, fed-refused, fed-said, fed-start, fed-turn, looked-at}
-use Rattle.chip_feed.proofs.Stretching.{fed-stretch}
+use Rattle.chip_feed.proofs.Stretching.{fed-stretch, takes-there}
 use Rattle.chip_feed.specs.Feed.{feedOf}
-use Rattle.frame.proofs.Laws.Frame.{lacks}
 use Rattle.frame.specs.declared.collector.Collector.{Collector}
 use Rattle.chip_feed.proofs.feed.Statement.{statement}
 use Rattle.chip_feed.proofs.feed.Tie as tie
@@ -60,7 +59,9 @@ returns c =
 -- A stretch lies in the bytes.
 known : (c : tie.Then1 Inv-loop μ-loop)
     → c .before .lacking .result ≤ length (c .before .before .before .before .before .before .before .before .before .before .before .args .bytes .now) - c .before .before .before .before .loop .i
-known c = lacks _ _ _ _ (c .before .lacking .ensures .0) (c .if1 .taken) .there
+known c =
+    let loop-test = c .before .before .before .loop-test in
+    takes-there _ _ _ _ (omega (arith, loop-test .taken)) (c .before .lacking .ensures .0) (c .if1 .taken)
 
 add-end : tie.Need-add-end Inv-loop μ-loop
 add-end c =
