@@ -21,7 +21,7 @@ static uint8_t part[ZC_PART], job[ZC_JOB], dock[ZC_DOCK], image[END + 1 - START]
 static uint8_t answer[52 * 31];
 
 /* What every call of the chip and of the dock begins with, and what the chip's events end with. */
-#define CHIP 16, 4, 32, names, sizeof names, state, sizeof state
+#define CHIP part, state
 #define FLASH code, sizeof code, data, sizeof data, room, sizeof room
 #define DOCK part, job, image, sizeof image, dock
 
@@ -35,8 +35,9 @@ static void must(const char *call, uint32_t refusal) {
 static size_t hear(const uint8_t *heard, size_t length) {
     size_t said = 0;
     while (length > 0) {
-        size_t taken, bytes, frames;
-        must("zc_feed", zc_feed(CHIP, heard, length, FLASH, &taken, &bytes, &frames));
+        uint64_t told[3];
+        must("zc_feed", zc_feed(CHIP, heard, length, FLASH, told));
+        uint64_t taken = told[0], bytes = told[1];
         memcpy(answer + said, room, bytes);
         said += bytes;
         heard += taken;
@@ -53,8 +54,7 @@ static void print_bytes(const uint8_t *bytes, size_t length, size_t most) {
 int main(void) {
     static const char *const why[] = {"", " by status", " by mismatch", ", unreadable", " by timeout"};
     static const uint8_t mode_byte = 0x3A;
-    size_t bytes, frames;
-    uint64_t length[1], told[3] = {ZC_GOES_ON};
+    uint64_t length[1], reply[2], told[3] = {ZC_GOES_ON};
 
     memset(code, 0x5A, sizeof code);
     memset(data, 0xFF, sizeof data);
@@ -67,7 +67,7 @@ int main(void) {
     hear(&mode_byte, 1);
     while (told[0] == ZC_GOES_ON) {
         must("zc_ask", zc_ask(DOCK, frame, sizeof frame, length));
-        must("zc_gap", zc_gap(CHIP, FLASH, &bytes, &frames));
+        must("zc_gap", zc_gap(CHIP, FLASH, reply));
         size_t said = hear(frame, length[0]);
         print_bytes(frame, length[0], 12);
         printf(" -> ");

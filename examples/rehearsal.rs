@@ -34,8 +34,8 @@ impl Chip {
                 &mut self.room,
             );
             must("zc_feed", told.refusal);
-            said.extend(&self.room[..told.bytes]);
-            bytes = &bytes[taken..];
+            said.extend(&self.room[..told.bytes as usize]);
+            bytes = &bytes[taken as usize..];
         }
         said
     }

@@ -11,7 +11,7 @@
 static const uint8_t names[ZC_NAMES] = {0x10, 0x00, 0x06, 'R', '5', 'F', '1', '0', '0', 'L', 'E', ' ', ' ', 1, 2, 3};
 static const uint8_t heard[] = {0x3A, 0x01, 0x03, 0x9A, 0x00, 0x21, 0x42, 0x03, 0x01, 0x01, 0xA1, 0x5E, 0x03};
 
-static uint8_t state[ZC_STATE], code[1024 * CODE_BLOCKS], data[1024 * DATA_BLOCKS], room[ZC_ROOM];
+static uint8_t part[ZC_PART], state[ZC_STATE], code[1024 * CODE_BLOCKS], data[1024 * DATA_BLOCKS], room[ZC_ROOM];
 
 /* Reply frames lie end to end; a frame has LEN + 4 bytes, and LEN 00h is 256. */
 static size_t print_frames(const uint8_t *reply, size_t bytes) {
@@ -27,14 +27,15 @@ int main(void) {
     size_t total = 0, at = 0;
     memset(code, 0xFF, sizeof code);
     memset(data, 0xFF, sizeof data);
-    uint32_t refused = zc_fresh(CODE_BLOCKS, DATA_BLOCKS, CLOCK, names, sizeof names, state, sizeof state);
+    zc_part(part, CODE_BLOCKS, DATA_BLOCKS, CLOCK, names);
+    uint32_t refused = zc_fresh(part, state);
     while (refused == 0 && at < sizeof heard) {
-        size_t taken, bytes, frames;
-        refused = zc_feed(CODE_BLOCKS, DATA_BLOCKS, CLOCK, names, sizeof names, state, sizeof state, heard + at, sizeof heard - at, code, sizeof code,
-                          data, sizeof data, room, sizeof room, &taken, &bytes, &frames);
-        at += taken;
-        if (print_frames(room, bytes) != frames) return 2;
-        total += frames;
+        uint64_t told[3];
+        refused = zc_feed(part, state, heard + at, sizeof heard - at, code, sizeof code, data, sizeof data, room, sizeof room, told);
+        if (refused != 0) break;
+        at += told[0];
+        if (print_frames(room, told[1]) != told[2]) return 2;
+        total += told[2];
     }
     if (refused != 0) {
         printf("REFUSED %u\n", (unsigned)refused);

@@ -31,7 +31,7 @@ fn main() {
         &mut room,
         &mut output,
     );
-    let mut rest = &output[..told.bytes];
+    let mut rest = &output[..told.bytes as usize];
     while let [_, len, ..] = *rest {
         let end = if len == 0 { 260 } else { usize::from(len) + 4 };
         let line: Vec<String> = rest[..end]

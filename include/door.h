@@ -1,60 +1,65 @@
-/* The proved chip and the proved dock for programs in C: document 01's software chip behind six calls, and its dock behind four.
+/* The proved chip and the proved dock for programs in C: document 01's software chip behind six calls, and its dock behind five.
  *
- * Every call is total: no argument makes it undefined, as long as each pointer points to as many bytes as the length after it says, nothing that is lent to
- * be changed overlaps anything else, and the pointers to numbers are not null. What a call does is proved equal to a definition (crates/chip_door/specs,
- * crates/replay_door/specs and crates/dock_door/specs); nothing checks this header against the source, so it is kept to numbers and bytes.
+ * Every call is total: no argument makes it undefined, as long as each pointer points to as many bytes as its array or the length after it says, nothing that is
+ * lent to be changed overlaps anything else, and no pointer is null but that of a slice of length 0. What a call does is proved equal to a definition
+ * (crates/chip_door/specs, crates/replay_door/specs and crates/dock_door/specs); nothing checks this header against the source, so it is kept to numbers and
+ * bytes.
  *
- * A part is three numbers and 16 bytes of names: device code (3), name (10), firmware version (3).
+ * Lengths and the numbers told are 64 bits on every processor, so that firmware of 32 bits and a page in wasm link the same module. There is no state but
+ * what is lent: calls on different states may run at once, in interrupts too.
  *
+ * A part is ZC_PART bytes, a job ZC_JOB bytes beside its part and an image as long as its range; zc_part and zc_job below write them:
+ *     part: 0 code blocks   1 data blocks   2 clock   3-5 device code   6-15 name   16-18 firmware version
+ *     job: 0-3 first address   4-7 last address   8 rate code   9 supply in 100 mV   10 retries allowed
  * A chip's state is ZC_STATE bytes, which the caller keeps and lends:
- *     0 flags   1 last boot block   2-3 window start   4-5 window end   6 rate   7 phase (1 to 4)
+ *     0 flags   1 last boot block   2-3 window start   4-5 window end   6 rate   7 phase (ZC_PHASE_..)
  *     8 command that awaits data   9-16 next address   17-24 last address   25-32 count of collected bytes   33-292 collected bytes
- * Numbers are low byte first. In phases 1 to 3 the bytes 8 to 24 are 0.
- *
- * Each call answers 0, or the number of document 01's refusal, in the order 1, 2, 3, 9, 4:
- *     1 the part is outside the document's numbers, or its names are not 16 bytes
- *     2, 3 the code or the data slice is not 1,024 times the part's blocks
- *     9 the bytes are no state, or none that the document accepts
- *     4 the reply room is under 32 bytes (zc_replay, after these: also output under 192 bytes)
- * After a refusal nothing that was lent has changed, but for the numbers told, which are 0. zc_replay alone can be refused after some records (4, for want of
- * output): what those did stays, and the numbers count them.
- *
- * A part, where the dock's calls take one, is ZC_PART bytes:
- *     0 code blocks   1 data blocks   2 clock   3-5 device code   6-15 name   16-18 firmware version
- * A job is ZC_JOB bytes, beside its part and an image as long as its range:
- *     0-3 first address   4-7 last address   8 rate code   9 supply in 100 mV   10 retries allowed
- * zc_part and zc_job below write both. The dock's state does not hold them: hand in the same part, job and image at every call.
- *
- * A dock's state is ZC_DOCK bytes, which the caller keeps and lends:
+ * In phases 1 to 3 the bytes 8 to 24 are 0. Collected bytes past the count are kept as they are, and nothing looks at them.
+ * A dock's state is ZC_DOCK bytes. It does not hold the job: hand in the same part, job and image at every call.
  *     0 stage (ZC_STAGE_..)   1 whether the answer to that frame is awaited (0 or 1)   2-5 retries used   6-9 frames used
  *     10 whether a block is named (0 or 1)   11-14 the block, counted in the job from 0   15 whether a page is named (0 or 1)   16-19 the page
  *     20 why the job failed (ZC_BY_..)   21 the command of the frame that failed   22 the status named
- * Numbers are low byte first. Stages 4 to 9 name their block, 7 and 9 their page, and 11 what the failure names; whatever is not named is 0.
+ * Stages 4 to 9 name their block, 7 and 9 their page, and 11 what the failure names; whatever is not named is 0. Numbers are low byte first.
  *
- * The dock's calls answer 0, or the number of document 01's refusal, in the order 1, 5, 6, 7, 9, 4, 8:
- *     1 the part, the rate or the supply is outside the document's numbers
- *     5 the range is bad   6 the image is not as long as the range   7 more than 15 retries
- *     9 the bytes are no state of a dock, or none that the document accepts for this job
- *     4 the frame room is under 260 bytes
- *     8 out of turn: a frame asked while an answer is awaited, an answer or a timeout while none is, or anything once the job is over
- * After a refusal nothing that was lent has changed, the numbers told included.
+ * Each call answers 0, or the number of document 01's refusal, for the chip in the order 1, 2, 3, 9, 4, for the dock 1, 5, 6, 7, 9, 4, 8. After a refusal nothing
+ * that was lent has changed, the numbers told included. zc_replay can also end with ZC_BAD_RECORD or ZC_OUTPUT_FULL, which are no refusals.
  */
 #ifndef ZC_DOOR_H
 #define ZC_DOOR_H
 
-#include <stddef.h>
 #include <stdint.h>
 
-#define ZC_STATE 293
-#define ZC_NAMES 16
-#define ZC_ROOM 32
-#define ZC_OUTPUT 192
-#define ZC_BAD_RECORD 16
+/* Sizes. */
 #define ZC_PART 19
+#define ZC_NAMES 16
 #define ZC_JOB 11
+#define ZC_STATE 293
 #define ZC_DOCK 23
-#define ZC_FRAME_ROOM 260
-#define ZC_ANSWER 31
+#define ZC_ROOM 32 /* the least reply room */
+#define ZC_FRAME_ROOM 260 /* the least frame room */
+#define ZC_OUTPUT 192 /* output for the replies to one record */
+#define ZC_ANSWER 31 /* the longest answer to a frame of the dock */
+
+/* Refusals. */
+#define ZC_BAD_PART 1 /* the part, or the rate or the supply of a job, is outside the document's numbers */
+#define ZC_CODE_LENGTH 2 /* the code slice is not 1,024 times the part's code blocks */
+#define ZC_DATA_LENGTH 3
+#define ZC_SHORT_ROOM 4 /* the reply room is under 32 bytes, or the frame room under 260 */
+#define ZC_BAD_RANGE 5
+#define ZC_IMAGE_LENGTH 6 /* the image is not as long as the range */
+#define ZC_MANY_RETRIES 7 /* more than 15 */
+#define ZC_OUT_OF_TURN 8 /* a frame asked while an answer is awaited, an answer or a timeout while none is, or anything once the job is over */
+#define ZC_BAD_STATE 9 /* the bytes are no state, or none that the document accepts */
+
+/* How a replay ends, beside 0 and the refusals. */
+#define ZC_BAD_RECORD 16 /* the next record is not good */
+#define ZC_OUTPUT_FULL 17 /* the output has no 192 bytes left for the next record's replies: go on from it with fresh output */
+
+/* The phase of a chip. */
+#define ZC_PHASE_MODE_BYTE 1
+#define ZC_PHASE_SETUP 2
+#define ZC_PHASE_READY 3
+#define ZC_PHASE_DATA 4
 
 /* The stage of a dock, and the frame that it sends. */
 #define ZC_STAGE_RATE 1 /* 9Ah */
@@ -84,31 +89,26 @@
 extern "C" {
 #endif
 
-/* A fresh chip of the part: at the mode byte, fresh options, nothing collected. The flash is the caller's to set to FFh. Refusals: 1, 9 (length). */
-uint32_t zc_fresh(uint32_t code_blocks, uint32_t data_blocks, uint32_t clock, const uint8_t *names, size_t names_len, uint8_t *state, size_t state_len);
+/* A fresh chip of the part: at the mode byte, fresh options, nothing collected. The flash is the caller's to set to FFh. Refusal: 1. */
+uint32_t zc_fresh(const uint8_t part[ZC_PART], uint8_t state[ZC_STATE]);
 
-/* One event. A reply lies at the start of the room: so many bytes, which are so many frames; the room past them stays. */
-uint32_t zc_byte(uint32_t code_blocks, uint32_t data_blocks, uint32_t clock, const uint8_t *names, size_t names_len, uint8_t *state, size_t state_len,
-                 uint8_t byte, uint8_t *code, size_t code_len, uint8_t *data, size_t data_len, uint8_t *room, size_t room_len, size_t *bytes,
-                 size_t *frames);
-uint32_t zc_gap(uint32_t code_blocks, uint32_t data_blocks, uint32_t clock, const uint8_t *names, size_t names_len, uint8_t *state, size_t state_len,
-                uint8_t *code, size_t code_len, uint8_t *data, size_t data_len, uint8_t *room, size_t room_len, size_t *bytes, size_t *frames);
-uint32_t zc_power_on(uint32_t code_blocks, uint32_t data_blocks, uint32_t clock, const uint8_t *names, size_t names_len, uint8_t *state,
-                     size_t state_len, uint8_t *code, size_t code_len, uint8_t *data, size_t data_len, uint8_t *room, size_t room_len, size_t *bytes,
-                     size_t *frames);
+/* One event. A reply lies at the start of the room: told[0] bytes, which are told[1] frames; the room past them stays. */
+uint32_t zc_byte(const uint8_t part[ZC_PART], uint8_t state[ZC_STATE], uint8_t byte, uint8_t *code, uint64_t code_len, uint8_t *data, uint64_t data_len,
+                 uint8_t *room, uint64_t room_len, uint64_t told[2]);
+uint32_t zc_gap(const uint8_t part[ZC_PART], uint8_t state[ZC_STATE], uint8_t *code, uint64_t code_len, uint8_t *data, uint64_t data_len, uint8_t *room,
+                uint64_t room_len, uint64_t told[2]);
+uint32_t zc_power_on(const uint8_t part[ZC_PART], uint8_t state[ZC_STATE], uint8_t *code, uint64_t code_len, uint8_t *data, uint64_t data_len, uint8_t *room,
+                     uint64_t room_len, uint64_t told[2]);
 
-/* Bytes one after the other, each as zc_byte would take it, up to the first that is answered; `taken` of them were taken. Hand in the rest again. It is refused
- * as zc_byte would be, also where there is no byte. */
-uint32_t zc_feed(uint32_t code_blocks, uint32_t data_blocks, uint32_t clock, const uint8_t *names, size_t names_len, uint8_t *state, size_t state_len,
-                 const uint8_t *fed, size_t fed_len, uint8_t *code, size_t code_len, uint8_t *data, size_t data_len, uint8_t *room, size_t room_len,
-                 size_t *taken, size_t *bytes, size_t *frames);
+/* Bytes one after the other, each as zc_byte would take it, up to the first that is answered; told[0] of them were taken, and told[1] and told[2] are the
+ * reply's bytes and frames. Hand in the rest again. It is refused as zc_byte would be, also where there is no byte. */
+uint32_t zc_feed(const uint8_t part[ZC_PART], uint8_t state[ZC_STATE], const uint8_t *fed, uint64_t fed_len, uint8_t *code, uint64_t code_len, uint8_t *data,
+                 uint64_t data_len, uint8_t *room, uint64_t room_len, uint64_t told[3]);
 
-/* Capture records (8 bytes each) one after the other. `played` records were played; their replies lie end to end in the output. ZC_BAD_RECORD: the next
- * record is not good. 1, 2, 3, 9, and 4 for a reply room under 32 bytes: before any record, as zc_gap would be refused, also where there is none. 4 with a
- * reply room of 32 bytes: the output has no 192 bytes left for the next record's replies; go on from it with fresh output. */
-uint32_t zc_replay(uint32_t code_blocks, uint32_t data_blocks, uint32_t clock, const uint8_t *names, size_t names_len, uint8_t *state,
-                   size_t state_len, const uint8_t *capture, size_t capture_len, uint8_t *code, size_t code_len, uint8_t *data, size_t data_len,
-                   uint8_t *room, size_t room_len, uint8_t *output, size_t output_len, size_t *played, size_t *bytes, size_t *frames);
+/* Capture records (8 bytes each) one after the other. told[0] records were played; their replies, told[1] bytes and told[2] frames, lie end to end in the output.
+ * It is refused before any record, as zc_gap would be, also where there is none. An empty capture needs no output. */
+uint32_t zc_replay(const uint8_t part[ZC_PART], uint8_t state[ZC_STATE], const uint8_t *capture, uint64_t capture_len, uint8_t *code, uint64_t code_len,
+                   uint8_t *data, uint64_t data_len, uint8_t *room, uint64_t room_len, uint8_t *output, uint64_t output_len, uint64_t told[3]);
 
 /* A dock before its first frame. The chip that it is for has its mode byte. Refusals: 1, 5, 6, 7. */
 uint32_t zc_start(const uint8_t part[ZC_PART], const uint8_t job[ZC_JOB], const uint8_t *image, uint64_t image_len, uint8_t dock[ZC_DOCK]);
@@ -156,6 +156,10 @@ static inline void zc_job(uint8_t job[ZC_JOB], uint32_t first, uint32_t last, ui
     job[9] = zc_low(supply);
     job[10] = zc_low(retries);
 }
+
+static inline uint8_t zc_chip_phase(const uint8_t state[ZC_STATE]) { return state[7]; }
+/* How many bytes are collected; they begin at state + 33. */
+static inline uint64_t zc_chip_collected(const uint8_t state[ZC_STATE]) { return zc_get4(state + 25) | (uint64_t)zc_get4(state + 29) << 32; }
 
 static inline uint8_t zc_dock_stage(const uint8_t dock[ZC_DOCK]) { return dock[0]; }
 static inline uint32_t zc_dock_retries(const uint8_t dock[ZC_DOCK]) { return zc_get4(dock + 2); }

@@ -12,6 +12,7 @@ pub const FRAME_ROOM: usize = 260;
 pub const ANSWER: usize = 31;
 pub const OUTPUT: usize = 192;
 pub const BAD_RECORD: u32 = 16;
+pub const OUTPUT_FULL: u32 = 17;
 
 /// A part as its bytes: three numbers, and device code (3), name (10), firmware version (3).
 pub type Part = [u8; PART];
@@ -54,8 +55,8 @@ fn low(number: u32) -> u8 {
 #[derive(Clone, Copy, Debug, PartialEq, Eq)]
 pub struct Told {
     pub refusal: u32,
-    pub bytes: usize,
-    pub frames: usize,
+    pub bytes: u64,
+    pub frames: u64,
 }
 
 /// What zc_answer and zc_timeout tell.
@@ -73,210 +74,155 @@ pub const UNTOLD: u64 = u64::MAX;
 // In each function below a pointer goes with its own slice's length, and what is lent to be changed is borrowed mutably, so that nothing overlaps it.
 
 #[inline]
-pub fn fresh(part: &Part, state: &mut [u8]) -> u32 {
-    unsafe {
-        zc_fresh(
-            part[0].into(),
-            part[1].into(),
-            part[2].into(),
-            part[3..].as_ptr(),
-            NAMES,
-            state.as_mut_ptr(),
-            state.len(),
-        )
-    }
+pub fn fresh(part: &Part, state: &mut [u8; STATE]) -> u32 {
+    unsafe { zc_fresh(part, state) }
 }
 
 #[inline]
 pub fn byte(
     part: &Part,
-    state: &mut [u8],
+    state: &mut [u8; STATE],
     byte: u8,
     code: &mut [u8],
     data: &mut [u8],
     room: &mut [u8],
 ) -> Told {
-    let (mut bytes, mut frames) = (usize::MAX, usize::MAX);
+    let mut told = [UNTOLD; 2];
     let refusal = unsafe {
         zc_byte(
-            part[0].into(),
-            part[1].into(),
-            part[2].into(),
-            part[3..].as_ptr(),
-            NAMES,
-            state.as_mut_ptr(),
-            state.len(),
+            part,
+            state,
             byte,
             code.as_mut_ptr(),
-            code.len(),
+            code.len() as u64,
             data.as_mut_ptr(),
-            data.len(),
+            data.len() as u64,
             room.as_mut_ptr(),
-            room.len(),
-            &mut bytes,
-            &mut frames,
+            room.len() as u64,
+            &mut told,
         )
     };
-    Told {
-        refusal,
-        bytes,
-        frames,
-    }
+    answered(refusal, told)
 }
 
 #[inline]
 pub fn gap(
     part: &Part,
-    state: &mut [u8],
+    state: &mut [u8; STATE],
     code: &mut [u8],
     data: &mut [u8],
     room: &mut [u8],
 ) -> Told {
-    let (mut bytes, mut frames) = (usize::MAX, usize::MAX);
+    let mut told = [UNTOLD; 2];
     let refusal = unsafe {
         zc_gap(
-            part[0].into(),
-            part[1].into(),
-            part[2].into(),
-            part[3..].as_ptr(),
-            NAMES,
-            state.as_mut_ptr(),
-            state.len(),
+            part,
+            state,
             code.as_mut_ptr(),
-            code.len(),
+            code.len() as u64,
             data.as_mut_ptr(),
-            data.len(),
+            data.len() as u64,
             room.as_mut_ptr(),
-            room.len(),
-            &mut bytes,
-            &mut frames,
+            room.len() as u64,
+            &mut told,
         )
     };
-    Told {
-        refusal,
-        bytes,
-        frames,
-    }
+    answered(refusal, told)
 }
 
 #[inline]
 pub fn power_on(
     part: &Part,
-    state: &mut [u8],
+    state: &mut [u8; STATE],
     code: &mut [u8],
     data: &mut [u8],
     room: &mut [u8],
 ) -> Told {
-    let (mut bytes, mut frames) = (usize::MAX, usize::MAX);
+    let mut told = [UNTOLD; 2];
     let refusal = unsafe {
         zc_power_on(
-            part[0].into(),
-            part[1].into(),
-            part[2].into(),
-            part[3..].as_ptr(),
-            NAMES,
-            state.as_mut_ptr(),
-            state.len(),
+            part,
+            state,
             code.as_mut_ptr(),
-            code.len(),
+            code.len() as u64,
             data.as_mut_ptr(),
-            data.len(),
+            data.len() as u64,
             room.as_mut_ptr(),
-            room.len(),
-            &mut bytes,
-            &mut frames,
+            room.len() as u64,
+            &mut told,
         )
     };
-    Told {
-        refusal,
-        bytes,
-        frames,
-    }
+    answered(refusal, told)
 }
 
 /// How many bytes were taken, and what the call told.
 #[inline]
 pub fn feed(
     part: &Part,
-    state: &mut [u8],
+    state: &mut [u8; STATE],
     fed: &[u8],
     code: &mut [u8],
     data: &mut [u8],
     room: &mut [u8],
-) -> (usize, Told) {
-    let (mut taken, mut bytes, mut frames) = (usize::MAX, usize::MAX, usize::MAX);
+) -> (u64, Told) {
+    let mut told = [UNTOLD; 3];
     let refusal = unsafe {
         zc_feed(
-            part[0].into(),
-            part[1].into(),
-            part[2].into(),
-            part[3..].as_ptr(),
-            NAMES,
-            state.as_mut_ptr(),
-            state.len(),
+            part,
+            state,
             fed.as_ptr(),
-            fed.len(),
+            fed.len() as u64,
             code.as_mut_ptr(),
-            code.len(),
+            code.len() as u64,
             data.as_mut_ptr(),
-            data.len(),
+            data.len() as u64,
             room.as_mut_ptr(),
-            room.len(),
-            &mut taken,
-            &mut bytes,
-            &mut frames,
+            room.len() as u64,
+            &mut told,
         )
     };
-    let told = Told {
-        refusal,
-        bytes,
-        frames,
-    };
-    (taken, told)
+    (told[0], answered(refusal, [told[1], told[2]]))
 }
 
-/// How many records were played, and what the call told; BAD_RECORD stands where a refusal would.
+/// How many records were played, and what the call told; BAD_RECORD or OUTPUT_FULL stands where a refusal would.
 #[inline]
 pub fn replay(
     part: &Part,
-    state: &mut [u8],
+    state: &mut [u8; STATE],
     capture: &[u8],
     code: &mut [u8],
     data: &mut [u8],
     room: &mut [u8],
     output: &mut [u8],
-) -> (usize, Told) {
-    let (mut played, mut bytes, mut frames) = (usize::MAX, usize::MAX, usize::MAX);
+) -> (u64, Told) {
+    let mut told = [UNTOLD; 3];
     let refusal = unsafe {
         zc_replay(
-            part[0].into(),
-            part[1].into(),
-            part[2].into(),
-            part[3..].as_ptr(),
-            NAMES,
-            state.as_mut_ptr(),
-            state.len(),
+            part,
+            state,
             capture.as_ptr(),
-            capture.len(),
+            capture.len() as u64,
             code.as_mut_ptr(),
-            code.len(),
+            code.len() as u64,
             data.as_mut_ptr(),
-            data.len(),
+            data.len() as u64,
             room.as_mut_ptr(),
-            room.len(),
+            room.len() as u64,
             output.as_mut_ptr(),
-            output.len(),
-            &mut played,
-            &mut bytes,
-            &mut frames,
+            output.len() as u64,
+            &mut told,
         )
     };
-    let told = Told {
+    (told[0], answered(refusal, [told[1], told[2]]))
+}
+
+#[inline]
+fn answered(refusal: u32, [bytes, frames]: [u64; 2]) -> Told {
+    Told {
         refusal,
         bytes,
         frames,
-    };
-    (played, told)
+    }
 }
 
 #[inline]
@@ -373,108 +319,68 @@ fn reported(refusal: u32, [ended, frames_used, retries_used]: [u64; 3]) -> Repor
 
 #[link(name = "door", kind = "static")]
 extern "C" {
-    fn zc_fresh(
-        code_blocks: u32,
-        data_blocks: u32,
-        clock: u32,
-        names: *const u8,
-        names_len: usize,
-        state: *mut u8,
-        state_len: usize,
-    ) -> u32;
+    fn zc_fresh(part: *const [u8; PART], state: *mut [u8; STATE]) -> u32;
     fn zc_byte(
-        code_blocks: u32,
-        data_blocks: u32,
-        clock: u32,
-        names: *const u8,
-        names_len: usize,
-        state: *mut u8,
-        state_len: usize,
+        part: *const [u8; PART],
+        state: *mut [u8; STATE],
         byte: u8,
         code: *mut u8,
-        code_len: usize,
+        code_len: u64,
         data: *mut u8,
-        data_len: usize,
+        data_len: u64,
         room: *mut u8,
-        room_len: usize,
-        bytes: *mut usize,
-        frames: *mut usize,
+        room_len: u64,
+        told: *mut [u64; 2],
     ) -> u32;
     fn zc_gap(
-        code_blocks: u32,
-        data_blocks: u32,
-        clock: u32,
-        names: *const u8,
-        names_len: usize,
-        state: *mut u8,
-        state_len: usize,
+        part: *const [u8; PART],
+        state: *mut [u8; STATE],
         code: *mut u8,
-        code_len: usize,
+        code_len: u64,
         data: *mut u8,
-        data_len: usize,
+        data_len: u64,
         room: *mut u8,
-        room_len: usize,
-        bytes: *mut usize,
-        frames: *mut usize,
+        room_len: u64,
+        told: *mut [u64; 2],
     ) -> u32;
     fn zc_power_on(
-        code_blocks: u32,
-        data_blocks: u32,
-        clock: u32,
-        names: *const u8,
-        names_len: usize,
-        state: *mut u8,
-        state_len: usize,
+        part: *const [u8; PART],
+        state: *mut [u8; STATE],
         code: *mut u8,
-        code_len: usize,
+        code_len: u64,
         data: *mut u8,
-        data_len: usize,
+        data_len: u64,
         room: *mut u8,
-        room_len: usize,
-        bytes: *mut usize,
-        frames: *mut usize,
+        room_len: u64,
+        told: *mut [u64; 2],
     ) -> u32;
     fn zc_feed(
-        code_blocks: u32,
-        data_blocks: u32,
-        clock: u32,
-        names: *const u8,
-        names_len: usize,
-        state: *mut u8,
-        state_len: usize,
+        part: *const [u8; PART],
+        state: *mut [u8; STATE],
         fed: *const u8,
-        fed_len: usize,
+        fed_len: u64,
         code: *mut u8,
-        code_len: usize,
+        code_len: u64,
         data: *mut u8,
-        data_len: usize,
+        data_len: u64,
         room: *mut u8,
-        room_len: usize,
-        taken: *mut usize,
-        bytes: *mut usize,
-        frames: *mut usize,
+        room_len: u64,
+        told: *mut [u64; 3],
     ) -> u32;
     fn zc_replay(
-        code_blocks: u32,
-        data_blocks: u32,
-        clock: u32,
-        names: *const u8,
-        names_len: usize,
-        state: *mut u8,
-        state_len: usize,
+        part: *const [u8; PART],
+        state: *mut [u8; STATE],
         capture: *const u8,
-        capture_len: usize,
+        capture_len: u64,
         code: *mut u8,
-        code_len: usize,
+        code_len: u64,
         data: *mut u8,
-        data_len: usize,
+        data_len: u64,
         room: *mut u8,
-        room_len: usize,
+        room_len: u64,
         output: *mut u8,
-        output_len: usize,
-        played: *mut usize,
-        bytes: *mut usize,
-        frames: *mut usize,
+        output_len: u64,
+        told: *mut [u64; 3],
     ) -> u32;
     fn zc_start(
         part: *const [u8; PART],

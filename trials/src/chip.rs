@@ -1,6 +1,6 @@
 //! A proved chip with its flash and reply room, and the twin's chip in the door's layout.
 
-use crate::door::{self, Told, NAMES, ROOM, STATE};
+use crate::door::{self, Told, NAMES, OUTPUT_FULL, ROOM, STATE};
 use twin::chip::{Chip, Phase, ERASED};
 use twin::part::{Area, Part};
 
@@ -61,7 +61,7 @@ impl Door {
             &mut self.data,
             &mut self.room,
         );
-        (taken, accepted(told))
+        (taken as usize, accepted(told))
     }
 
     /// How many records were played, and the bytes of their replies. The output may be too short for all of them.
@@ -75,15 +75,15 @@ impl Door {
             &mut self.room,
             output,
         );
-        assert!(told.refusal == 0 || told.refusal == 4);
-        (played, told.bytes)
+        assert!(told.refusal == 0 || told.refusal == OUTPUT_FULL);
+        (played as usize, told.bytes as usize)
     }
 }
 
 #[inline]
 fn accepted(told: Told) -> usize {
     assert_eq!(told.refusal, 0);
-    told.bytes
+    told.bytes as usize
 }
 
 /// A part as the door takes it.

@@ -1,28 +1,15 @@
-// The calls for C and Rust. Each takes a part as three numbers and sixteen bytes and a chip's state as 293 lent bytes, and answers a refusal number, 0 where it
-// was not refused; what else it tells goes into lent numbers. Document 01, "Refusal numbers".
+// The calls for C and Rust. Each takes a part as 19 bytes and a chip's state as 293 lent bytes, and answers a refusal number, 0 where it was not refused; what
+// else it tells goes into lent numbers. Document 01, "Refusal numbers".
 ghost use mathlib.Core.Path.{_≡_};
 ghost use Rattle.chip.specs.declared.Event.the-variants.{Byte, Gap, PowerOn};
 ghost use Rattle.chip_core.specs.Effect.{flash};
-ghost use Rattle.part.specs.Crossing.{partOf};
-ghost use Rattle.part.specs.declared.refusal.Verdict.the-variants.{Accepted};
-ghost use Rattle.chip_door.specs.Calls.{bytesTold, fedThrough, framesTold, freshThrough, made, answerNumber, steppedThrough, feedTold, stepTold};
+ghost use Rattle.part_layout.specs.Layout.{partIn};
+ghost use Rattle.chip_door.specs.Calls.{bytesTold, fedThrough, framesTold, freshThrough, made, steppedThrough, stepTold};
 use chip::Answer;
 use chip::Event;
 use chip::events;
 use chip_layout::admission;
 use part::refusal::Verdict;
-
-fn answer_number(answer: Answer) -> u32
-    ensures { λ r. ⌜ r ≡ answerNumber answer ⌝ }
-{
-    match answer {
-        Answer::Replied {
-            bytes: n,
-            frames: k,
-        } => 0,
-        Answer::Refused(refusal) => refusal.number() as u32,
-    }
-}
 
 fn bytes_told(answer: Answer) -> usize
     ensures { λ r. ⌜ r ≡ bytesTold answer ⌝ }
@@ -50,209 +37,134 @@ fn frames_told(answer: Answer) -> usize
 
 // A fresh chip of the part into the lent state.
 #[no_mangle]
-pub extern "C" fn zc_fresh(
-    code_blocks: u32,
-    data_blocks: u32,
-    clock: u32,
-    names: &[u8],
-    state: &mut [u8],
-) -> u32
-    ensures { λ r. ⌜ made r (now (state .exit)) ≡ freshThrough (partOf «code_blocks» «data_blocks» clock (now (names .entry))) (now (state .entry)) ⌝ }
+pub extern "C" fn zc_fresh(part: &[u8; 19], state: &mut [u8; 293]) -> u32
+    ensures { λ r. ⌜ made r (now (state .exit)) ≡ freshThrough (partIn (now (part .entry))) (now (state .entry)) ⌝ }
 {
-    let part = part::crossing::part_of(code_blocks, data_blocks, clock, names);
-    let step = events::fresh(part);
+    let step = events::fresh(part_layout::part_in(part));
     let answer = step.answer;
     match answer {
         Answer::Replied {
             bytes: n,
             frames: k,
         } => {
-            if state.len() == 293 {
-                chip_layout::lay_chip(step.chip, state);
-                return 0;
-            }
-            9
+            chip_layout::lay_chip(step.chip, state);
+            0
         }
         Answer::Refused(refusal) => refusal.number() as u32,
     }
 }
 
 fn step(
-    code_blocks: u32,
-    data_blocks: u32,
-    clock: u32,
-    names: &[u8],
-    state: &mut [u8],
+    part: &[u8; 19],
+    state: &mut [u8; 293],
     event: Event,
     code: &mut [u8],
     data: &mut [u8],
     room: &mut [u8],
-    bytes: &mut usize,
-    frames: &mut usize,
+    told: &mut [u64; 2],
 ) -> u32
-    ensures { λ r. ⌜ stepTold r (now (bytes .exit)) (now (frames .exit)) (now (state .exit)) (flash (now (code .exit)) (now («data» .exit))) (now (room .exit))
-        ≡ steppedThrough (partOf «code_blocks» «data_blocks» clock (now (names .entry))) event (now (state .entry))
+    ensures { λ r. ⌜ stepTold r (now (told .exit)) (now (state .exit)) (flash (now (code .exit)) (now («data» .exit))) (now (room .exit))
+        ≡ steppedThrough (partIn (now (part .entry))) event (now (told .entry)) (now (state .entry))
         (flash (now (code .entry)) (now («data» .entry))) (now (room .entry)) ⌝ }
 {
-    let part = part::crossing::part_of(code_blocks, data_blocks, clock, names);
-    let v = admission::chip_admission(part, state, code.len(), data.len());
+    let p = part_layout::part_in(part);
+    let v = admission::chip_acceptance(p, state, code.len(), data.len(), room.len());
     match v {
-        Verdict::Refused(refusal) => {
-            *bytes = 0;
-            *frames = 0;
-            refusal.number() as u32
-        }
+        Verdict::Refused(refusal) => refusal.number() as u32,
         Verdict::Accepted => {
             let chip = chip_layout::chip_in(state);
-            let s = events::step(part, chip, event, code, data, room);
+            let s = events::step(p, chip, event, code, data, room);
             let answer = s.answer;
             chip_layout::lay_chip(s.chip, state);
-            *bytes = bytes_told(answer);
-            *frames = frames_told(answer);
-            answer_number(answer)
+            *told = [bytes_told(answer) as u64, frames_told(answer) as u64];
+            0
         }
     }
 }
 
-// A byte comes. The reply, if one is made, lies at the start of the room: so many bytes, so many frames.
+// A byte comes. The reply, if one is made, lies at the start of the room: told are its bytes and its frames.
 #[no_mangle]
 pub extern "C" fn zc_byte(
-    code_blocks: u32,
-    data_blocks: u32,
-    clock: u32,
-    names: &[u8],
-    state: &mut [u8],
+    part: &[u8; 19],
+    state: &mut [u8; 293],
     b: u8,
     code: &mut [u8],
     data: &mut [u8],
     room: &mut [u8],
-    bytes: &mut usize,
-    frames: &mut usize,
+    told: &mut [u64; 2],
 ) -> u32
-    ensures { λ r. ⌜ stepTold r (now (bytes .exit)) (now (frames .exit)) (now (state .exit)) (flash (now (code .exit)) (now («data» .exit))) (now (room .exit))
-        ≡ steppedThrough (partOf «code_blocks» «data_blocks» clock (now (names .entry))) (Byte b) (now (state .entry))
+    ensures { λ r. ⌜ stepTold r (now (told .exit)) (now (state .exit)) (flash (now (code .exit)) (now («data» .exit))) (now (room .exit))
+        ≡ steppedThrough (partIn (now (part .entry))) (Byte b) (now (told .entry)) (now (state .entry))
         (flash (now (code .entry)) (now («data» .entry))) (now (room .entry)) ⌝ }
 {
-    step(
-        code_blocks,
-        data_blocks,
-        clock,
-        names,
-        state,
-        Event::Byte(b),
-        code,
-        data,
-        room,
-        bytes,
-        frames,
-    )
+    step(part, state, Event::Byte(b), code, data, room, told)
 }
 
 // A gap comes.
 #[no_mangle]
 pub extern "C" fn zc_gap(
-    code_blocks: u32,
-    data_blocks: u32,
-    clock: u32,
-    names: &[u8],
-    state: &mut [u8],
+    part: &[u8; 19],
+    state: &mut [u8; 293],
     code: &mut [u8],
     data: &mut [u8],
     room: &mut [u8],
-    bytes: &mut usize,
-    frames: &mut usize,
+    told: &mut [u64; 2],
 ) -> u32
-    ensures { λ r. ⌜ stepTold r (now (bytes .exit)) (now (frames .exit)) (now (state .exit)) (flash (now (code .exit)) (now («data» .exit))) (now (room .exit))
-        ≡ steppedThrough (partOf «code_blocks» «data_blocks» clock (now (names .entry))) Gap (now (state .entry)) (flash (now (code .entry)) (now («data» .entry)))
-        (now (room .entry)) ⌝ }
+    ensures { λ r. ⌜ stepTold r (now (told .exit)) (now (state .exit)) (flash (now (code .exit)) (now («data» .exit))) (now (room .exit))
+        ≡ steppedThrough (partIn (now (part .entry))) Gap (now (told .entry)) (now (state .entry))
+        (flash (now (code .entry)) (now («data» .entry))) (now (room .entry)) ⌝ }
 {
-    step(
-        code_blocks,
-        data_blocks,
-        clock,
-        names,
-        state,
-        Event::Gap,
-        code,
-        data,
-        room,
-        bytes,
-        frames,
-    )
+    step(part, state, Event::Gap, code, data, room, told)
 }
 
 // Power-on.
 #[no_mangle]
 pub extern "C" fn zc_power_on(
-    code_blocks: u32,
-    data_blocks: u32,
-    clock: u32,
-    names: &[u8],
-    state: &mut [u8],
+    part: &[u8; 19],
+    state: &mut [u8; 293],
     code: &mut [u8],
     data: &mut [u8],
     room: &mut [u8],
-    bytes: &mut usize,
-    frames: &mut usize,
+    told: &mut [u64; 2],
 ) -> u32
-    ensures { λ r. ⌜ stepTold r (now (bytes .exit)) (now (frames .exit)) (now (state .exit)) (flash (now (code .exit)) (now («data» .exit))) (now (room .exit))
-        ≡ steppedThrough (partOf «code_blocks» «data_blocks» clock (now (names .entry))) PowerOn (now (state .entry))
+    ensures { λ r. ⌜ stepTold r (now (told .exit)) (now (state .exit)) (flash (now (code .exit)) (now («data» .exit))) (now (room .exit))
+        ≡ steppedThrough (partIn (now (part .entry))) PowerOn (now (told .entry)) (now (state .entry))
         (flash (now (code .entry)) (now («data» .entry))) (now (room .entry)) ⌝ }
 {
-    step(
-        code_blocks,
-        data_blocks,
-        clock,
-        names,
-        state,
-        Event::PowerOn,
-        code,
-        data,
-        room,
-        bytes,
-        frames,
-    )
+    step(part, state, Event::PowerOn, code, data, room, told)
 }
 
-// Bytes one after the other, up to the first that is answered, and how many were taken: the caller hands the rest in again.
+// Bytes one after the other, up to the first that is answered: told are how many were taken, and the bytes and the frames of the reply. The caller hands the
+// rest in again.
 #[no_mangle]
 pub extern "C" fn zc_feed(
-    code_blocks: u32,
-    data_blocks: u32,
-    clock: u32,
-    names: &[u8],
-    state: &mut [u8],
+    part: &[u8; 19],
+    state: &mut [u8; 293],
     fed: &[u8],
     code: &mut [u8],
     data: &mut [u8],
     room: &mut [u8],
-    taken: &mut usize,
-    bytes: &mut usize,
-    frames: &mut usize,
+    told: &mut [u64; 3],
 ) -> u32
-    ensures { λ r. ⌜ feedTold r (now (taken .exit)) (now (bytes .exit)) (now (frames .exit)) (now (state .exit)) (flash (now (code .exit)) (now («data» .exit)))
-        (now (room .exit))
-        ≡ fedThrough (partOf «code_blocks» «data_blocks» clock (now (names .entry))) (now (fed .entry)) (now (state .entry))
+    ensures { λ r. ⌜ stepTold r (now (told .exit)) (now (state .exit)) (flash (now (code .exit)) (now («data» .exit))) (now (room .exit))
+        ≡ fedThrough (partIn (now (part .entry))) (now (fed .entry)) (now (told .entry)) (now (state .entry))
         (flash (now (code .entry)) (now («data» .entry))) (now (room .entry)) ⌝ }
 {
-    let part = part::crossing::part_of(code_blocks, data_blocks, clock, names);
-    let v = admission::chip_acceptance(part, state, code.len(), data.len(), room.len());
+    let p = part_layout::part_in(part);
+    let v = admission::chip_acceptance(p, state, code.len(), data.len(), room.len());
     match v {
-        Verdict::Refused(refusal) => {
-            *taken = 0;
-            *bytes = 0;
-            *frames = 0;
-            refusal.number() as u32
-        }
+        Verdict::Refused(refusal) => refusal.number() as u32,
         Verdict::Accepted => {
             let chip = chip_layout::chip_in(state);
-            let f = chip_feed::feed(part, chip, fed, code, data, room);
+            let f = chip_feed::feed(p, chip, fed, code, data, room);
             let answer = f.answer;
             chip_layout::lay_chip(f.chip, state);
-            *taken = f.taken;
-            *bytes = bytes_told(answer);
-            *frames = frames_told(answer);
-            answer_number(answer)
+            *told = [
+                f.taken as u64,
+                bytes_told(answer) as u64,
+                frames_told(answer) as u64,
+            ];
+            0
         }
     }
 }

@@ -1,19 +1,18 @@
 -- Laws about the layout: the five pieces of a state; what an admitted call may rely on; and what a verdict on it reads.
 -- Assumes nothing.
-use mathlib.Core.Bool.{false, true}
+use mathlib.Core.Bool.{true}
 use mathlib.Core.List.{List, _++_}
 use mathlib.Core.Path.{_∙_, _≡_, ap, refl}
 use Prim.Native.Nat.{_+_, _<_, ℕ}
 use native.Mathlib.Omega.{arith}
-use lib.Dec.{eqb}
 use lib.ListN.{drop, getD, length, length-append, take}
 use lib.Seq.{getD-drop, getD-take}
-use borrow.Author.Tests.{eq-eqb, eqb-true, not-false}
+use borrow.Author.Tests.{not-false}
 use Rattle.chip_state.specs.Refusals.{verdictOf, verdictOn}
 use Rattle.chip_state.specs.declared.Chip.{Chip}
 use Rattle.chip_state.specs.declared.Handed.{Handed}
 use Rattle.chip_layout.specs.Admission.{chipAcceptanceBy, chipAcceptance, chipAdmission}
-use Rattle.chip_layout.specs.Layout.{awaitedOf, chipIn, chipLaid, collectorIn, coreIn, headOf, isState, chipBytes, phaseNumber, stateSize}
+use Rattle.chip_layout.specs.Layout.{awaitedOf, chipIn, collectorIn, coreIn, headOf, isState, chipBytes, phaseNumber, stateSize}
 use Rattle.chip_core.specs.declared.Awaited.{Awaited}
 use Rattle.chip_core.specs.declared.Core.{Core}
 use Rattle.numbers.proofs.Laws.{low-long}
@@ -27,8 +26,6 @@ use Rattle.part.proofs.Laws.{passed}
 use Rattle.part.specs.declared.Part.{Part}
 use Rattle.part.specs.declared.refusal.Verdict.{Verdict}
 use Rattle.part.specs.declared.refusal.Verdict.the-variants.{Accepted, Refused}
-use Rattle.words.proofs.Laws.{and-left}
-use Rattle.words.specs.Words.{if_then_else_}
 
 head-long : (o : Options) (rate phase cmd : ℕ) → length (headOf o rate phase cmd) ≡ 9
 unfolding headOf
@@ -52,26 +49,19 @@ layout-is c w q first next last count r k l m n o a b d e f s t u v z A B g h i 
     let O : Written (first ++ next ++ last ++ count ++ c .collector .bytes) r o = written-put 33 (c .collector .bytes) N z (simp length-append (omega arith)) (omega arith) in
     rw (← A, ← B, ← g, ← h, ← i, ← j) (written-full O (simp length-append (omega arith)))
 
--- A call that is admitted has a state of the layout's length.
-pub record Admits (state : List ℕ) : Type 0 where
-  pub held : isState state ≡ true
-  pub long : length state ≡ stateSize
-
-pub admitted : (p : Part) (state : List ℕ) (code «data» : ℕ) → chipAdmission p state code «data» ≡ Accepted → Admits state
-unfolding chipAdmission isState
+-- A call that is accepted has a state.
+admitted : (p : Part) (state : List ℕ) (code «data» : ℕ) → chipAdmission p state code «data» ≡ Accepted → isState state ≡ true
+unfolding chipAdmission
 admitted p state code «data» e =
     let f = passed _ _ (passed _ _ (passed _ _ (passed _ _ e .rest) .rest) .rest) in
-    let held = not-false _ (f .not-held) in
-    record { held = held; long = eqb-true _ _ (and-left _ _ held) }
+    not-false _ (f .not-held)
 
--- So does one that is accepted.
 settling : (v : Verdict) (p : Part) (state : List ℕ) (code «data» room : ℕ) → chipAcceptanceBy v p state code «data» room ≡ Accepted → v ≡ Accepted
 unfolding chipAcceptanceBy
 settling (Refused r) p state code «data» room e = e
 settling Accepted p state code «data» room e = refl
 
-pub accepted-admits : (p : Part) (state : List ℕ) (code «data» room : ℕ) → chipAcceptance p state code «data» room ≡ Accepted
-    → Admits state
+pub accepted-admits : (p : Part) (state : List ℕ) (code «data» room : ℕ) → chipAcceptance p state code «data» room ≡ Accepted → isState state ≡ true
 unfolding chipAcceptance
 accepted-admits p state code «data» room e =
     admitted p state code «data» (settling (chipAdmission p state code «data») p state code «data» room e)
@@ -89,18 +79,10 @@ unfolding chipAcceptance
 chip-accepts p state code «data» room e =
     judged (chipAdmission p state code «data») p state code «data» room e
 
-pub state-long : (bs : List ℕ) → isState bs ≡ true → length bs ≡ stateSize
-unfolding isState
-state-long bs e = eqb-true _ _ (and-left _ _ e)
-
--- What is read of, and laid over, as many bytes as a state has.
-pub chip-in-is : (bs : List ℕ) → length bs ≡ stateSize → chipIn bs ≡ record { core = coreIn bs; collector = collectorIn bs }
-unfolding chipIn if_then_else_
-chip-in-is bs h = simp (eq-eqb _ _ h)
-
-pub chip-laid-is : (c : Chip) (bs : List ℕ) → length bs ≡ stateSize → chipLaid c bs ≡ chipBytes c
-unfolding chipLaid if_then_else_
-chip-laid-is c bs h = simp (eq-eqb _ _ h)
+-- What is read.
+pub chip-in-is : (bs : List ℕ) → chipIn bs ≡ record { core = coreIn bs; collector = collectorIn bs }
+unfolding chipIn
+chip-in-is bs = refl
 
 -- The verdict on the chip that is read needs only its record, the count, and two of the collected bytes.
 first-collected : (bs : List ℕ) (i : ℕ) → i < 260 → getD (take 260 (drop 33 bs)) i 0 ≡ getD bs (33 + i) 0
@@ -110,9 +92,9 @@ same-handed : (h : Handed) {n i j : ℕ} → h .count ≡ n → h .head ≡ i �
     → h ≡ record { count = n; head = i; len = j; code = h .code; «data» = h .«data»; room = h .room }
 same-handed h e f g = rw (← e, ← f, ← g)
 
-pub verdict-read : (p : Part) (k : Core) (h : Handed) (state : List ℕ) (v : Verdict) → length state ≡ stateSize → v ≡ verdictOf p k h → k ≡ coreIn state
+pub verdict-read : (p : Part) (k : Core) (h : Handed) (state : List ℕ) (v : Verdict) → v ≡ verdictOf p k h → k ≡ coreIn state
     → h .count ≡ numberAt 8 25 state → h .head ≡ getD state 33 0 → h .len ≡ getD state 34 0 → v ≡ verdictOn p (chipIn state) (h .code) (h .«data») (h .room)
 unfolding collectorIn
-verdict-read p k h state v l e f g i j =
+verdict-read p k h state v e f g i j =
     let x : h ≡ record { count = numberAt 8 25 state; head = getD state 33 0; len = getD state 34 0; code = h .code; «data» = h .«data»; room = h .room } = same-handed h g i j in
-    rw (chip-in-is state l, e, f, first-collected state 0 (omega arith), first-collected state 1 (omega arith)) (ap (verdictOf p (coreIn state)) x)
+    rw (chip-in-is state, e, f, first-collected state 0 (omega arith), first-collected state 1 (omega arith)) (ap (verdictOf p (coreIn state)) x)

@@ -24,7 +24,7 @@ chipAdmission p state code «data» =
     ∷ BadState when not (isState state)
     ∷ [])
 
--- More than one event at a call: the chip's own verdict is asked before the first, so that the order holds whatever follows, and for no event at all.
+-- Then the chip's own verdict, before the first event of a call, so that the order holds whatever follows, and for no event at all.
 unfoldable pub chipAcceptanceBy : Verdict → Part → List ℕ → ℕ → ℕ → ℕ → Verdict
 chipAcceptanceBy (Verdict.Refused r) p state code «data» room = Verdict.Refused r
 chipAcceptanceBy Accepted p state code «data» room = verdictOn p (chipIn state) code «data» room

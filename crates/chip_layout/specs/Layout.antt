@@ -3,13 +3,12 @@ use mathlib.Core.Bool.{Bool}
 use mathlib.Core.List.{List, [], _++_, _∷_}
 use Prim.Native.Nat.{ℕ}
 use lib.Dec.{eqb}
-use lib.ListN.{drop, getD, length, take}
+use lib.ListN.{drop, getD, take}
 use Rattle.chip_state.specs.declared.Chip.{Chip}
 use Rattle.chip_core.specs.declared.Awaited.{Awaited}
 use Rattle.chip_core.specs.declared.Core.{Core}
 use Rattle.chip_core.specs.declared.Phase.{Phase}
 use Rattle.chip_core.specs.declared.Phase.the-variants.{Awaiting, ModeByte, Ready, Setup}
-use Rattle.frame.specs.Collector.{fresh}
 use Rattle.frame.specs.declared.collector.Collector.{Collector}
 use Rattle.numbers.specs.Numbers.{lowFirst, numberAt}
 use Rattle.lent.specs.Lent.{allAre}
@@ -44,12 +43,10 @@ chipBytes c =
 abbrev pub stateSize : ℕ
 stateSize = 293
 
--- Bytes that are a state: 293 of them, with a phase from 1 to 4, and nothing awaited but in phase 4. Whether the state is one that the chip accepts, the
--- chip says.
+-- 293 bytes are a state with a phase from 1 to 4, and nothing awaited but in phase 4. Whether the state is one that the chip accepts, the chip says.
 unfoldable pub isState : List ℕ → Bool
 isState bs =
-    eqb (length bs) stateSize
-    and getD bs 7 0 from 1 to 4
+    getD bs 7 0 from 1 to 4
     and (eqb (getD bs 7 0) 4 or allAre 0x00 (take 17 (drop 8 bs)))
 
 unfoldable pub phaseIn : ℕ → Awaited → Phase
@@ -64,13 +61,5 @@ collectorIn bs = record { bytes = take 260 (drop 33 bs); len = numberAt 8 25 bs 
 abbrev pub coreIn : List ℕ → Core
 coreIn bs = record { options = optionsIn bs; rate = getD bs 6 0; phase = phaseIn (getD bs 7 0) (awaitedHeld bs) }
 
--- Bytes of another number are no state: they are read as a chip that awaits a mode byte and has no options.
-abbrev pub noChip : Chip
-noChip = record { core = record { options = record { flags = 0; boot = 0; start = 0; end = 0 }; rate = 0x00; phase = ModeByte }; collector = fresh }
-
 unfoldable pub chipIn : List ℕ → Chip
-chipIn bs = if eqb (length bs) stateSize then record { core = coreIn bs; collector = collectorIn bs } else noChip
-
--- A chip into lent bytes: where they are not as many as a state has, they stay.
-unfoldable pub chipLaid : Chip → List ℕ → List ℕ
-chipLaid c bs = if eqb (length bs) stateSize then chipBytes c else bs
+chipIn bs = record { core = coreIn bs; collector = collectorIn bs }

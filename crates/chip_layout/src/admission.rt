@@ -12,7 +12,8 @@ use part::refusal::Refusal;
 use part::refusal::Verdict;
 
 // What bars a call before the chip is asked: the description, the lengths of flash, and bytes that are no state, in the paper's order.
-pub fn chip_admission(part: Part, state: &[u8], code: usize, data: usize) -> Verdict
+fn chip_admission(part: Part, state: &[u8], code: usize, data: usize) -> Verdict
+    requires { ⌜ length (now state) ≡ stateSize ⌝ }
     ensures { λ r. ⌜ r ≡ chipAdmission part (now (state .entry)) code «data» ⌝ }
 {
     if part.is_described() {
@@ -48,8 +49,14 @@ fn verdict_in(part: Part, state: &[u8], code: usize, data: usize, room: usize) -
     chip_state::verdict(part, core, handed)
 }
 
-// The same, and then the chip's own verdict: before the first of several events.
-pub fn chip_acceptance(part: Part, state: &[u8], code: usize, data: usize, room: usize) -> Verdict
+// The same, and then the chip's own verdict: before the first event of a call.
+pub fn chip_acceptance(
+    part: Part,
+    state: &[u8; 293],
+    code: usize,
+    data: usize,
+    room: usize,
+) -> Verdict
     ensures { λ r. ⌜ r ≡ chipAcceptance part (now (state .entry)) code «data» room ⌝ }
 {
     let v = chip_admission(part, state, code, data);

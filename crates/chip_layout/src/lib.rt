@@ -4,7 +4,7 @@ ghost use Prim.Native.Nat.{_+_, _≤_};
 ghost use lib.ListN.{drop, length, take};
 ghost use Rattle.numbers.specs.Numbers.{numberAt};
 ghost use Rattle.lent.specs.Lent.{allAre};
-ghost use Rattle.chip_layout.specs.Layout.{chipLaid, awaitedHeld, awaitedOf, chipIn, collectorIn, coreIn};
+ghost use Rattle.chip_layout.specs.Layout.{awaitedHeld, awaitedOf, chipIn, collectorIn, coreIn};
 ghost use Rattle.chip_layout.specs.Layout.{headOf, isState, chipBytes, phaseIn, phaseNumber, stateSize};
 use chip_core::Awaited;
 use chip_core::Core;
@@ -41,22 +41,20 @@ fn is_nothing_awaited(state: &[u8]) -> bool
 }
 
 fn is_state(state: &[u8]) -> bool
+    requires { ⌜ length (now state) ≡ stateSize ⌝ }
     ensures { λ r. ⌜ r ≡ isState (now (state .entry)) ⌝ }
 {
-    if state.len() == 293 {
-        let n = state[7];
-        if n < 1 {
-            return false;
-        }
-        if 4 < n {
-            return false;
-        }
-        if n == 4 {
-            return true;
-        }
-        return is_nothing_awaited(state);
+    let n = state[7];
+    if n < 1 {
+        return false;
     }
-    false
+    if 4 < n {
+        return false;
+    }
+    if n == 4 {
+        return true;
+    }
+    is_nothing_awaited(state)
 }
 
 fn phase_in(n: u8, w: Awaited) -> Phase
@@ -111,27 +109,12 @@ fn core_in(state: &[u8]) -> Core
     }
 }
 
-pub fn chip_in(state: &[u8]) -> Chip
+pub fn chip_in(state: &[u8; 293]) -> Chip
     ensures { λ r. ⌜ r ≡ chipIn (now (state .entry)) ⌝ }
 {
-    if state.len() == 293 {
-        let core = core_in(state);
-        let collector = collector_in(state);
-        return Chip { core, collector };
-    }
-    Chip {
-        core: Core {
-            options: Options {
-                flags: 0,
-                boot: 0,
-                start: 0,
-                end: 0,
-            },
-            rate: 0x00,
-            phase: Phase::ModeByte,
-        },
-        collector: Collector::new(),
-    }
+    let core = core_in(state);
+    let collector = collector_in(state);
+    Chip { core, collector }
 }
 
 fn phase_number(phase: Phase) -> u8
@@ -207,11 +190,9 @@ fn lay(chip: Chip, state: &mut [u8])
     lent::put(state, 33, &bytes);
 }
 
-// The chip's state into the lent bytes, where they are as many as a state has.
-pub fn lay_chip(chip: Chip, state: &mut [u8])
-    ensures { λ r. ⌜ now (state .exit) ≡ chipLaid chip (now (state .entry)) ⌝ }
+// The chip's state into the lent bytes.
+pub fn lay_chip(chip: Chip, state: &mut [u8; 293])
+    ensures { λ r. ⌜ now (state .exit) ≡ chipBytes chip ⌝ }
 {
-    if state.len() == 293 {
-        lay(chip, state);
-    }
+    lay(chip, state);
 }

@@ -5,7 +5,7 @@ ghost use Rattle.chip.specs.Run.{before, run};
 ghost use Rattle.chip.specs.Step.{outcome};
 ghost use Rattle.chip.specs.declared.Event.the-variants.{Byte};
 ghost use Rattle.chip_core.specs.Effect.{flash};
-ghost use Rattle.part.specs.Crossing.{partOf};
+ghost use Rattle.part_layout.specs.Layout.{partIn};
 ghost use Rattle.chip_pace.specs.Pace.{paced, pacedOf};
 use chip::Answer;
 use chip::Event;
@@ -45,22 +45,19 @@ fn steps(
 // A fresh chip through all the bytes; the count of those that it has collected at the end.
 #[no_mangle]
 pub extern "C" fn zp_steps(
-    code_blocks: u32,
-    data_blocks: u32,
-    clock: u32,
-    names: &[u8],
+    part: &[u8; 19],
     bytes: &[u8],
     code: &mut [u8],
     data: &mut [u8],
     room: &mut [u8],
 ) -> usize
     ensures { λ r. ⌜ paced r (flash (now (code .exit)) (now («data» .exit))) (now (room .exit))
-        ≡ pacedOf (partOf «code_blocks» «data_blocks» clock (now (names .entry))) (now (bytes .entry)) (flash (now (code .entry)) (now («data» .entry)))
+        ≡ pacedOf (partIn (now (part .entry))) (now (bytes .entry)) (flash (now (code .entry)) (now («data» .entry)))
         (now (room .entry)) ⌝ }
 {
-    let part = part::crossing::part_of(code_blocks, data_blocks, clock, names);
-    let first = events::fresh(part);
-    let last = steps(part, first.chip, bytes, code, data, room);
+    let p = part_layout::part_in(part);
+    let first = events::fresh(p);
+    let last = steps(p, first.chip, bytes, code, data, room);
     let chip = last.chip;
     let collector = chip.collector;
     collector.len

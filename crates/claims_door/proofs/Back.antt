@@ -10,8 +10,8 @@ use lib.Seq.{getD-drop, getD-take, length-take-le, take-add, take-all}
 use borrow.Author.Tests.{eqb-true, leb-true, ne-eqb}
 use Rattle.chip_state.specs.declared.Chip.{Chip}
 use Rattle.claims_door.specs.Held.{Held}
-use Rattle.chip_layout.proofs.Laws.{chip-in-is, state-long}
-use Rattle.chip_layout.specs.Layout.{awaitedHeld, awaitedOf, chipIn, collectorIn, coreIn, headOf, isState, chipBytes, phaseIn, phaseNumber}
+use Rattle.chip_layout.proofs.Laws.{chip-in-is}
+use Rattle.chip_layout.specs.Layout.{awaitedHeld, awaitedOf, chipIn, collectorIn, coreIn, headOf, isState, chipBytes, phaseIn, phaseNumber, stateSize}
 use Rattle.chip_core.specs.declared.Awaited.{Awaited}
 use Rattle.chip_core.specs.declared.Phase.{Phase}
 use Rattle.chip_core.specs.declared.Phase.the-variants.{Awaiting, ModeByte, Ready, Setup}
@@ -76,21 +76,21 @@ back flags boot start end rate (Awaiting w) bytes len s e n l c p =
     same flags boot rate (together-is 2 start s) (together-is 2 end e) (same-waits (w .command) (together-is 8 (w .next) n) (together-is 8 (w .last) l)) (take-all 260 bytes (omega arith)) (together-is 8 len c)
 
 -- What is written is a state.
-state : (o : Options) (rate : ℕ) (f : Phase) (bytes : List ℕ) (len : ℕ) → length bytes ≡ 260
+state : (o : Options) (rate : ℕ) (f : Phase) (bytes : List ℕ) (len : ℕ)
     → isState (chipBytes (record { core = record { options = o; rate = rate; phase = f }; collector = record { bytes = bytes; len = len } })) ≡ true
 unfolding isState chipBytes headOf optionBytes lowFirst allAre _and_ _or_ _from_to_
-state o rate ModeByte bytes len p = rw p
-state o rate Setup bytes len p = rw p
-state o rate Ready bytes len p = rw p
-state o rate (Awaiting w) bytes len p = rw p
+state o rate ModeByte bytes len = refl
+state o rate Setup bytes len = refl
+state o rate Ready bytes len = refl
+state o rate (Awaiting w) bytes len = refl
 
-pub written-state : (c : Chip) → length (c .collector .bytes) ≡ 260 → isState (chipBytes c) ≡ true
-written-state c p = state (c .core .options) (c .core .rate) (c .core .phase) (c .collector .bytes) (c .collector .len) p
+pub written-state : (c : Chip) → isState (chipBytes c) ≡ true
+written-state c = state (c .core .options) (c .core .rate) (c .core .phase) (c .collector .bytes) (c .collector .len)
 
 -- A chip that is written is read back the same.
 pub read-back : (c : Chip) → Held c → chipIn (chipBytes c) ≡ c
 read-back c h =
-    chip-in-is (chipBytes c) (state-long (chipBytes c) (written-state c (h .places)))
+    chip-in-is (chipBytes c)
     ∙ back (c .core .options .flags) (c .core .options .boot) (c .core .options .start) (c .core .options .end) (c .core .rate) (c .core .phase) (c .collector .bytes) (c .collector .len) (h .start) (h .end) (h .next) (h .last) (h .count) (h .places)
 
 -- In phases 1 to 3 nothing is awaited, in bytes as in the record.
@@ -168,14 +168,13 @@ joined : (bs : List ℕ) → length bs ≡ 293 → take 9 bs ++ take 8 (drop 9 b
 joined bs h = rw (← take-add 9 8 bs, ← take-add 17 8 bs, ← take-add 25 8 bs, ← take-add 33 260 bs) (take-all 293 bs (omega arith))
 
 -- Bytes that are a state are written back the same.
-held-back : (bs : List ℕ) → Below 256 bs → isState bs ≡ true → chipBytes (heldIn bs) ≡ bs
+held-back : (bs : List ℕ) → Below 256 bs → length bs ≡ stateSize → isState bs ≡ true → chipBytes (heldIn bs) ≡ bs
 unfolding isState chipBytes collectorIn awaitedHeld _from_to_ _or_
-held-back bs b e =
-    let long : length bs ≡ 293 = eqb-true _ _ (and-left _ _ e) in
-    let range = and-left _ _ (and-right _ _ e) in
+held-back bs b long e =
+    let range = and-left _ _ e in
     let low : 1 ≤ getD bs 7 0 = leb-true _ _ (and-left _ _ range) in
     let high : getD bs 7 0 ≤ 4 = leb-true _ _ (and-right _ _ range) in
-    let kind = and-right _ _ (and-right _ _ e) in
+    let kind = and-right _ _ e in
     let w : awaitedOf (phaseIn (getD bs 7 0) (awaitedHeld bs)) ≡ awaitedHeld bs = awaited-back (getD bs 7 0) (awaitedHeld bs) low high (λ n. none-awaited bs (or-right (ne-eqb _ _ n) kind) (omega arith)) in
     pieces bs (awaitedOf (phaseIn (getD bs 7 0) (awaitedHeld bs))) (phaseNumber (phaseIn (getD bs 7 0) (awaitedHeld bs))) b long w (phase-back (getD bs 7 0) (awaitedHeld bs) low high)
   where
@@ -191,5 +190,5 @@ held-back bs b e =
         let last = ap (λ (x : Awaited). lowFirst 8 (x .last)) e in
         rw (head, next, last, low-number 8 9 bs each (omega arith), low-number 8 17 bs each (omega arith), low-number 8 25 bs each (omega arith)) (joined bs h)
 
-pub written-back : (bs : List ℕ) → Below 256 bs → isState bs ≡ true → chipBytes (chipIn bs) ≡ bs
-written-back bs b e = ap chipBytes (chip-in-is bs (state-long bs e)) ∙ held-back bs b e
+pub written-back : (bs : List ℕ) → Below 256 bs → length bs ≡ stateSize → isState bs ≡ true → chipBytes (chipIn bs) ≡ bs
+written-back bs b l e = ap chipBytes (chip-in-is bs) ∙ held-back bs b l e

@@ -1,50 +1,54 @@
--- A call of the door that is refused changes nothing: "State and lent bytes stay."
+-- A call of the door that is refused changes nothing, the numbers told included: "State and lent bytes stay."
 -- Assumes nothing.
-use mathlib.Core.Bool.{true}
 use mathlib.Core.List.{List}
-use mathlib.Core.Path.{_∙_, _≡_, refl}
+use mathlib.Core.Path.{_≡_, refl}
 use Prim.Native.Nat.{ℕ}
 use lib.ListN.{length}
-use Rattle.chip.specs.Step.{Outcome, Reaction, reactTo, settled, stepOf}
-use Rattle.chip_state.specs.Refusals.{verdictOn}
+use Rattle.chip.specs.Step.{freshOf}
+use Rattle.chip.specs.declared.Answer.{Answer}
+use Rattle.chip.specs.declared.Answer.the-variants.{Replied}
+use Rattle.chip.specs.declared.Answer.the-variants as Answer
 use Rattle.chip.specs.declared.Event.{Event}
-use Rattle.claims_door.proofs.Back.{written-back}
-use Rattle.claims_door.specs.Kept.{StepKept}
-use Rattle.chip_layout.proofs.Laws.{admitted, chip-laid-is, state-long}
-use Rattle.chip_door.specs.Calls.{answerNumber, bytesTold, framesTold, StepTold, stepTold, steppedBy, steppedThrough}
-use Rattle.chip_layout.specs.Admission.{chipAdmission}
-use Rattle.chip_layout.specs.Layout.{chipIn, chipLaid, isState}
 use Rattle.chip_core.specs.Effect.{Flash}
-use Rattle.frame.proofs.Laws.Sum.{Below}
-use Rattle.frame.specs.Collector.{heard}
+use Rattle.chip_door.specs.Calls.{fedBy, fedThrough, freshThrough, madeBy, steppedBy, steppedThrough}
+use Rattle.chip_layout.specs.Admission.{chipAcceptance}
+use Rattle.chip_state.specs.declared.Chip.{Chip}
+use Rattle.claims_door.specs.Kept.{StepKept}
 use Rattle.part.specs.declared.Part.{Part}
 use Rattle.part.specs.declared.refusal.Verdict.{Verdict}
 use Rattle.part.specs.declared.refusal.Verdict.the-variants.{Accepted, Refused}
 
-abbrev toldOf : Outcome → List ℕ → StepTold
-toldOf o state = stepTold (answerNumber (o .answer)) (bytesTold (o .answer)) (framesTold (o .answer)) (chipLaid (o .chip) state) (o .memory) (o .room)
-
--- The chip is asked, and refuses: it hands the chip back as it was, and that is written back as the bytes it was read from.
-asked : (u : Verdict) (p : Part) (x : Reaction) (state : List ℕ) (m : Flash) (room : List ℕ) → Below 256 state → isState state ≡ true
-    → (answerNumber (settled u p x (chipIn state) m room .answer) ≡ 0 → ⊥)
-    → StepKept (toldOf (settled u p x (chipIn state) m room) state) state m room
-unfolding settled answerNumber
-asked (Refused r) p x state m room b e h = record { stateStays = chip-laid-is _ state (state-long state e) ∙ written-back state b e; flashStays = refl; roomStays = refl }
-asked Accepted p x state m room b e h = absurd (h refl)
-
-admits-kept : (u : Verdict) (p : Part) (v : Event) (state : List ℕ) (m : Flash) (room : List ℕ) → Below 256 state → (u ≡ Accepted → isState state ≡ true)
-    → (steppedBy u p v state m room .refusal ≡ 0 → ⊥) → StepKept (steppedBy u p v state m room) state m room
-unfolding steppedBy stepOf
-admits-kept (Refused r) p v state m room b e h = record { stateStays = refl; flashStays = refl; roomStays = refl }
-admits-kept Accepted p v state m room b e h =
-    let c = chipIn state in
-    asked (verdictOn p c (length (m .codeFlash)) (length (m .dataFlash)) (length room)) p (reactTo v p (c .core) (heard (c .collector)) m) state m room b (e refl) h
+step-kept : (u : Verdict) (p : Part) (v : Event) (told state : List ℕ) (m : Flash) (room : List ℕ) → (steppedBy u p v told state m room .refusal ≡ 0 → ⊥)
+    → StepKept (steppedBy u p v told state m room) told state m room
+unfolding steppedBy
+step-kept (Refused r) p v told state m room h = record { toldStays = refl; stateStays = refl; flashStays = refl; roomStays = refl }
+step-kept Accepted p v told state m room h = absurd (h refl)
 
 -- Every event's call, whatever part and whatever bytes are handed in.
-pub refused-keeps : (p : Part) (v : Event) (state : List ℕ) (m : Flash) (room : List ℕ) → Below 256 state → (steppedThrough p v state m room .refusal ≡ 0 → ⊥)
-    → StepKept (steppedThrough p v state m room) state m room
+pub refused-keeps : (p : Part) (v : Event) (told state : List ℕ) (m : Flash) (room : List ℕ) → (steppedThrough p v told state m room .refusal ≡ 0 → ⊥)
+    → StepKept (steppedThrough p v told state m room) told state m room
 unfolding steppedThrough
-refused-keeps p v state m room b h =
-    let x = length (m .codeFlash) in
-    let y = length (m .dataFlash) in
-    admits-kept (chipAdmission p state x y) p v state m room b (λ e. admitted p state x y e .held) h
+refused-keeps p v told state m room h =
+    step-kept (chipAcceptance p state (length (m .codeFlash)) (length (m .dataFlash)) (length room)) p v told state m room h
+
+feed-kept : (u : Verdict) (p : Part) (bs told state : List ℕ) (m : Flash) (room : List ℕ) → (fedBy u p bs told state m room .refusal ≡ 0 → ⊥)
+    → StepKept (fedBy u p bs told state m room) told state m room
+unfolding fedBy
+feed-kept (Refused r) p bs told state m room h = record { toldStays = refl; stateStays = refl; flashStays = refl; roomStays = refl }
+feed-kept Accepted p bs told state m room h = absurd (h refl)
+
+-- Every stretch, an empty one too.
+pub refused-feed-keeps : (p : Part) (bs told state : List ℕ) (m : Flash) (room : List ℕ) → (fedThrough p bs told state m room .refusal ≡ 0 → ⊥)
+    → StepKept (fedThrough p bs told state m room) told state m room
+unfolding fedThrough
+refused-feed-keeps p bs told state m room h =
+    feed-kept (chipAcceptance p state (length (m .codeFlash)) (length (m .dataFlash)) (length room)) p bs told state m room h
+
+fresh-kept : (a : Answer) (c : Chip) (state : List ℕ) → (madeBy a c state .refusal ≡ 0 → ⊥) → madeBy a c state .state ≡ state
+unfolding madeBy
+fresh-kept (Answer.Refused r) c state h = refl
+fresh-kept (Replied bytes frames) c state h = absurd (h refl)
+
+pub refused-fresh-keeps : (p : Part) (state : List ℕ) → (freshThrough p state .refusal ≡ 0 → ⊥) → freshThrough p state .state ≡ state
+unfolding freshThrough
+refused-fresh-keeps p state h = fresh-kept (freshOf p .answer) (freshOf p .chip) state h

@@ -8,5 +8,5 @@ use Rattle.claims_outcome.proofs.Outcome.{Once}
 use Rattle.chip_pace.proofs.zp_steps.Reads as zp-steps
 use Rattle.chip_pace.proofs.zp_steps.Kinds as zp-steps-kinds
 
-pub zp-steps-once : Once zp-steps-kinds.ps zp-steps-kinds.r zp-steps.Post (λ κs r x. paced r (flash (now (x .1 .1 .1 .1 .1 .0)) (now (x .1 .1 .1 .1 .1 .1 .0))) (now (x .1 .1 .1 .1 .1 .1 .1 .0)))
+pub zp-steps-once : Once zp-steps-kinds.ps zp-steps-kinds.r zp-steps.Post (λ κs r x. paced r (flash (now (x .1 .1 .0)) (now (x .1 .1 .1 .0))) (now (x .1 .1 .1 .1 .0)))
 zp-steps-once κs a r s x y p q = p ∙ sym q

@@ -9,7 +9,6 @@ use Rattle.replay_door.proofs.zc_replay.Reads as zc-replay
 use Rattle.replay_door.proofs.zc_replay.Kinds as zc-replay-kinds
 
 pub zc-replay-once : Once zc-replay-kinds.ps zc-replay-kinds.r zc-replay.Post
-    (λ κs r x. replayTold r (now (x .1 .1 .1 .1 .1 .1 .1 .1 .1 .1 .0)) (now (x .1 .1 .1 .1 .1 .1 .1 .1 .1 .1 .1 .0))
-    (now (x .1 .1 .1 .1 .1 .1 .1 .1 .1 .1 .1 .1 .0)) (now (x .1 .1 .1 .1 .0)) (flash (now (x .1 .1 .1 .1 .1 .1 .0)) (now (x .1 .1 .1 .1 .1 .1 .1 .0)))
-    (now (x .1 .1 .1 .1 .1 .1 .1 .1 .0)) (now (x .1 .1 .1 .1 .1 .1 .1 .1 .1 .0)))
+    (λ κs r x. replayTold r (now (x .1 .1 .1 .1 .1 .1 .1 .0)) (now (x .1 .0)) (flash (now (x .1 .1 .1 .0)) (now (x .1 .1 .1 .1 .0))) (now (x .1 .1 .1 .1 .1 .0))
+    (now (x .1 .1 .1 .1 .1 .1 .0)))
 zc-replay-once κs a r s x y p q = p ∙ sym q

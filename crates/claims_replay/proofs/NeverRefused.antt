@@ -31,10 +31,10 @@ use Rattle.replay_play.proofs.Laws.{goes-replied, play-fits, play-keeps}
 use Rattle.replay_records.specs.Records.{Replaying, afterRecord, nextBy, replayOf, replayedFrom, whileWhole}
 use Rattle.replay_play.specs.Play.{Playing, RecordPlaying, eventsOf, playedInto, outputLeast, played, answering, beforePlaying, playBy, playOf, playWith, endedBy}
 use Rattle.replay_records.specs.declared.Ended.{Ended}
-use Rattle.replay_records.specs.declared.Ended.the-variants.{Whole}
+use Rattle.replay_records.specs.declared.Ended.the-variants.{OutputFull, Whole}
 use Rattle.replay_records.specs.declared.Ended.the-variants as Ended
 use Rattle.replay_play.specs.declared.RecordEnded.{RecordEnded}
-use Rattle.replay_play.specs.declared.RecordEnded.the-variants.{NotGood, Played}
+use Rattle.replay_play.specs.declared.RecordEnded.the-variants.{NotGood, OutputShort, Played}
 use Rattle.replay_play.specs.declared.RecordEnded.the-variants as RecordEnded
 use Rattle.words.specs.Words.{if_then_else_}
 
@@ -85,6 +85,7 @@ all-bytes (b ∷ bs) (more h r) = andEvent (aByte h) (all-bytes bs r)
 -- What a record's turn leaves, where its output suffices.
 pub record Turns (p : Part) (t : RecordPlaying) : Type 0 where
   pub goes : (r : Refusal) → t .ended ≡ RecordEnded.Refused r → ⊥
+  pub fits : t .ended ≡ OutputShort → ⊥
   pub stands : Stands p (before (t .chip) (t .memory) (t .room))
 
 by-goes : (a : Answer) (n k : ℕ) (x : Playing) → a ≡ Replied n k → (r : Refusal) → endedBy a x ≡ RecordEnded.Refused r → ⊥
@@ -92,9 +93,14 @@ unfolding endedBy
 by-goes (Replied i j) n k x e r q = let z : _≡_ {A = ℕ} 0 1 = cc in omega arith
 by-goes (Answer.Refused s) n k x e r q = let z : _≡_ {A = ℕ} 0 1 = cc in omega arith
 
+by-fits : (a : Answer) (x : Playing) → endedBy a x ≡ OutputShort → ⊥
+unfolding endedBy
+by-fits (Replied i j) x q = let z : _≡_ {A = ℕ} 0 1 = cc in omega arith
+by-fits (Answer.Refused s) x q = let z : _≡_ {A = ℕ} 0 1 = cc in omega arith
+
 kept-turns : (p : Part) (x : Playing) (output : List ℕ) → Plays p x → Turns p (playedInto x output)
 unfolding playedInto
-kept-turns p x output w = record { goes = λ r e. by-goes (x .left .answer) (w .bytes) (w .frames) x (w .replied) r e; stands = again (w .stands) }
+kept-turns p x output w = record { goes = λ r e. by-goes (x .left .answer) (w .bytes) (w .frames) x (w .replied) r e; fits = λ e. by-fits (x .left .answer) x e; stands = again (w .stands) }
 
 with-turns : (p : Part) (vs : List Event) (c : Chip) (m : Flash) (room output : List ℕ) → Stands p (before c m room) → AllProper vs → outputLeast ≤ length output
     → Turns p (playWith vs p c m room output)
@@ -111,7 +117,7 @@ turn-plays p bs c m room output s b h = go (recordOf recordSize bs)
     go : (r : Record) → Turns p (playBy r p bs c m room output)
     go GapRecord = with-turns p (Gap ∷ []) c m room output s (andEvent aGap noEvent) h
     go (BytesRecord n) = with-turns p (map Byte (carriedBytes n bs)) c m room output s (all-bytes (carriedBytes n bs) (below-take 256 n (below-drop 256 2 b))) h
-    go BadRecord = record { goes = λ r e. let z : _≡_ {A = ℕ} 0 1 = cc in omega arith; stands = s }
+    go BadRecord = record { goes = λ r e. let z : _≡_ {A = ℕ} 0 1 = cc in omega arith; fits = λ e. let z : _≡_ {A = ℕ} 0 1 = cc in omega arith; stands = s }
 
 -- A whole capture: with output for every record it is never halted.
 pub data AllBelow : List (List ℕ) → Type 0 where
@@ -143,17 +149,21 @@ goes-on p r rs x n k g b e =
       enough = omega (arith, o, g .enough, f .short n k e);
     }
 
--- What it leaves: no refusal, and a chip that stands.
+-- What it leaves: no refusal and no want of output, and a chip that stands.
 pub record Unhalted (p : Part) (x : Replaying) : Type 0 where
   pub stands : Stands p (before (x .chip) (x .memory) (x .room))
   pub unrefused : (q : Refusal) → x .ended ≡ Ended.Refused q → ⊥
+  pub unfilled : x .ended ≡ OutputFull → ⊥
 
 not-whole : {x : Ended} (q : Refusal) → x ≡ Whole → x ≡ Ended.Refused q → ⊥
 not-whole q e f = let z : _≡_ {A = Ended} Whole (Ended.Refused q) = sym e ∙ f in let y : _≡_ {A = ℕ} 0 1 = cc in omega arith
 
+not-full : {x : Ended} → x ≡ Whole → x ≡ OutputFull → ⊥
+not-full e f = let z : _≡_ {A = Ended} Whole OutputFull = sym e ∙ f in let y : _≡_ {A = ℕ} 0 1 = cc in omega arith
+
 pub replayed-unhalted : (p : Part) (rs : List (List ℕ)) (x : Replaying) → AllBelow rs → Goes p rs x → Unhalted p (replayedFrom p rs x)
 unfolding replayedFrom whileWhole nextBy
-replayed-unhalted p [] x noRecord g = record { stands = g .stands; unrefused = λ q e. not-whole q (g .whole) e }
+replayed-unhalted p [] x noRecord g = record { stands = g .stands; unrefused = λ q e. not-whole q (g .whole) e; unfilled = λ e. not-full (g .whole) e }
 replayed-unhalted p (r ∷ rs) x (andRecord b bs) g = go (t .ended) refl (λ y w. replayed-unhalted p rs y bs w)
   where
     t : RecordPlaying
@@ -168,7 +178,8 @@ replayed-unhalted p (r ∷ rs) x (andRecord b bs) g = go (t .ended) refl (λ y w
     go : (a : RecordEnded) → t .ended ≡ a → ((y : Replaying) → Goes p rs y → Unhalted p (replayedFrom p rs y))
         → Unhalted p (whileWhole (nextBy a t x .ended) (replayedFrom p rs (nextBy a t x)) (nextBy a t x))
     go (Played n k) e rest = rest (afterRecord Whole 1 n k t x) (goes-on p r rs x n k g b e)
-    go NotGood e rest = record { stands = turns .stands; unrefused = λ q f. let z : _≡_ {A = ℕ} 0 1 = cc in omega arith }
+    go NotGood e rest = record { stands = turns .stands; unrefused = λ q f. let z : _≡_ {A = ℕ} 0 1 = cc in omega arith; unfilled = λ f. let z : _≡_ {A = ℕ} 0 1 = cc in omega arith }
+    go OutputShort e rest = absurd (turns .fits e)
     go (RecordEnded.Refused s) e rest = absurd (turns .goes s e)
 
 pub records-below : (most : ℕ) (bs : List ℕ) → Below 256 bs → AllBelow (recordsIn recordSize most bs)
@@ -189,3 +200,8 @@ replay-unhalted p capture c m room output s b h =
 pub never-halted : (p : Part) (capture : List ℕ) (c : Chip) (m : Flash) (room output : List ℕ) → Stands p (before c m room) → Below 256 capture
     → outputLeast * length (recordsOf recordSize capture) ≤ length output → (q : Refusal) → replayOf p capture c m room output .ended ≡ Ended.Refused q → ⊥
 never-halted p capture c m room output s b h q e = replay-unhalted p capture c m room output s b h .unrefused q e
+
+-- And never for want of output.
+pub never-filled : (p : Part) (capture : List ℕ) (c : Chip) (m : Flash) (room output : List ℕ) → Stands p (before c m room) → Below 256 capture
+    → outputLeast * length (recordsOf recordSize capture) ≤ length output → replayOf p capture c m room output .ended ≡ OutputFull → ⊥
+never-filled p capture c m room output s b h e = replay-unhalted p capture c m room output s b h .unfilled e

@@ -34,10 +34,10 @@ use Rattle.replay_play.proofs.Laws.{play-fits, play-keeps}
 use Rattle.replay_records.specs.Records.{Replaying, afterRecord, nextBy, nextOf, replayOf, replayPart, replayedFrom, whileWhole}
 use Rattle.replay_play.specs.Play.{Playing, RecordPlaying, beforePlaying, endedBy, eventsOf, outputLeast, playBy, playOf, playWith, played, playedInto}
 use Rattle.replay_records.specs.declared.Ended.{Ended}
-use Rattle.replay_records.specs.declared.Ended.the-variants.{AtBadRecord, Whole}
+use Rattle.replay_records.specs.declared.Ended.the-variants.{AtBadRecord, OutputFull, Whole}
 use Rattle.replay_records.specs.declared.Ended.the-variants as Ended
 use Rattle.replay_play.specs.declared.RecordEnded.{RecordEnded}
-use Rattle.replay_play.specs.declared.RecordEnded.the-variants.{NotGood, Played}
+use Rattle.replay_play.specs.declared.RecordEnded.the-variants.{NotGood, OutputShort, Played}
 use Rattle.replay_play.specs.declared.RecordEnded.the-variants as RecordEnded
 use Rattle.words.specs.Words.{if_then_else_}
 
@@ -169,6 +169,7 @@ replayed-upshot p (r ∷ rs) x a g =
         → upshotOf (whileWhole (nextBy b t x .ended) (replayedFrom p rs (nextBy b t x)) (nextBy b t x)) ≡ thenUpshot p rs (upshotOf (nextBy b t x))
     go (Played n k) e rest = rest (afterRecord Whole 1 n k t x) (enough-next p r rs x n k a g e)
     go NotGood e rest = refl
+    go OutputShort e rest = refl
     go (RecordEnded.Refused s) e rest = refl
 
 replay-upshot : (p : Part) (capture : List ℕ) (c : Chip) (m : Flash) (room output : List ℕ) → Arrays p → outputLeast * length (recordsOf recordSize capture) ≤ length output
@@ -195,6 +196,7 @@ while-adds : (e : Ended) (g x y : Upshot) → whileOn e (andThen g x) (andThen g
 unfolding whileOn
 while-adds Whole g x y = refl
 while-adds AtBadRecord g x y = refl
+while-adds OutputFull g x y = refl
 while-adds (Ended.Refused r) g x y = refl
 
 next-adds : (p : Part) (r : List ℕ) (g h : Upshot) → nextUpshot p r (andThen g h) ≡ andThen g (nextUpshot p r h)
@@ -223,6 +225,7 @@ upshots-append p (r ∷ rs) ss g e = go (k .ended) refl (λ q. upshots-append p 
         → whileOn z (upshotFrom p (rs ++ ss) k) k ≡ thenUpshot p ss (whileOn z (upshotFrom p rs k) k)
     go Whole q next = next q
     go AtBadRecord q next = sym (ap (λ (z : Ended). whileOn z (upshotFrom p ss k) k) q)
+    go OutputFull q next = sym (ap (λ (z : Ended). whileOn z (upshotFrom p ss k) k) q)
     go (Ended.Refused x) q next = sym (ap (λ (z : Ended). whileOn z (upshotFrom p ss k) k) q)
 
 -- The records of a capture whose first piece is whole records.
@@ -280,6 +283,7 @@ while-same : (e : Ended) (g : Upshot) → whileOn e g g ≡ g
 unfolding whileOn
 while-same Whole g = refl
 while-same AtBadRecord g = refl
+while-same OutputFull g = refl
 while-same (Ended.Refused r) g = refl
 
 pieces-upshot : (p : Part) (qs : List Piece) (g : Upshot) → Arrays p → Pieces qs → g .ended ≡ Whole → inPieces p qs g ≡ upshotFrom p (recordsOf recordSize (joined qs)) g
@@ -302,6 +306,7 @@ pieces-upshot p (q ∷ qs) g a (andPiece x xs w h r) e =
         → whileOn z (inPieces p qs k) k ≡ whileOn z (upshotFrom p (recordsOf recordSize (joined qs)) k) k
     go Whole y next = next y
     go AtBadRecord y next = refl
+    go OutputFull y next = refl
     go (Ended.Refused x) y next = refl
 
 pub in-pieces : InPieces
@@ -343,6 +348,7 @@ while-kept : (p : Part) (e : Ended) (x y : Upshot) → Kept p x → Kept p y →
 unfolding whileOn
 while-kept p Whole x y k l = k
 while-kept p AtBadRecord x y k l = l
+while-kept p OutputFull x y k l = l
 while-kept p (Ended.Refused r) x y k l = l
 
 upshots-kept : (p : Part) (rs : List (List ℕ)) (g : Upshot) → AllBelow rs → Kept p g → Kept p (upshotFrom p rs g)
@@ -380,6 +386,7 @@ module _ (p : Part) (q : Piece) (qs : List Piece) (g : Upshot) (kept : Kept p g)
           ∙ ap (λ (t : List ℕ). t ++ linesInPieces p qs k) (sym shown)
           ∙ rest k piece-kept y
       go AtBadRecord y = ap (λ (t : List ℕ). lines (g .said) ++ t) (append-nil (lines (ofPiece p g q .said))) ∙ sym shown
+      go OutputFull y = ap (λ (t : List ℕ). lines (g .said) ++ t) (append-nil (lines (ofPiece p g q .said))) ∙ sym shown
       go (Ended.Refused r) y = ap (λ (t : List ℕ). lines (g .said) ++ t) (append-nil (lines (ofPiece p g q .said))) ∙ sym shown
 
 below-front : (xs ys : List ℕ) → Below 256 (xs ++ ys) → Below 256 xs

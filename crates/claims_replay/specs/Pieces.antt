@@ -18,7 +18,7 @@ use Rattle.part.specs.declared.refusal.Refusal.{Refusal}
 use Rattle.replay_records.specs.Records.{replayOf, replayPart}
 use Rattle.replay_play.specs.Play.{outputLeast}
 use Rattle.replay_records.specs.declared.Ended.{Ended}
-use Rattle.replay_records.specs.declared.Ended.the-variants.{AtBadRecord, Refused, Whole}
+use Rattle.replay_records.specs.declared.Ended.the-variants.{AtBadRecord, OutputFull, Refused, Whole}
 
 abbrev pub beginning : Chip → Flash → List ℕ → Upshot
 beginning c m room = record { ended = Whole; records = 0; frames = 0; said = []; chip = c; memory = m; room = room }
@@ -51,6 +51,7 @@ withPiece p g q = andThen g (ofPiece p g q)
 unfoldable pub whileOn : Ended → Upshot → Upshot → Upshot
 whileOn Whole rest g = rest
 whileOn AtBadRecord rest g = g
+whileOn OutputFull rest g = g
 whileOn (Refused r) rest g = g
 
 unfoldable pub inPieces : Part → List Piece → Upshot → Upshot
@@ -91,6 +92,7 @@ PiecesStand =
 unfoldable pub onlyOn : Ended → List ℕ → List ℕ
 onlyOn Whole text = text
 onlyOn AtBadRecord text = []
+onlyOn OutputFull text = []
 onlyOn (Refused r) text = []
 
 unfoldable pub linesInPieces : Part → List Piece → Upshot → List ℕ

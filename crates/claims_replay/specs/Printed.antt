@@ -11,7 +11,7 @@ use Rattle.replay_hex.specs.Hex.{lineOf}
 use Rattle.replay_records.specs.Records.{Replaying, replayOf, replayPart}
 use Rattle.replay_play.specs.Play.{outputLeast}
 use Rattle.replay_records.specs.declared.Ended.{Ended}
-use Rattle.replay_records.specs.declared.Ended.the-variants.{AtBadRecord, Refused, Whole}
+use Rattle.replay_records.specs.declared.Ended.the-variants.{AtBadRecord, OutputFull, Refused, Whole}
 use Rattle.words.specs.Words.{if_then_else_}
 
 -- "Each reply frame is one line of hex": frames end to end, cut by their LEN bytes. (No frames are more than their bytes.)
@@ -59,6 +59,7 @@ upshotOf x =
 unfoldable pub lastLine : Upshot → Ended → List ℕ
 lastLine x Whole = 0x45 ∷ 0x4E ∷ 0x44 ∷ 0x20 ∷ decimal (x .frames) ++ 0x0A ∷ []
 lastLine x AtBadRecord = 0x42 ∷ 0x41 ∷ 0x44 ∷ 0x20 ∷ decimal (x .records) ++ 0x0A ∷ []
+lastLine x OutputFull = []
 lastLine x (Refused r) = []
 
 -- "The chip has 16 code and 4 data blocks, clock 32, all fresh." The output has room for every record's replies.

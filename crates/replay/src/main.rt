@@ -96,11 +96,18 @@ struct Went {
     frames: usize,
 }
 
-// A refusal is the chip's, which is proved not to occur (claims_replay), or for want of output, which is long enough for the buffer's records.
+// Neither a refusal nor want of output occurs: the output is long enough for the buffer's records, and then it is proved (claims_replay).
 fn going_on(ended: Ended) -> Going {
     match ended {
         Ended::Whole => Going::On,
         Ended::AtBadRecord => Going::Bad,
+        Ended::OutputFull => {
+            io::write_all(
+                STDERR_FILENO,
+                b"replay: the output was too short, which should not occur\n",
+            );
+            Going::Lost
+        }
         Ended::Refused(refusal) => {
             io::write_all(
                 STDERR_FILENO,

@@ -1,7 +1,7 @@
 // The call for C and Rust that plays capture records into a chip, with a part and a state as in `chip_door`. Document 01, "Replay" and "Refusal numbers".
 ghost use mathlib.Core.Path.{_≡_};
 ghost use Rattle.chip_core.specs.Effect.{flash};
-ghost use Rattle.part.specs.Crossing.{partOf};
+ghost use Rattle.part_layout.specs.Layout.{partIn};
 ghost use Rattle.part.specs.declared.refusal.Verdict.the-variants.{Accepted};
 ghost use Rattle.replay_door.specs.Calls.{endNumber, replayedBy, replayedThrough, replayTold};
 use chip_layout::admission;
@@ -15,6 +15,7 @@ fn end_number(ended: Ended) -> u32
     match ended {
         Ended::Whole => 0,
         Ended::AtBadRecord => 16,
+        Ended::OutputFull => 17,
         Ended::Refused(refusal) => refusal.number() as u32,
     }
 }
@@ -22,75 +23,46 @@ fn end_number(ended: Ended) -> u32
 // The records of a call that is accepted.
 fn play(
     part: Part,
-    state: &mut [u8],
+    state: &mut [u8; 293],
     capture: &[u8],
     code: &mut [u8],
     data: &mut [u8],
     room: &mut [u8],
     output: &mut [u8],
-    played: &mut usize,
-    bytes: &mut usize,
-    frames: &mut usize,
+    told: &mut [u64; 3],
 ) -> u32
-    ensures { λ r. ⌜ replayTold r (now (played .exit)) (now (bytes .exit)) (now (frames .exit)) (now (state .exit)) (flash (now (code .exit)) (now («data» .exit)))
-        (now (room .exit)) (now (output .exit))
-        ≡ replayedBy Accepted part (now (capture .entry)) (now (state .entry)) (flash (now (code .entry)) (now («data» .entry))) (now (room .entry))
-        (now (output .entry)) ⌝ }
+    ensures { λ r. ⌜ replayTold r (now (told .exit)) (now (state .exit)) (flash (now (code .exit)) (now («data» .exit))) (now (room .exit)) (now (output .exit))
+        ≡ replayedBy Accepted part (now (capture .entry)) (now (told .entry)) (now (state .entry)) (flash (now (code .entry)) (now («data» .entry)))
+        (now (room .entry)) (now (output .entry)) ⌝ }
 {
     let chip = chip_layout::chip_in(state);
     let x = replay_records::replay(part, chip, capture, code, data, room, output);
     let ended = x.ended;
     chip_layout::lay_chip(x.chip, state);
-    *played = x.records;
-    *bytes = x.bytes;
-    *frames = x.frames;
+    *told = [x.records as u64, x.bytes as u64, x.frames as u64];
     end_number(ended)
 }
 
-// Capture records one after the other: how many were played, and how many bytes and frames of replies stand in the output, end to end.
+// Capture records one after the other: told are how many were played, and how many bytes and frames of replies stand in the output, end to end.
 #[no_mangle]
 pub extern "C" fn zc_replay(
-    code_blocks: u32,
-    data_blocks: u32,
-    clock: u32,
-    names: &[u8],
-    state: &mut [u8],
+    part: &[u8; 19],
+    state: &mut [u8; 293],
     capture: &[u8],
     code: &mut [u8],
     data: &mut [u8],
     room: &mut [u8],
     output: &mut [u8],
-    played: &mut usize,
-    bytes: &mut usize,
-    frames: &mut usize,
+    told: &mut [u64; 3],
 ) -> u32
-    ensures { λ r. ⌜ replayTold r (now (played .exit)) (now (bytes .exit)) (now (frames .exit)) (now (state .exit)) (flash (now (code .exit)) (now («data» .exit)))
-        (now (room .exit)) (now (output .exit))
-        ≡ replayedThrough (partOf «code_blocks» «data_blocks» clock (now (names .entry))) (now (capture .entry)) (now (state .entry))
+    ensures { λ r. ⌜ replayTold r (now (told .exit)) (now (state .exit)) (flash (now (code .exit)) (now («data» .exit))) (now (room .exit)) (now (output .exit))
+        ≡ replayedThrough (partIn (now (part .entry))) (now (capture .entry)) (now (told .entry)) (now (state .entry))
         (flash (now (code .entry)) (now («data» .entry))) (now (room .entry)) (now (output .entry)) ⌝ }
 {
-    let part = part::crossing::part_of(code_blocks, data_blocks, clock, names);
-    let v = admission::chip_acceptance(part, state, code.len(), data.len(), room.len());
+    let p = part_layout::part_in(part);
+    let v = admission::chip_acceptance(p, state, code.len(), data.len(), room.len());
     match v {
-        Verdict::Refused(refusal) => {
-            *played = 0;
-            *bytes = 0;
-            *frames = 0;
-            refusal.number() as u32
-        }
-        Verdict::Accepted => {
-            play(
-                part,
-                state,
-                capture,
-                code,
-                data,
-                room,
-                output,
-                played,
-                bytes,
-                frames,
-            )
-        }
+        Verdict::Refused(refusal) => refusal.number() as u32,
+        Verdict::Accepted => play(p, state, capture, code, data, room, output, told),
     }
 }

@@ -33,10 +33,9 @@ use Rattle.lent.specs.Lent.{left, putOf}
 use Rattle.lent.specs.declared.Room.{Room}
 use Rattle.part.specs.declared.Part.{Part}
 use Rattle.part.specs.declared.refusal.Refusal.{Refusal}
-use Rattle.part.specs.declared.refusal.Refusal.the-variants.{ShortRoom}
 use Rattle.replay_play.specs.Play.{Playing, RecordPlaying, eventsOf, goesOn, playedInto, played, answering, beforePlaying, playBy, playOf, playWith, endedBy, recordPlaying}
 use Rattle.replay_play.specs.declared.RecordEnded.{RecordEnded}
-use Rattle.replay_play.specs.declared.RecordEnded.the-variants.{NotGood, Played}
+use Rattle.replay_play.specs.declared.RecordEnded.the-variants.{NotGood, OutputShort, Played}
 use Rattle.replay_play.specs.declared.RecordEnded.the-variants as RecordEnded
 use Rattle.words.specs.Words.{if_then_else_}
 
@@ -378,7 +377,7 @@ with-fits vs p c m room output a h = go (decLe 192 (length output))
         let x = played p vs (beforePlaying c m room) in
         rw (le-ltb (length output) 192 k)
         (by-fits (x .left .answer) x (length output) (omega (arith, played-long p vs (beforePlaying c m room) a)) k (played-framed p vs (beforePlaying c m room) a (omega arith)))
-    go (no k) = rw (lt-ltb (length output) 192 (omega arith)) (none-fits (RecordEnded.Refused ShortRoom) (length output) (λ n i e. let z : _≡_ {A = ℕ} 0 1 = cc in omega arith))
+    go (no k) = rw (lt-ltb (length output) 192 (omega arith)) (none-fits OutputShort (length output) (λ n i e. let z : _≡_ {A = ℕ} 0 1 = cc in omega arith))
 
 by-record : (r : Record) (p : Part) (bs : List ℕ) (c : Chip) (m : Flash) (room output : List ℕ) → Arrays p → ((n : ℕ) → r ≡ BytesRecord n → n ≤ 6)
     → Fits (playBy r p bs c m room output .ended) (length output)

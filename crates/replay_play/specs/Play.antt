@@ -17,10 +17,9 @@ use Rattle.chip.specs.declared.Event.{Event}
 use Rattle.chip.specs.declared.Event.the-variants.{Byte, Gap}
 use Rattle.chip_core.specs.Effect.{Flash}
 use Rattle.part.specs.declared.Part.{Part}
-use Rattle.part.specs.declared.refusal.Refusal.the-variants.{ShortRoom}
 use Rattle.replay_play.specs.declared.PlayedRecord.{PlayedRecord}
 use Rattle.replay_play.specs.declared.RecordEnded.{RecordEnded}
-use Rattle.replay_play.specs.declared.RecordEnded.the-variants.{NotGood, Played}
+use Rattle.replay_play.specs.declared.RecordEnded.the-variants.{NotGood, OutputShort, Played}
 use Rattle.replay_play.specs.declared.RecordEnded.the-variants as RecordEnded
 use Rattle.words.specs.Words.{if_then_else_}
 
@@ -83,7 +82,7 @@ playedInto x output =
       output = x .said ++ drop (length (x .said)) output;
     }
 
--- A record has at most six bytes, each with a reply of at most 31 bytes: 192 bytes of output always suffice, and fewer are refused (4).
+-- A record has at most six bytes, each with a reply of at most 31 bytes: 192 bytes of output always suffice, and with fewer none is played.
 abbrev pub outputLeast : ℕ
 outputLeast = 192
 
@@ -92,7 +91,7 @@ unchanged t c m room output = record { ended = t; chip = c; memory = m; room = r
 
 unfoldable pub playWith : List Event → Part → Chip → Flash → List ℕ → List ℕ → RecordPlaying
 playWith vs p c m room output =
-    if ltb (length output) outputLeast then unchanged (RecordEnded.Refused ShortRoom) c m room output
+    if ltb (length output) outputLeast then unchanged OutputShort c m room output
     else playedInto (played p vs (beforePlaying c m room)) output
 
 -- A record is judged whole before any of its bytes is fed.

@@ -14,10 +14,11 @@ use part::Part;
 use part::refusal::Refusal;
 use replay_capture::Record;
 
-// How playing ended: with so many bytes and frames of replies; at a record that is not good; or at a call that the chip refused.
+// How playing ended: with so many bytes and frames of replies; at a record that is not good; before one, for want of output; or at a call that the chip refused.
 pub enum RecordEnded {
     Played { bytes: usize, frames: usize },
     NotGood,
+    OutputShort,
     Refused(Refusal),
 }
 
@@ -111,7 +112,7 @@ fn play_bytes(
     }
 }
 
-// One record: judged whole, then its events one after the other. Output under 192 bytes is refused.
+// One record: judged whole, then its events one after the other. With output under 192 bytes it is not played.
 pub fn play(
     part: Part,
     chip: Chip,
@@ -133,7 +134,7 @@ pub fn play(
         Record::GapRecord => {
             if output.len() < 192 {
                 return PlayedRecord {
-                    ended: RecordEnded::Refused(Refusal::ShortRoom),
+                    ended: RecordEnded::OutputShort,
                     chip,
                 };
             }
@@ -142,7 +143,7 @@ pub fn play(
         Record::BytesRecord(n) => {
             if output.len() < 192 {
                 return PlayedRecord {
-                    ended: RecordEnded::Refused(Refusal::ShortRoom),
+                    ended: RecordEnded::OutputShort,
                     chip,
                 };
             }

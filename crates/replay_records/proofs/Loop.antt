@@ -20,10 +20,10 @@ use Rattle.replay_play.proofs.Laws.{Fits, play-fits}
 use Rattle.replay_records.specs.Records.{Replaying, afterRecord, nextBy, replayOf, replayedFrom, whileWhole}
 use Rattle.replay_play.specs.Play.{RecordPlaying, playOf}
 use Rattle.replay_records.specs.declared.Ended.{Ended}
-use Rattle.replay_records.specs.declared.Ended.the-variants.{AtBadRecord, Whole}
+use Rattle.replay_records.specs.declared.Ended.the-variants.{AtBadRecord, OutputFull, Whole}
 use Rattle.replay_records.specs.declared.Ended.the-variants as Ended
 use Rattle.replay_play.specs.declared.RecordEnded.{RecordEnded}
-use Rattle.replay_play.specs.declared.RecordEnded.the-variants.{NotGood, Played}
+use Rattle.replay_play.specs.declared.RecordEnded.the-variants.{NotGood, OutputShort, Played}
 use Rattle.replay_play.specs.declared.RecordEnded.the-variants as RecordEnded
 use Rattle.replay_records.specs.inner.Loop.{recordEnd}
 use Rattle.words.specs.Words.{if_then_else_}
@@ -175,6 +175,11 @@ ends-bad : (p : Part) (rs : List (List ℕ)) (a : RecordEnded) (u : RecordPlayin
 unfolding whileWhole nextBy
 ends-bad p rs a u x e = rw e
 
+ends-full : (p : Part) (rs : List (List ℕ)) (a : RecordEnded) (u : RecordPlaying) (x : Replaying) → a ≡ OutputShort
+    → whileWhole (nextBy a u x .ended) (replayedFrom p rs (nextBy a u x)) (nextBy a u x) ≡ afterRecord OutputFull 0 0 0 u x
+unfolding whileWhole nextBy
+ends-full p rs a u x e = rw e
+
 ends-refused : (p : Part) (rs : List (List ℕ)) (r : Refusal) (a : RecordEnded) (u : RecordPlaying) (x : Replaying) → a ≡ RecordEnded.Refused r
     → whileWhole (nextBy a u x .ended) (replayedFrom p rs (nextBy a u x)) (nextBy a u x) ≡ afterRecord (Ended.Refused r) 0 0 0 u x
 unfolding whileWhole nextBy
@@ -183,6 +188,10 @@ ends-refused p rs r a u x e = rw e
 pub replayed-bad : {p : Part} {bs : List ℕ} {at end : ℕ} {x t : Replaying} (u : RecordPlaying) → ReplayedFrom p bs at x t → at < length bs → end ≡ recordEnd at (length bs) → u ≡ playAt p bs at end x → u .ended ≡ NotGood
     → after AtBadRecord (x .records) (x .bytes) (x .frames) u x ≡ t
 replayed-bad {p} {bs} {at} {end} {x} {t} u q h g e z = stopped-is AtBadRecord u x ∙ sym (ends-bad p _ (u .ended) u x z) ∙ record-next u q h g e
+
+pub replayed-full : {p : Part} {bs : List ℕ} {at end : ℕ} {x t : Replaying} (u : RecordPlaying) → ReplayedFrom p bs at x t → at < length bs → end ≡ recordEnd at (length bs) → u ≡ playAt p bs at end x → u .ended ≡ OutputShort
+    → after OutputFull (x .records) (x .bytes) (x .frames) u x ≡ t
+replayed-full {p} {bs} {at} {end} {x} {t} u q h g e z = stopped-is OutputFull u x ∙ sym (ends-full p _ (u .ended) u x z) ∙ record-next u q h g e
 
 pub replayed-refused : {p : Part} {bs : List ℕ} {at end : ℕ} {x t : Replaying} {r : Refusal} (u : RecordPlaying) → ReplayedFrom p bs at x t → at < length bs → end ≡ recordEnd at (length bs) → u ≡ playAt p bs at end x
     → u .ended ≡ RecordEnded.Refused r → after (Ended.Refused r) (x .records) (x .bytes) (x .frames) u x ≡ t

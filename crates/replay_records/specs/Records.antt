@@ -8,11 +8,11 @@ use Rattle.chip_state.specs.declared.Chip.{Chip}
 use Rattle.chip_core.specs.Effect.{Flash}
 use Rattle.part.specs.declared.Part.{Part}
 use Rattle.replay_records.specs.declared.Ended.{Ended}
-use Rattle.replay_records.specs.declared.Ended.the-variants.{AtBadRecord, Whole}
+use Rattle.replay_records.specs.declared.Ended.the-variants.{AtBadRecord, OutputFull, Whole}
 use Rattle.replay_records.specs.declared.Ended.the-variants as Ended
 use Rattle.replay_records.specs.declared.Replayed.{Replayed}
 use Rattle.replay_play.specs.declared.RecordEnded.{RecordEnded}
-use Rattle.replay_play.specs.declared.RecordEnded.the-variants.{NotGood, Played}
+use Rattle.replay_play.specs.declared.RecordEnded.the-variants.{NotGood, OutputShort, Played}
 use Rattle.replay_play.specs.declared.RecordEnded.the-variants as RecordEnded
 use Rattle.replay_play.specs.Play.{RecordPlaying, playOf}
 
@@ -58,6 +58,7 @@ afterRecord e records bytes frames t x =
 unfoldable pub nextBy : RecordEnded → RecordPlaying → Replaying → Replaying
 nextBy (Played bytes frames) t x = afterRecord Whole 1 bytes frames t x
 nextBy NotGood t x = afterRecord AtBadRecord 0 0 0 t x
+nextBy OutputShort t x = afterRecord OutputFull 0 0 0 t x
 nextBy (RecordEnded.Refused r) t x = afterRecord (Ended.Refused r) 0 0 0 t x
 
 abbrev pub nextOf : Part → List ℕ → Replaying → Replaying
@@ -69,6 +70,7 @@ nextOf p r x =
 unfoldable pub whileWhole : Ended → Replaying → Replaying → Replaying
 whileWhole Whole rest x = rest
 whileWhole AtBadRecord rest x = x
+whileWhole OutputFull rest x = x
 whileWhole (Ended.Refused r) rest x = x
 
 unfoldable pub replayedFrom : Part → List (List ℕ) → Replaying → Replaying

@@ -10,10 +10,11 @@ use part::Part;
 use part::refusal::Refusal;
 use replay_play::RecordEnded;
 
-// How a capture ended: with its last record; at a record that is not good; or at a call that was refused, for want of output or by the chip.
+// How a capture ended: with its last record; at a record that is not good; before one, for want of output; or at a call that the chip refused.
 pub enum Ended {
     Whole,
     AtBadRecord,
+    OutputFull,
     Refused(Refusal),
 }
 
@@ -82,6 +83,15 @@ pub fn replay(
             RecordEnded::NotGood => {
                 return Replayed {
                     ended: Ended::AtBadRecord,
+                    records,
+                    bytes,
+                    frames,
+                    chip: last,
+                };
+            }
+            RecordEnded::OutputShort => {
+                return Replayed {
+                    ended: Ended::OutputFull,
                     records,
                     bytes,
                     frames,

@@ -185,11 +185,7 @@ fn twin_by_value(fed: &[u8]) -> Said {
 #[link(name = "pace", kind = "static")]
 extern "C" {
     fn zp_steps(
-        code_blocks: u32,
-        data_blocks: u32,
-        clock: u32,
-        names: *const u8,
-        names_len: usize,
+        part: *const door::Part,
         bytes: *const u8,
         bytes_len: usize,
         code: *mut u8,
@@ -203,19 +199,14 @@ extern "C" {
 
 /// The proved step in a loop of its own, without the door. Of the chip it tells the count of collected bytes alone.
 fn pace_steps(fed: &[u8]) -> Said {
-    let part = replay_part();
-    let described = trials::chip::described(&part);
+    let part = trials::chip::described(&replay_part());
     let Player {
         mut code, mut data, ..
     } = Player::fresh();
     let mut room = [0; 32];
     let count = unsafe {
         zp_steps(
-            part.code_blocks,
-            part.data_blocks,
-            part.clock,
-            described[3..].as_ptr(),
-            door::NAMES,
+            &part,
             fed.as_ptr(),
             fed.len(),
             code.as_mut_ptr(),

@@ -1,24 +1,25 @@
--- `chip_door::zc_feed` meets its contract: as `step`, by the chip's `feed`.
+-- `chip_door::zc_feed` meets its contract.
 -- Assumes nothing.
+use Rattle.chip_door.specs.Calls.{fedThrough, fedBy}
 use borrow.Author.Needs.{needs}
-use Rattle.chip_door.specs.Calls.{fedBy, fedThrough}
 use Rattle.chip_door.proofs.zc_feed.Statement.{statement}
 use Rattle.chip_door.proofs.zc_feed.Tie as tie
 
 returns : tie.Need-returns
 unfolding fedThrough fedBy
-returns c = simp (← c .before .before .before .before .before .before .part-of .ensures, ← c .before .before .before .before .chip-acceptance .ensures, c .before .before .v .given .1, ← c .number .ensures)
+returns c = simp (← c .before .before .before .before .before .before .part-in .ensures, ← c .before .before .before .before .chip-acceptance .ensures, c .before .before .v .given .1, ← c .number .ensures)
 
 returns-2 : tie.Need-returns-2
 unfolding fedThrough fedBy
 returns-2 c =
-    let part-of = c .before .before .before .before .before .before .before .before .before .before .before .before .before .before .before .before .before .before .before .before .before .before .before .part-of in
-    let chip-acceptance = c .before .before .before .before .before .before .before .before .before .before .before .before .before .before .before .before .before .before .before .before .before .chip-acceptance in
-    let enum-told = c .before .before .before .before .before .before .before .before .before .before .before .before .before .before .before .before .before .before .before .enum-told in
-    let chip-in = c .before .before .before .before .before .before .before .before .before .before .before .before .before .before .before .before .before .chip-in in
-    let feed = c .before .before .before .before .before .before .before .before .before .before .before .before .before .feed in
-    let lay-chip = c .before .before .before .before .before .lay-chip in
-    simp (← part-of .ensures, ← chip-acceptance .ensures, enum-told .given .1, ← chip-in .ensures, ← feed .ensures, ← lay-chip .ensures, ← c .before .before .bytes-told .ensures, ← c .before .frames-told .ensures, ← c .answer-number .ensures)
+    let part-in = c .before .before .before .before .before .before .before .before .before .before .before .before .before .before .before .before .before .before .before .before .before .part-in in
+    let chip-acceptance = c .before .before .before .before .before .before .before .before .before .before .before .before .before .before .before .before .before .before .before .chip-acceptance in
+    let enum-told = c .before .before .before .before .before .before .before .before .before .before .before .before .before .before .before .before .before .enum-told in
+    let chip-in = c .before .before .before .before .before .before .before .before .before .before .before .before .before .before .before .chip-in in
+    let feed = c .before .before .before .before .before .before .before .before .before .before .before .feed in
+    let lay-chip = c .before .before .before .lay-chip in
+    let bytes-told = c .before .before .bytes-told in
+    simp (← part-in .ensures, ← chip-acceptance .ensures, enum-told .given .1, ← chip-in .ensures, ← feed .ensures, ← lay-chip .ensures, ← bytes-told .ensures, ← c .before .frames-told .ensures)
 
 pub zc-feed-spec : {M : Type 1} → statement M
 zc-feed-spec =
@@ -35,10 +36,7 @@ zc-feed-spec =
     (λ c κs. search needs)
     (λ c κs. search needs)
     (λ c κs. search needs)
-    (λ c κs. search needs)
-    (λ c. search needs)
     returns
-    (λ c. search needs)
     (λ c. search needs)
     (λ c. search needs)
     (λ c. search needs)

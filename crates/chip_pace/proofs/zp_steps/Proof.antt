@@ -8,10 +8,10 @@ use Rattle.chip_pace.proofs.zp_steps.Tie as tie
 returns : tie.Need-returns
 unfolding pacedOf
 returns c =
-    let part-of = c .before .before .before .before .before .before .before .before .before .before .before .before .before .part-of in
+    let part-in = c .before .before .before .before .before .before .before .before .before .before .before .before .before .part-in in
     let fresh = c .before .before .before .before .before .before .before .before .before .before .before .before .fresh in
     let steps = c .before .before .before .before .before .before .before .before .steps in
-    simp (← part-of .ensures, ← fresh .ensures, ← steps .ensures)
+    simp (← part-in .ensures, ← fresh .ensures, ← steps .ensures)
 
 pub zp-steps-spec : {M : Type 1} → statement M
 zp-steps-spec =

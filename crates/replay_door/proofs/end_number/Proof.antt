@@ -1,7 +1,7 @@
--- `replay_door::end_number` meets its contract: by the three ends.
+-- `replay_door::end_number` meets its contract.
 -- Assumes nothing.
-use borrow.Author.Needs.{needs}
 use Rattle.replay_door.specs.Calls.{endNumber}
+use borrow.Author.Needs.{needs}
 use Rattle.replay_door.proofs.end_number.Statement.{statement}
 use Rattle.replay_door.proofs.end_number.Tie as tie
 
@@ -15,7 +15,11 @@ returns-2 c = simp (c .enum-told2 .given .1)
 
 returns-3 : tie.Need-returns-3
 unfolding endNumber
-returns-3 c = simp (c .before .before .ended .given .1, ← c .number .ensures)
+returns-3 c = simp (c .enum-told3 .given .1)
+
+returns-4 : tie.Need-returns-4
+unfolding endNumber
+returns-4 c = simp (c .before .before .ended .given .1, ← c .number .ensures)
 
 pub end-number-spec : {M : Type 1} → statement M
 end-number-spec =
@@ -24,8 +28,10 @@ end-number-spec =
     (λ c. search needs)
     (λ c. search needs)
     (λ c. search needs)
+    (λ c. search needs)
     (λ c κs. search needs)
     (λ c. search needs)
     returns
     returns-2
-    returns-3)
+    returns-3
+    returns-4)

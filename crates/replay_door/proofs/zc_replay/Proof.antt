@@ -1,22 +1,22 @@
--- `replay_door::zc_replay` meets its contract: barred, it changes nothing; accepted, its records are played.
+-- `replay_door::zc_replay` meets its contract.
 -- Assumes nothing.
+use Rattle.replay_door.specs.Calls.{replayedThrough, replayedBy}
 use borrow.Author.Needs.{needs}
-use Rattle.replay_door.specs.Calls.{replayedBy, replayedThrough}
 use Rattle.replay_door.proofs.zc_replay.Statement.{statement}
 use Rattle.replay_door.proofs.zc_replay.Tie as tie
 
 returns : tie.Need-returns
 unfolding replayedThrough replayedBy
-returns c = simp (← c .before .before .before .before .before .before .part-of .ensures, ← c .before .before .before .before .chip-acceptance .ensures, c .before .before .v .given .1, ← c .number .ensures)
+returns c = simp (← c .before .before .before .before .before .before .part-in .ensures, ← c .before .before .before .before .chip-acceptance .ensures, c .before .before .v .given .1, ← c .number .ensures)
 
 returns-2 : tie.Need-returns-2
-unfolding replayedThrough
+unfolding replayedThrough replayedBy
 returns-2 c =
-    let part-of = c .before .before .before .before .before .before .before .before .before .before .before .before .before .before .before .before .before .before .before .before .before .before .before .part-of in
-    let chip-acceptance = c .before .before .before .before .before .before .before .before .before .before .before .before .before .before .before .before .before .before .before .before .before .chip-acceptance in
-    let enum-told = c .before .before .before .before .before .before .before .before .before .before .before .before .before .before .before .before .before .before .before .enum-told in
-    let play = c .before .before .before .before .before .before .before .before .before .before .play in
-    simp (← part-of .ensures, ← chip-acceptance .ensures, enum-told .given .1, ← play .ensures)
+    let part-in = c .before .before .before .before .before .before .before .before .before .before .before .before .before .before .before .before .before .before .before .part-in in
+    let chip-acceptance = c .before .before .before .before .before .before .before .before .before .before .before .before .before .before .before .before .before .chip-acceptance in
+    let enum-told = c .before .before .before .before .before .before .before .before .before .before .before .before .before .before .before .enum-told in
+    let play = c .before .before .before .before .before .before .before .before .play in
+    simp (← part-in .ensures, ← chip-acceptance .ensures, enum-told .given .1, ← play .ensures)
 
 pub zc-replay-spec : {M : Type 1} → statement M
 zc-replay-spec =
@@ -29,9 +29,7 @@ zc-replay-spec =
     (λ c. search needs)
     (λ c. search needs)
     (λ c κs. search needs)
-    (λ c. search needs)
     returns
-    (λ c. search needs)
     (λ c. search needs)
     (λ c. search needs)
     (λ c. search needs)

@@ -8,7 +8,7 @@ use borrow.Author.Needs.{needs}
 use Rattle.part.specs.Part.{Arrays}
 use Rattle.chip_core.specs.Effect.{flash}
 use Rattle.frame.specs.Framing.{frames}
-use Rattle.replay_records.proofs.Loop.{ReplayedFrom, end-after, end-within, output-kept, replayed-bad, replayed-end, replayed-refused, replayed-start, replayed-turn, turn-lies}
+use Rattle.replay_records.proofs.Loop.{ReplayedFrom, end-after, end-within, output-kept, replayed-bad, replayed-full, replayed-end, replayed-refused, replayed-start, replayed-turn, turn-lies}
 use Rattle.replay_records.specs.Records.{replayOf}
 use Rattle.replay_records.specs.declared.Ended.the-variants.{Whole}
 use Rattle.replay_records.proofs.replay.Statement.{statement}
@@ -106,14 +106,22 @@ returns c =
 
 returns-2 : tie.Need-returns-2 Inv-loop μ-loop
 returns-2 c =
+    let loop = c .before .before .before .before .before .before .before .before .before .before .before .before .before .before .before .before .before .before .before .loop in
+    let loop-test = c .before .before .before .before .before .before .before .before .before .before .before .before .before .before .before .before .before .before .loop-test in
+    let record-end = c .before .before .before .before .before .before .before .before .before .before .before .before .before .before .before .before .before .record-end in
+    let play = c .before .before .before .before .before .before .before .before .before .before .before .play in
+    replayed-full _ (loop .inv .6) (loop-test .taken) (record-end .ensures) (play .ensures) (c .enum-told2 .given .1)
+
+returns-3 : tie.Need-returns-3 Inv-loop μ-loop
+returns-3 c =
     let loop = c .before .before .before .before .before .before .before .before .before .before .before .before .before .before .before .before .before .before .before .before .loop in
     let loop-test = c .before .before .before .before .before .before .before .before .before .before .before .before .before .before .before .before .before .before .before .loop-test in
     let record-end = c .before .before .before .before .before .before .before .before .before .before .before .before .before .before .before .before .before .before .record-end in
     let play = c .before .before .before .before .before .before .before .before .before .before .before .before .play in
     replayed-refused _ (loop .inv .6) (loop-test .taken) (record-end .ensures) (play .ensures) (c .before .ended2 .given .1)
 
-returns-3 : tie.Need-returns-3 Inv-loop μ-loop
-returns-3 c = replayed-end (c .before .loop .inv .6) (c .loop-test .left)
+returns-4 : tie.Need-returns-4 Inv-loop μ-loop
+returns-4 c = replayed-end (c .before .loop .inv .6) (c .loop-test .left)
 
 pub replay-spec : {M : Type 1} → statement M
 replay-spec =
@@ -149,14 +157,23 @@ replay-spec =
     (λ c. search needs)
     (λ c. search needs)
     (λ c. search needs)
-    (λ c. output-kept _ (c .before .before .before .before .before .before .before .before .before .before .before .before .before .before .before .before .before .before .before .before .loop .inv .6)
-    (c .before .before .before .before .before .before .before .before .before .before .before .before .before .before .before .before .before .before .record-end .ensures)
-    (c .before .before .before .before .before .before .before .before .before .before .before .before .play .ensures)
-    (c .before .before .before .before .before .before .before .before .before .before .before .before .play .kept .1 .1 .1 .1 .1 .1 .0) ∙
-    c .before .before .before .before .before .before .before .before .before .before .before .before .before .before .before .before .before .before .before .before .loop .inv .3)
+    (λ c. output-kept _ (c .before .before .before .before .before .before .before .before .before .before .before .before .before .before .before .before .before .before .before .loop .inv .6)
+    (c .before .before .before .before .before .before .before .before .before .before .before .before .before .before .before .before .before .record-end .ensures)
+    (c .before .before .before .before .before .before .before .before .before .before .before .play .ensures) (c .before .before .before .before .before .before .before .before .before .before .before .play .kept .1 .1 .1 .1 .1 .1 .0) ∙
+    c .before .before .before .before .before .before .before .before .before .before .before .before .before .before .before .before .before .before .before .loop .inv .3)
     returns-2
     (λ c. search needs)
     (λ c. search needs)
     (λ c. search needs)
     (λ c. search needs)
-    returns-3)
+    (λ c. output-kept _ (c .before .before .before .before .before .before .before .before .before .before .before .before .before .before .before .before .before .before .before .before .loop .inv .6)
+    (c .before .before .before .before .before .before .before .before .before .before .before .before .before .before .before .before .before .before .record-end .ensures)
+    (c .before .before .before .before .before .before .before .before .before .before .before .before .play .ensures)
+    (c .before .before .before .before .before .before .before .before .before .before .before .before .play .kept .1 .1 .1 .1 .1 .1 .0) ∙
+    c .before .before .before .before .before .before .before .before .before .before .before .before .before .before .before .before .before .before .before .before .loop .inv .3)
+    returns-3
+    (λ c. search needs)
+    (λ c. search needs)
+    (λ c. search needs)
+    (λ c. search needs)
+    returns-4)

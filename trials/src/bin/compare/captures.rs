@@ -1,7 +1,7 @@
 //! Random captures through zc_replay and through the twin: the same reply bytes, frames and end, and the same room, state and flash after it (01 "Replay").
 
 use trials::chip::{described, layout};
-use trials::door::{self, BAD_RECORD, OUTPUT, ROOM, STATE};
+use trials::door::{self, BAD_RECORD, OUTPUT, OUTPUT_FULL, ROOM, STATE};
 use twin::chip::{step, Answer};
 use twin::random::{random_capture, Generator};
 use twin::replay::{events, hex_line, judge_record, Player, RECORD};
@@ -129,21 +129,22 @@ fn by_door(
             &mut left.room,
             &mut output,
         );
-        if told.bytes > size || output[told.bytes..].iter().any(|byte| *byte != !fill) {
+        let bytes = told.bytes as usize;
+        if bytes > size || output[bytes..].iter().any(|byte| *byte != !fill) {
             return Err(format!(
                 "zc_replay told {told:?} and changed output past that"
             ));
         }
-        left.said.extend_from_slice(&output[..told.bytes]);
-        left.frames += told.frames;
-        left.records += played;
+        left.said.extend_from_slice(&output[..bytes]);
+        left.frames += told.frames as usize;
+        left.records += played as usize;
         match told.refusal {
             0 => return Ok(left),
             BAD_RECORD => {
                 left.bad = true;
                 return Ok(left);
             }
-            4 if played > 0 => coverage.count("captures, in pieces for want of output"),
+            OUTPUT_FULL if played > 0 => coverage.count("captures, in pieces for want of output"),
             _ => return Err(format!("zc_replay told {told:?} after {played} records")),
         }
     }

@@ -2,7 +2,7 @@
 //! room, the 293 bytes of state with the options among them, and all code and data flash are compared (01 "Frames" to "Refusal numbers").
 
 use trials::chip::{described, layout};
-use trials::door::{self, Told, OUTPUT, ROOM, STATE};
+use trials::door::{self, Told, OUTPUT, ROOM, STATE, UNTOLD};
 use twin::chip::{step, Answer, Chip, Event, Phase};
 use twin::frame::LONGEST;
 use twin::part::{Area, Part};
@@ -118,7 +118,7 @@ impl<'a> Trio<'a> {
                     break;
                 }
             }
-            let what = if taken != steps {
+            let what = if taken != steps as u64 {
                 Some(format!(
                     "{taken} bytes taken, {steps} heard until an answer"
                 ))
@@ -142,7 +142,7 @@ impl<'a> Trio<'a> {
                 ));
             }
             self.coverage.count("zc_feed, calls");
-            self.coverage.add("zc_feed, bytes", taken as u64);
+            self.coverage.add("zc_feed, bytes", taken);
             rest = &rest[steps..];
         }
         Ok(())
@@ -189,7 +189,7 @@ impl<'a> Trio<'a> {
                 hex_line(&room_proved),
                 hex_line(&room_twin)
             ))
-        } else if room_proved[told.bytes..]
+        } else if room_proved[told.bytes as usize..]
             .iter()
             .any(|byte| *byte != self.fill)
         {
@@ -209,7 +209,7 @@ impl<'a> Trio<'a> {
             ));
         }
         if told.frames > 0 {
-            self.count_answer(phase, &before, &room_twin[..told.bytes]);
+            self.count_answer(phase, &before, &room_twin[..told.bytes as usize]);
         }
         Ok((told, room_proved))
     }
@@ -272,18 +272,19 @@ fn in_numbers(answer: Answer) -> Told {
     match answer {
         Answer::Replied { bytes, frames } => Told {
             refusal: 0,
-            bytes,
-            frames,
+            bytes: bytes as u64,
+            frames: frames as u64,
         },
         Answer::Refused(number) => refused(number),
     }
 }
 
+/// A refused call leaves the numbers told as they were.
 fn refused(number: u8) -> Told {
     Told {
         refusal: number.into(),
-        bytes: 0,
-        frames: 0,
+        bytes: UNTOLD,
+        frames: UNTOLD,
     }
 }
 
@@ -424,7 +425,7 @@ impl Trio<'_> {
                 let (taken, told) = door::feed(
                     &described, &mut state, stretch, &mut code, &mut data, &mut room,
                 );
-                untaken = taken == 0;
+                untaken = taken == UNTOLD;
                 (3, told)
             }
             Event::Gap if many => {
@@ -437,7 +438,7 @@ impl Trio<'_> {
                     &mut room,
                     &mut output,
                 );
-                untaken = played == 0 && output.iter().all(|byte| *byte == self.fill);
+                untaken = played == UNTOLD && output.iter().all(|byte| *byte == self.fill);
                 (4, told)
             }
             Event::Byte(byte) => (

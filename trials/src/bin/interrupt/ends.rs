@@ -135,8 +135,8 @@ impl<'a> Ends<'a> for Proved<'a> {
                 &mut self.room,
             );
             assert_eq!(told.refusal, 0, "the chip refused a byte");
-            said.extend(&self.room[..told.bytes]);
-            rest = &rest[taken..];
+            said.extend(&self.room[..told.bytes as usize]);
+            rest = &rest[taken as usize..];
         }
     }
 

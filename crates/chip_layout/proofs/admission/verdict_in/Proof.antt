@@ -7,7 +7,7 @@ use Rattle.chip_layout.proofs.admission.verdict_in.Statement.{statement
 use Rattle.chip_layout.proofs.admission.verdict_in.Tie as tie
 
 returns : tie.Need-returns
-returns c = verdict-read _ _ _ _ _ (c .before .before .before .before .before .before .pre) (c .verdict .ensures) (c .before .before .before .before .core-in .ensures) (c .before .before .before .number8 .ensures) refl refl
+returns c = verdict-read _ _ _ _ _ (c .verdict .ensures) (c .before .before .before .before .core-in .ensures) (c .before .before .before .number8 .ensures) refl refl
 
 pub verdict-in-spec : {M : Type 1} → statement M
 verdict-in-spec =
