@@ -5,14 +5,14 @@ use Prim.Native.Nat.{ℕ}
 use lib.ListN.{length}
 use Rattle.chip.specs.Run.{before}
 use Rattle.chip_feed.specs.Feed.{feedOf}
-use Rattle.chip.specs.Step.{freshOf, stepOf}
+use Rattle.chip.specs.Step.{Outcome, freshOf, stepOf}
 use Rattle.chip.specs.declared.Answer.{Answer}
 use Rattle.chip.specs.declared.Answer.the-variants.{Replied}
 use Rattle.chip.specs.declared.Answer.the-variants as Answer
 use Rattle.chip_state.specs.declared.Chip.{Chip}
 use Rattle.chip.specs.declared.Event.{Event}
 use Rattle.chip_layout.specs.Layout.{chipBytes, chipIn}
-use Rattle.chip_layout.specs.Admission.{chipAcceptance}
+use Rattle.chip_layout.specs.Admission.{chipAcceptance, chipAdmission}
 use Rattle.chip_core.specs.Effect.{Flash}
 use Rattle.part.specs.Refusal.{number}
 use Rattle.part.specs.declared.Part.{Part}
@@ -57,16 +57,20 @@ pub record StepTold : Type 0 where
 abbrev pub stepTold : ℕ → List ℕ → List ℕ → Flash → List ℕ → StepTold
 stepTold n told state m room = record { refusal = n; told = told; state = state; memory = m; room = room }
 
--- One event: the bytes and the frames of its reply.
+-- One event: the bytes and the frames of its reply. The chip itself judges a state, and refuses with its number.
+unfoldable pub answeredBy : Answer → Outcome → List ℕ → List ℕ → StepTold
+answeredBy (Answer.Refused r) o told state = stepTold (number r) told state (o .memory) (o .room)
+answeredBy (Replied bytes frames) o told state = stepTold 0 (bytes ∷ frames ∷ []) (chipBytes (o .chip)) (o .memory) (o .room)
+
 unfoldable pub steppedBy : Verdict → Part → Event → List ℕ → List ℕ → Flash → List ℕ → StepTold
 steppedBy (Verdict.Refused r) p v told state m room = stepTold (number r) told state m room
 steppedBy Accepted p v told state m room =
     let o = stepOf p (chipIn state) v m room in
-    stepTold 0 (bytesTold (o .answer) ∷ framesTold (o .answer) ∷ []) (chipBytes (o .chip)) (o .memory) (o .room)
+    answeredBy (o .answer) o told state
 
 unfoldable pub steppedThrough : Part → Event → List ℕ → List ℕ → Flash → List ℕ → StepTold
 steppedThrough p v told state m room =
-    steppedBy (chipAcceptance p state (length (m .codeFlash)) (length (m .dataFlash)) (length room)) p v told state m room
+    steppedBy (chipAdmission p state (length (m .codeFlash)) (length (m .dataFlash))) p v told state m room
 
 -- A stretch of bytes, up to the first that is answered: how many were taken, and the same of the last.
 unfoldable pub fedBy : Verdict → Part → List ℕ → List ℕ → List ℕ → Flash → List ℕ → StepTold

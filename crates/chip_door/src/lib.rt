@@ -68,16 +68,24 @@ fn step(
         (flash (now (code .entry)) (now («data» .entry))) (now (room .entry)) ⌝ }
 {
     let p = part_layout::part_in(part);
-    let v = admission::chip_acceptance(p, state, code.len(), data.len(), room.len());
+    let v = admission::chip_admission(p, state, code.len(), data.len());
     match v {
         Verdict::Refused(refusal) => refusal.number() as u32,
         Verdict::Accepted => {
             let chip = chip_layout::chip_in(state);
             let s = events::step(p, chip, event, code, data, room);
             let answer = s.answer;
-            chip_layout::lay_chip(s.chip, state);
-            *told = [bytes_told(answer) as u64, frames_told(answer) as u64];
-            0
+            match answer {
+                Answer::Refused(refusal) => refusal.number() as u32,
+                Answer::Replied {
+                    bytes: n,
+                    frames: k,
+                } => {
+                    chip_layout::lay_chip(s.chip, state);
+                    *told = [n as u64, k as u64];
+                    0
+                }
+            }
         }
     }
 }

@@ -12,8 +12,7 @@ use part::refusal::Refusal;
 use part::refusal::Verdict;
 
 // What bars a call before the chip is asked: the description, the lengths of flash, and bytes that are no state, in the paper's order.
-fn chip_admission(part: Part, state: &[u8], code: usize, data: usize) -> Verdict
-    requires { ⌜ length (now state) ≡ stateSize ⌝ }
+pub fn chip_admission(part: Part, state: &[u8; 293], code: usize, data: usize) -> Verdict
     ensures { λ r. ⌜ r ≡ chipAdmission part (now (state .entry)) code «data» ⌝ }
 {
     if part.is_described() {

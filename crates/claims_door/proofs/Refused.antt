@@ -4,32 +4,45 @@ use mathlib.Core.List.{List}
 use mathlib.Core.Path.{_≡_, refl}
 use Prim.Native.Nat.{ℕ}
 use lib.ListN.{length}
-use Rattle.chip.specs.Step.{freshOf}
+use Rattle.chip.specs.Step.{Reaction, freshOf, reactTo, settled, stepOf}
 use Rattle.chip.specs.declared.Answer.{Answer}
 use Rattle.chip.specs.declared.Answer.the-variants.{Replied}
 use Rattle.chip.specs.declared.Answer.the-variants as Answer
 use Rattle.chip.specs.declared.Event.{Event}
 use Rattle.chip_core.specs.Effect.{Flash}
-use Rattle.chip_door.specs.Calls.{fedBy, fedThrough, freshThrough, madeBy, steppedBy, steppedThrough}
-use Rattle.chip_layout.specs.Admission.{chipAcceptance}
+use Rattle.chip_door.specs.Calls.{answeredBy, fedBy, fedThrough, freshThrough, madeBy, steppedBy, steppedThrough}
+use Rattle.chip_layout.specs.Admission.{chipAcceptance, chipAdmission}
+use Rattle.chip_layout.specs.Layout.{chipIn}
+use Rattle.chip_state.specs.Refusals.{verdictOn}
 use Rattle.chip_state.specs.declared.Chip.{Chip}
 use Rattle.claims_door.specs.Kept.{StepKept}
+use Rattle.frame.specs.Collector.{heard}
 use Rattle.part.specs.declared.Part.{Part}
 use Rattle.part.specs.declared.refusal.Verdict.{Verdict}
 use Rattle.part.specs.declared.refusal.Verdict.the-variants.{Accepted, Refused}
 
+-- The chip is asked, and refuses: it leaves flash and room as they were.
+asked : (u : Verdict) (p : Part) (x : Reaction) (c : Chip) (told state : List ℕ) (m : Flash) (room : List ℕ)
+    → (answeredBy (settled u p x c m room .answer) (settled u p x c m room) told state .refusal ≡ 0 → ⊥)
+    → StepKept (answeredBy (settled u p x c m room .answer) (settled u p x c m room) told state) told state m room
+unfolding settled answeredBy
+asked (Refused r) p x c told state m room h = record { toldStays = refl; stateStays = refl; flashStays = refl; roomStays = refl }
+asked Accepted p x c told state m room h = absurd (h refl)
+
 step-kept : (u : Verdict) (p : Part) (v : Event) (told state : List ℕ) (m : Flash) (room : List ℕ) → (steppedBy u p v told state m room .refusal ≡ 0 → ⊥)
     → StepKept (steppedBy u p v told state m room) told state m room
-unfolding steppedBy
+unfolding steppedBy stepOf
 step-kept (Refused r) p v told state m room h = record { toldStays = refl; stateStays = refl; flashStays = refl; roomStays = refl }
-step-kept Accepted p v told state m room h = absurd (h refl)
+step-kept Accepted p v told state m room h =
+    let c = chipIn state in
+    asked (verdictOn p c (length (m .codeFlash)) (length (m .dataFlash)) (length room)) p (reactTo v p (c .core) (heard (c .collector)) m) c told state m room h
 
 -- Every event's call, whatever part and whatever bytes are handed in.
 pub refused-keeps : (p : Part) (v : Event) (told state : List ℕ) (m : Flash) (room : List ℕ) → (steppedThrough p v told state m room .refusal ≡ 0 → ⊥)
     → StepKept (steppedThrough p v told state m room) told state m room
 unfolding steppedThrough
 refused-keeps p v told state m room h =
-    step-kept (chipAcceptance p state (length (m .codeFlash)) (length (m .dataFlash)) (length room)) p v told state m room h
+    step-kept (chipAdmission p state (length (m .codeFlash)) (length (m .dataFlash))) p v told state m room h
 
 feed-kept : (u : Verdict) (p : Part) (bs told state : List ℕ) (m : Flash) (room : List ℕ) → (fedBy u p bs told state m room .refusal ≡ 0 → ⊥)
     → StepKept (fedBy u p bs told state m room) told state m room

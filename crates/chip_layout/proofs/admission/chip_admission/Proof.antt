@@ -13,9 +13,9 @@ returns : tie.Need-returns
 unfolding chipAdmission
 returns c =
     sym
-    (first-on _ _ _ (ap not (sym (c .before .before .before .before .before .before .before .is-described .ensures) ∙ c .before .before .before .before .before .before .if1 .taken))
-    ∙ first-on _ _ _ (ap not (eq-eqb _ _ (c .before .before .before .before .if2 .taken ∙ c .before .before .before .before .before .size .ensures)))
-    ∙ first-on _ _ _ (ap not (eq-eqb _ _ (c .before .before .if3 .taken ∙ c .before .before .before .size2 .ensures)))
+    (first-on _ _ _ (ap not (sym (c .before .before .before .before .before .before .before .before .is-described .ensures) ∙ c .before .before .before .before .before .before .before .if1 .taken))
+    ∙ first-on _ _ _ (ap not (eq-eqb _ _ (c .before .before .before .before .before .if2 .taken ∙ c .before .before .before .before .before .before .size .ensures)))
+    ∙ first-on _ _ _ (ap not (eq-eqb _ _ (c .before .before .before .if3 .taken ∙ c .before .before .before .before .size2 .ensures)))
     ∙ first-on _ _ _ (ap not (sym (c .before .is-state .ensures) ∙ c .if4 .taken))
     ∙ none-held)
 
@@ -23,9 +23,9 @@ returns-2 : tie.Need-returns-2
 unfolding chipAdmission
 returns-2 c =
     sym
-    (first-on _ _ _ (ap not (sym (c .before .before .before .before .before .before .before .is-described .ensures) ∙ c .before .before .before .before .before .before .if1 .taken))
-    ∙ first-on _ _ _ (ap not (eq-eqb _ _ (c .before .before .before .before .if2 .taken ∙ c .before .before .before .before .before .size .ensures)))
-    ∙ first-on _ _ _ (ap not (eq-eqb _ _ (c .before .before .if3 .taken ∙ c .before .before .before .size2 .ensures)))
+    (first-on _ _ _ (ap not (sym (c .before .before .before .before .before .before .before .before .is-described .ensures) ∙ c .before .before .before .before .before .before .before .if1 .taken))
+    ∙ first-on _ _ _ (ap not (eq-eqb _ _ (c .before .before .before .before .before .if2 .taken ∙ c .before .before .before .before .before .before .size .ensures)))
+    ∙ first-on _ _ _ (ap not (eq-eqb _ _ (c .before .before .before .if3 .taken ∙ c .before .before .before .before .size2 .ensures)))
     ∙ first-here _ _ _ (ap not (sym (c .before .is-state .ensures) ∙ c .if4 .left)))
 
 returns-3 : tie.Need-returns-3
