@@ -2,8 +2,6 @@
 -- Assumes nothing.
 use mathlib.Core.Path.{_∙_, sym}
 use Rattle.claims_outcome.proofs.Outcome.{Once}
-use Rattle.part.proofs.crossing.part_of.Reads as crossing-part-of
-use Rattle.part.proofs.crossing.part_of.Kinds as crossing-part-of-kinds
 use Rattle.part.proofs.rate.accepts.Reads as rate-accepts
 use Rattle.part.proofs.rate.accepts.Kinds as rate-accepts-kinds
 use Rattle.part.proofs.rate.mode.Reads as rate-mode
@@ -32,9 +30,6 @@ use Rattle.part.proofs.Part.place.Reads as Part-place
 use Rattle.part.proofs.Part.place.Kinds as Part-place-kinds
 use Rattle.part.proofs.Part.range.Reads as Part-range
 use Rattle.part.proofs.Part.range.Kinds as Part-range-kinds
-
-pub crossing-part-of-once : Once crossing-part-of-kinds.ps crossing-part-of-kinds.r crossing-part-of.Post (λ κs r x. r)
-crossing-part-of-once κs a r s x y p q = p ∙ sym q
 
 pub rate-accepts-once : Once rate-accepts-kinds.ps rate-accepts-kinds.r rate-accepts.Post (λ κs r x. r)
 rate-accepts-once κs a r s x y p q = p ∙ sym q

@@ -1,4 +1,3 @@
-pub mod LawsCrossing
 pub mod Blocks
 pub mod Laws
 pub mod LawsSignature

@@ -6,7 +6,6 @@ ghost use Prim.Native.Nat.{_≤_};
 ghost use Rattle.words.specs.Words.{_from_to_};
 ghost use Rattle.part.specs.Part.{described, blocks, first, blockSize, pageSize, pages, size, lastOf, liesIn, placeIn, placeOf, wholeBlocks, stretch, rangeOf};
 
-pub mod crossing;
 pub mod rate;
 pub mod refusal;
 pub mod signature;
