@@ -1,7 +1,7 @@
 -- Laws about a part's areas, addresses and ranges: what chip and dock use instead of the definitions' text.
 -- Assumes nothing.
 use mathlib.Core.Bool.{Bool, false, true}
-use mathlib.Core.List.{List, [], _∷_}
+use mathlib.Core.List.{List, [], _++_, _∷_}
 use mathlib.Core.Path.{_∙_, _≡_, ap, refl, sym}
 use Prim.Native.Nat.{_%_, _*_, _+_, _-_, _/_, _<_, _^_, _≤_, ℕ}
 use native.Mathlib.Nat.{div-add-mod', mul-le-mul-left, mul-le-mul-right, suc-mul}
@@ -12,13 +12,14 @@ use borrow.Author.Tests.{eq-eqb, eqb-true, le-leb, le-ltb, leb-true, lt-ltb, ltb
 use Rattle.part.proofs.Blocks.{Whole, below, whole, whole-inside, whole-read}
 use Rattle.part.specs.Part.{blockOf, blockSize, blocks, described, endsBlock, first, liesIn, pageOf, pageSize, pages, placeIn, placeOf, rangeOf, size, startsBlock, stretch, wholeBlocks}
 use Rattle.part.specs.Rate.{acceptsRate}
-use Rattle.part.specs.Refusal.{Condition, _when_, firstOf}
+use Rattle.part.specs.Refusal.{Condition, _when_, firstOf, number}
 use Rattle.part.specs.declared.Area.{Area}
 use Rattle.part.specs.declared.Area.the-variants.{CodeFlash, DataFlash}
 use Rattle.part.specs.declared.Part.{Part}
 use Rattle.part.specs.declared.Place.the-variants.{In, Outside}
 use Rattle.part.specs.declared.Range.the-variants.{Bad, Blocks}
 use Rattle.part.specs.declared.refusal.Refusal.{Refusal}
+use Rattle.part.specs.declared.refusal.Refusal.the-variants.{BadPart, BadRange, BadState, CodeLength, DataLength, ImageLength, ManyRetries, OutOfTurn, ShortRoom}
 use Rattle.part.specs.declared.refusal.Verdict.the-variants.{Accepted, Refused}
 use Rattle.words.proofs.Laws.{and-both, and-left, and-right}
 use Rattle.words.specs.Words.{_and_, _from_to_, if_then_else_}
@@ -312,6 +313,35 @@ passed x xs e = go (x .holds) refl (sym (first-row x xs) ∙ e)
 
 pub passes : (x : Condition) (xs : List Condition) → x .holds ≡ false → firstOf xs ≡ Accepted → firstOf (x ∷ xs) ≡ Accepted
 passes x xs h e = first-on (x .refusal) (x .holds) xs h ∙ e
+
+-- A row before another: where one of its conditions holds, the other is not reached; where none does, the other decides.
+pub row-ends : (xs ys : List Condition) (r : Refusal) → firstOf xs ≡ Refused r → firstOf (xs ++ ys) ≡ Refused r
+unfolding firstOf if_then_else_
+row-ends [] ys r e = absurd (barred r (sym e))
+row-ends (x ∷ xs) ys r e = go (x .holds) e (row-ends xs ys r)
+  where
+    go : (t : Bool) → (if t then Refused (x .refusal) else firstOf xs) ≡ Refused r → (firstOf xs ≡ Refused r → firstOf (xs ++ ys) ≡ Refused r)
+        → (if t then Refused (x .refusal) else firstOf (xs ++ ys)) ≡ Refused r
+    go true e f = e
+    go false e f = f e
+
+pub row-goes-on : (xs ys : List Condition) → firstOf xs ≡ Accepted → firstOf (xs ++ ys) ≡ firstOf ys
+row-goes-on [] ys e = refl
+row-goes-on (x ∷ xs) ys e =
+    let a = passed x xs e in
+    first-on (x .refusal) (x .holds) (xs ++ ys) (a .not-held) ∙ row-goes-on xs ys (a .rest)
+
+-- 0 is no refusal's number.
+pub number-some : (r : Refusal) → number r ≡ 0 → ⊥
+number-some BadPart e = omega arith
+number-some CodeLength e = omega arith
+number-some DataLength e = omega arith
+number-some ShortRoom e = omega arith
+number-some BadRange e = omega arith
+number-some ImageLength e = omega arith
+number-some ManyRetries e = omega arith
+number-some OutOfTurn e = omega arith
+number-some BadState e = omega arith
 
 -- An accepted rate and supply are bytes.
 pub record RateIs (rate supply : ℕ) : Type 0 where
