@@ -8,9 +8,10 @@ use native.Mathlib.Nat.{div-add-mod', mul-le-mul-left, mul-le-mul-right, suc-mul
 use native.Mathlib.Numerals.{add-one}
 use native.Mathlib.Omega.{arith}
 use lib.Dec.{leb·zero, ltb}
+use lib.ListN.{replicate}
 use borrow.Author.Tests.{eq-eqb, eqb-true, le-leb, le-ltb, leb-true, lt-ltb, ltb-false, ltb-true}
 use Rattle.part.proofs.Blocks.{Whole, below, whole, whole-inside, whole-read}
-use Rattle.part.specs.Part.{blockOf, blockSize, blocks, described, endsBlock, first, liesIn, pageOf, pageSize, pages, placeIn, placeOf, rangeOf, size, startsBlock, stretch, wholeBlocks}
+use Rattle.part.specs.Part.{bare, blockOf, blockSize, blocks, described, endsBlock, first, liesIn, pageOf, pageSize, pages, placeIn, placeOf, rangeOf, size, startsBlock, stretch, wholeBlocks}
 use Rattle.part.specs.Rate.{acceptsRate}
 use Rattle.part.specs.Refusal.{Condition, _when_, firstOf, number}
 use Rattle.part.specs.declared.Area.{Area}
@@ -342,6 +343,32 @@ number-some ImageLength e = omega arith
 number-some ManyRetries e = omega arith
 number-some OutOfTurn e = omega arith
 number-some BadState e = omega arith
+
+-- A part without its names: what it is, and that its numbers, its areas and the places of addresses are the part's.
+pub bare-is : (p : Part)
+    → bare p ≡ record { «code_blocks» = p .«code_blocks»; «data_blocks» = p .«data_blocks»; clock = p .clock; device = replicate 3 0; name = replicate 10 0; version = replicate 3 0 }
+unfolding bare
+bare-is p = refl
+
+pub described-bare : (p : Part) → described (bare p) ≡ described p
+unfolding described bare
+described-bare p = refl
+
+pub blocks-bare : (p : Part) (a : Area) → blocks (bare p) a ≡ blocks p a
+unfolding bare
+blocks-bare p CodeFlash = refl
+blocks-bare p DataFlash = refl
+
+pub block-size-bare : (p : Part) (a : Area) → blockSize (bare p) a ≡ blockSize p a
+unfolding blockSize
+block-size-bare p a = refl
+
+pub size-bare : (p : Part) (a : Area) → size (bare p) a ≡ size p a
+size-bare p a = rw (blocks-bare p a, block-size-bare p a)
+
+pub place-bare : (p : Part) (at : ℕ) → placeOf (bare p) at ≡ placeOf p at
+unfolding placeOf liesIn placeIn blockOf pageOf blockSize bare
+place-bare p at = refl
 
 -- An accepted rate and supply are bytes.
 pub record RateIs (rate supply : ℕ) : Type 0 where

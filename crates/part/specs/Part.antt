@@ -3,7 +3,7 @@ use Prim.Native.Nat.{ℕ, _+_, _-_, _*_, _/_, _%_}
 use mathlib.Core.Bool.{Bool}
 use mathlib.Core.Path.{_≡_}
 use lib.Dec.{leb, ltb, eqb}
-use lib.ListN.{length}
+use lib.ListN.{length, replicate}
 use Rattle.words.specs.Words.{_and_, _from_to_, if_then_else_}
 use Rattle.part.specs.declared.Part.{Part}
 use Rattle.part.specs.declared.Area.{Area}
@@ -24,6 +24,18 @@ pub record Arrays (p : Part) : Type 0 where
   pub deviceLong : length (p .device) ≡ 3
   pub nameLong : length (p .name) ≡ 10
   pub versionLong : length (p .version) ≡ 3
+
+-- A part without its names. (A word of the code's, and none of the document's: what judges a call reads the numbers alone.)
+unfoldable pub bare : Part → Part
+bare p =
+    record {
+      «code_blocks» = p .«code_blocks»;
+      «data_blocks» = p .«data_blocks»;
+      clock = p .clock;
+      device = replicate 3 0x00;
+      name = replicate 10 0x00;
+      version = replicate 3 0x00;
+    }
 
 abbrev pub blocks : Part → Area → ℕ
 blocks p CodeFlash = p .«code_blocks»

@@ -5,9 +5,10 @@ use mathlib.Core.Path.{_≡_, ap, refl}
 use Prim.Native.Nat.{_+_, _≤_, suc, zero, ℕ}
 use native.Mathlib.Numerals.{add-one}
 use native.Mathlib.Omega.{arith}
-use lib.ListN.{drop, getD, length, take}
+use lib.ListN.{drop, getD, length, replicate, take}
 use lib.Seq.{drop-cons}
-use Rattle.part.specs.Part.{Arrays}
+use Rattle.part.proofs.Laws.{bare-is}
+use Rattle.part.specs.Part.{Arrays, bare}
 use Rattle.part.specs.declared.Part.{Part}
 use Rattle.part_layout.specs.Layout.{bytesAt, partIn}
 
@@ -28,6 +29,15 @@ made code extra clock bs =
 pub part-is : {code extra clock : ℕ} (bs : List ℕ) → code ≡ getD bs 0 0 → extra ≡ getD bs 1 0 → clock ≡ getD bs 2 0 → made code extra clock bs ≡ partIn bs
 unfolding partIn bytesAt
 part-is bs e f g = rw (e, f, g)
+
+-- The same without names.
+abbrev nameless : ℕ → ℕ → ℕ → Part
+nameless code extra clock =
+    record { «code_blocks» = code; «data_blocks» = extra; clock = clock; device = replicate 3 0; name = replicate 10 0; version = replicate 3 0 }
+
+pub bare-part-is : {code extra clock : ℕ} (bs : List ℕ) → code ≡ getD bs 0 0 → extra ≡ getD bs 1 0 → clock ≡ getD bs 2 0 → nameless code extra clock ≡ bare (partIn bs)
+unfolding partIn
+bare-part-is bs e f g = rw (bare-is (partIn bs), e, f, g)
 
 bytes-long : (k at : ℕ) (bs : List ℕ) → length (bytesAt k at bs) ≡ k
 unfolding bytesAt

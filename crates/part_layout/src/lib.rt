@@ -1,5 +1,6 @@
 // How a part crosses the door as bytes: one layout, read here alone. Document 01, "The part".
 ghost use mathlib.Core.Path.{_≡_};
+ghost use Rattle.part.specs.Part.{bare};
 ghost use Rattle.part_layout.specs.Layout.{partIn};
 use part::Part;
 
@@ -31,5 +32,19 @@ pub fn part_in(bytes: &[u8; 19]) -> Part
             bytes[15],
         ],
         version: [bytes[16], bytes[17], bytes[18]],
+    }
+}
+
+// The part without its names, where its numbers alone are asked for: no name is copied.
+pub fn bare_in(bytes: &[u8; 19]) -> Part
+    ensures { λ r. ⌜ r ≡ bare (partIn (now (bytes .entry))) ⌝ }
+{
+    Part {
+        code_blocks: wide(bytes[0]),
+        data_blocks: wide(bytes[1]),
+        clock: wide(bytes[2]),
+        device: [0u8; 3],
+        name: [0u8; 10],
+        version: [0u8; 3],
     }
 }
