@@ -12,8 +12,8 @@ use Rattle.chip_options.specs.Options.{fixedBits, freshOptions, goodOpti
 use Rattle.chip_options.specs.declared.Options.{Options}
 use Rattle.numbers.proofs.Laws.{low-2, low-long, number-low}
 use Rattle.numbers.specs.Numbers.{lowFirst, numberAt}
-use Rattle.part.proofs.Laws.{described-is}
-use Rattle.part.specs.Part.{blocks, described}
+use Rattle.part.proofs.Laws.{blocks-bare, described-is}
+use Rattle.part.specs.Part.{bare, blocks, described}
 use Rattle.part.specs.declared.Area.the-variants.{CodeFlash}
 use Rattle.part.specs.declared.Part.{Part}
 use Rattle.words.proofs.Laws.{and-both, and-left, and-right}
@@ -36,6 +36,11 @@ unfolding goodOptions released
 released-good p o d g =
     let b : eqb (o .boot) 0x03 ≡ true = and-left _ _ (and-right (fixedBits p (o .flags)) _ g) in
     and-both (fresh-bits p) (and-both b (and-both (le-leb 0 (lastBlock p) (omega arith)) (lt-ltb _ _ (last-block p d))))
+
+-- No name of a part is looked at.
+pub options-bare : (p : Part) (o : Options) → goodOptions (bare p) o ≡ goodOptions p o
+unfolding goodOptions fixedBits
+options-bare p o = rw (blocks-bare p CodeFlash)
 
 -- The options as bytes, one by one, and how many A1h says.
 pub option-bytes : (o : Options) → optionBytes o ≡ o .flags ∷ o .boot ∷ o .start % 256 ∷ o .start / 256 % 256 ∷ o .end % 256 ∷ o .end / 256 % 256 ∷ []

@@ -1,6 +1,7 @@
 -- Laws of the chip's refusals, over plain variables: what an accepted call gives, and that one byte more, where the frame begun still lacks some, is accepted too.
 -- Assumes nothing.
 use mathlib.Core.Bool.{Bool, false, not, true}
+use mathlib.Core.List.{[], _∷_}
 use mathlib.Core.Path.{_∙_, _≡_, ap, refl, sym}
 use Prim.Native.Nat.{_%_, _+_, _-_, _<_, _≤_, suc, ℕ}
 use native.Mathlib.Decide.{decLt}
@@ -11,7 +12,8 @@ use lib.Dec.{eqb, ltb}
 use lib.ListN.{getD, length}
 use borrow.Author.Tests.{eq-eqb, eqb-true, le-ltb, lt-ltb, ltb-false, ltb-true, ne-eqb, not-false, not-true}
 use Rattle.chip_core.specs.declared.Core.{Core}
-use Rattle.chip_state.specs.Refusals.{goodBegun, goodCollected, goodState, verdictOf}
+use Rattle.chip_options.proofs.Laws.{options-bare}
+use Rattle.chip_state.specs.Refusals.{goodAwaited, goodBegun, goodCollected, goodCore, goodPhase, goodPlaces, goodState, verdictOf}
 use Rattle.chip_state.specs.declared.Handed.{Handed}
 use Rattle.frame.proofs.Laws.Frame.{full-not, full-short}
 use Rattle.frame.specs.Frame.{complete, counted, full, headerByte}
@@ -21,13 +23,19 @@ use Rattle.chip_core.specs.Hearing.{hearing}
 use Rattle.chip_core.specs.declared.Hearing.{Hearing}
 use Rattle.chip_core.specs.declared.Hearing.the-variants.{HearsCommands, HearsData, HearsNothing}
 use Rattle.chip_core.specs.declared.Awaited.{Awaited}
+use Rattle.chip_core.specs.declared.Phase.{Phase}
+use Rattle.chip_core.specs.declared.Phase.the-variants.{Awaiting, ModeByte, Ready, Setup}
 use Rattle.frame.proofs.Laws.Collector.{complete-within}
 use Rattle.frame.specs.Collector.{heard}
 use Rattle.frame.specs.declared.collector.Collector.{Collector}
-use Rattle.part.proofs.Laws.{none-held, passed, passes}
-use Rattle.part.specs.Part.{described, size}
+use Rattle.part.proofs.Laws.{block-size-bare, described-bare, first-on, none-held, passed, passes, place-bare, size-bare}
+use Rattle.part.specs.Part.{bare, described, placeOf, size}
+use Rattle.part.specs.Refusal.{_when_, firstOf}
 use Rattle.part.specs.declared.Area.the-variants.{CodeFlash, DataFlash}
 use Rattle.part.specs.declared.Part.{Part}
+use Rattle.part.specs.declared.Place.{Place}
+use Rattle.part.specs.declared.Place.the-variants.{In, Outside}
+use Rattle.part.specs.declared.refusal.Refusal.the-variants.{BadState, ShortRoom}
 use Rattle.part.specs.declared.refusal.Verdict.the-variants.{Accepted}
 use Rattle.words.proofs.Laws.{and-both, and-left, and-right, or-right}
 use Rattle.words.specs.Words.{_and_, _or_}
@@ -79,6 +87,35 @@ accepted {p} {k} {h} a =
     passes _ _ (ap not (a .part))
     (passes _ _ (ap not (eq-eqb _ _ (a .codeLong)))
     (passes _ _ (ap not (eq-eqb _ _ (a .dataLong))) (passes _ _ (ap not (a .state)) (passes _ _ (le-ltb (h .room) 32 (a .roomy)) none-held))))
+
+-- Where part and lengths bar nothing, state and room are left to decide.
+pub verdict-left : (p : Part) (k : Core) (h : Handed) → described p ≡ true → h .code ≡ size p CodeFlash → h .«data» ≡ size p DataFlash
+    → verdictOf p k h ≡ firstOf (BadState when not (goodState p k (h .count) (h .head) (h .len)) ∷ ShortRoom when ltb (h .room) 32 ∷ [])
+unfolding verdictOf
+verdict-left p k h d c e = first-on _ _ _ (ap not d) ∙ first-on _ _ _ (ap not (eq-eqb _ _ c)) ∙ first-on _ _ _ (ap not (eq-eqb _ _ e))
+
+-- No name of a part is looked at: the verdict on a part without its names is the part's.
+places-bare : (p : Part) (x y : Place) → goodPlaces (bare p) x y ≡ goodPlaces p x y
+unfolding goodPlaces
+places-bare p Outside Outside = refl
+places-bare p Outside (In a x i g) = refl
+places-bare p (In a x i g) Outside = refl
+places-bare p (In a x i g) (In b y j h) = rw (block-size-bare p b)
+
+phase-bare : (p : Part) (f : Phase) → goodPhase (bare p) f ≡ goodPhase p f
+unfolding goodPhase goodAwaited
+phase-bare p ModeByte = refl
+phase-bare p Setup = refl
+phase-bare p Ready = refl
+phase-bare p (Awaiting w) = rw (place-bare p (w .next), place-bare p (w .last), places-bare p (placeOf p (w .next)) (placeOf p (w .last)))
+
+pub state-bare : (p : Part) (k : Core) (count head len : ℕ) → goodState (bare p) k count head len ≡ goodState p k count head len
+unfolding goodState goodCore
+state-bare p k count head len = rw (options-bare p (k .options), phase-bare p (k .phase))
+
+pub verdict-bare : (p : Part) (k : Core) (h : Handed) → verdictOf (bare p) k h ≡ verdictOf p k h
+unfolding verdictOf
+verdict-bare p k h = rw (described-bare p, size-bare p CodeFlash, size-bare p DataFlash, state-bare p k (h .count) (h .head) (h .len))
 
 -- What is collected in a good state: fewer bytes than the frame begun needs.
 pub record Begun (c : Collector) : Type 0 where

@@ -171,7 +171,8 @@ fn is_good_core(part: Part, core: Core) -> bool
     false
 }
 
-fn is_good_state(part: Part, core: Core, count: usize, head: u8, len: u8) -> bool
+// Whether a state is one that the chip accepts: what is collected, then the record.
+pub fn is_good_state(part: Part, core: Core, count: usize, head: u8, len: u8) -> bool
     ensures { λ r. ⌜ r ≡ goodState part core count head len ⌝ }
 {
     let phase = core.phase;
