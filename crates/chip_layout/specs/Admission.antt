@@ -6,7 +6,7 @@ use lib.Dec.{eqb}
 use Rattle.chip_state.specs.Refusals.{verdictOn}
 use Rattle.chip_layout.specs.Layout.{chipIn, isState}
 use Rattle.part.specs.Part.{described, size}
-use Rattle.part.specs.Refusal.{_when_, firstOf}
+use Rattle.part.specs.Refusal.{_when_, firstOf, number}
 use Rattle.part.specs.declared.Area.the-variants.{CodeFlash, DataFlash}
 use Rattle.part.specs.declared.Part.{Part}
 use Rattle.part.specs.declared.refusal.Refusal.the-variants.{BadPart, BadState, CodeLength, DataLength}
@@ -31,3 +31,8 @@ chipAcceptanceBy Accepted p state code «data» room = verdictOn p (chipIn state
 
 unfoldable pub chipAcceptance : Part → List ℕ → ℕ → ℕ → ℕ → Verdict
 chipAcceptance p state code «data» room = chipAcceptanceBy (chipAdmission p state code «data») p state code «data» room
+
+-- A verdict as the number that the call answers: 0 where it is not refused.
+unfoldable pub acceptanceNumber : Verdict → ℕ
+acceptanceNumber (Verdict.Refused r) = number r
+acceptanceNumber Accepted = 0

@@ -7,6 +7,8 @@ use Rattle.chip_layout.proofs.admission.chip_admission.Reads as admission-chip-
 use Rattle.chip_layout.proofs.admission.chip_admission.Kinds as admission-chip-admission-kinds
 use Rattle.chip_layout.proofs.admission.chip_acceptance.Reads as admission-chip-acceptance
 use Rattle.chip_layout.proofs.admission.chip_acceptance.Kinds as admission-chip-acceptance-kinds
+use Rattle.chip_layout.proofs.admission.judge.Reads as admission-judge
+use Rattle.chip_layout.proofs.admission.judge.Kinds as admission-judge-kinds
 use Rattle.chip_layout.proofs.chip_in.Reads as chip-in
 use Rattle.chip_layout.proofs.chip_in.Kinds as chip-in-kinds
 use Rattle.chip_layout.proofs.lay_chip.Reads as lay-chip
@@ -17,6 +19,9 @@ admission-chip-admission-once κs a r s x y p q = p ∙ sym q
 
 pub admission-chip-acceptance-once : Once admission-chip-acceptance-kinds.ps admission-chip-acceptance-kinds.r admission-chip-acceptance.Post (λ κs r x. r)
 admission-chip-acceptance-once κs a r s x y p q = p ∙ sym q
+
+pub admission-judge-once : Once admission-judge-kinds.ps admission-judge-kinds.r admission-judge.Post (λ κs r x. r)
+admission-judge-once κs a r s x y p q = p ∙ sym q
 
 pub chip-in-once : Once chip-in-kinds.ps chip-in-kinds.r chip-in.Post (λ κs r x. r)
 chip-in-once κs a r s x y p q = p ∙ sym q
