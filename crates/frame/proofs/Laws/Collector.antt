@@ -8,11 +8,11 @@ use native.Mathlib.Decide.{decLe, decLt}
 use native.Mathlib.Numerals.{add-one}
 use native.Mathlib.Omega.{arith}
 use lib.Dec.{eqb}
-use lib.ListN.{List·getD-append, drop, getD, length, length-append, length-drop, take, take-append-drop}
+use lib.ListN.{List·getD-append, drop, getD, length, length-append, length-drop, set, take, take-append-drop}
 use lib.Seq.{append-snoc, drop-append-add, drop-drop, getD-take, length-take-le, set-split, take-all, take-append-seam}
 use borrow.Author.Tests.{eq-eqb, le-leb, lt-leb, ne-eqb}
 use Rattle.frame.proofs.Laws.Frame.{full-not, full-short, full-yes}
-use Rattle.frame.specs.Collector.{Adding, addOf, added, adding, byteOf, dropped, hear, heard, holding}
+use Rattle.frame.specs.Collector.{Adding, addOf, added, adding, byteOf, collecting, dropped, hear, heard, holding}
 use Rattle.frame.specs.Frame.{complete, counted, full, headerByte}
 use Rattle.frame.specs.declared.Header.{Header}
 use Rattle.frame.specs.declared.collector.Collector.{Collector}
@@ -216,6 +216,15 @@ add-short c s l a e f g =
     let h : length (c .bytes) < c .len + length s = put-refused (c .bytes) (c .len) s l (ap (λ (x : Room). left x l) (sym f) ∙ e) in
     let x : l ≡ c .bytes = ap (λ (y : Left). y .bytes) (e ∙ sym (put-short (c .bytes) (c .len) s h)) in
     ap {B = Collector} (λ (y : List ℕ). record { bytes = y; len = c .len }) x ∙ added-long c s (omega arith)
+
+-- In bytes and count: one byte stands at the count, or the count is 0.
+pub added-leaves : (c : Collector) (b : ℕ) → length (c .bytes) ≡ 260 → c .len < 260 → added c (b ∷ []) ≡ collecting (set (c .bytes) (c .len) b) (c .len + 1)
+unfolding stored
+added-leaves c b l h = sym (add-laid c b l h)
+
+pub dropped-leaves : (c : Collector) → dropped c ≡ collecting (c .bytes) 0
+unfolding dropped holding
+dropped-leaves c = refl
 
 -- The lent array holds the new collector's bytes.
 pub adds : (c d : Collector) (b : ℕ) → d ≡ added c (b ∷ []) → adding d (d .bytes) ≡ addOf c b

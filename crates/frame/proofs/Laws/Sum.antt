@@ -54,6 +54,10 @@ pub data Below (m : ℕ) : List ℕ → Type 0 where
   none : Below m []
   more : {b : ℕ} {bs : List ℕ} → b < m → Below m bs → Below m (b ∷ bs)
 
+pub below-each : {m : ℕ} (bs : List ℕ) → ((i : ℕ) → getD bs i 0 < m) → Below m bs
+below-each [] h = none
+below-each (b ∷ bs) h = more (h 0) (below-each bs (λ i. h (suc i)))
+
 pub below-take : (m n : ℕ) {bs : List ℕ} → Below m bs → Below m (take n bs)
 below-take m zero b = none
 below-take m (suc n) none = none
