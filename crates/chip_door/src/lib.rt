@@ -1,6 +1,9 @@
 // The calls for C and Rust. Each takes a part as 19 bytes and a chip's state as 293 lent bytes, and answers a refusal number, 0 where it was not refused; what
 // else it tells goes into lent numbers. Document 01, "Refusal numbers".
 ghost use mathlib.Core.Path.{_≡_};
+ghost use Prim.Native.Nat.{_<_, ℕ};
+ghost use lib.ListN.{getD, length};
+ghost use Rattle.chip_layout.specs.Layout.{stateSize};
 ghost use Rattle.chip.specs.declared.Event.the-variants.{Byte, Gap, PowerOn};
 ghost use Rattle.chip_core.specs.Effect.{flash};
 ghost use Rattle.part_layout.specs.Layout.{partIn};
@@ -9,6 +12,7 @@ use chip::Answer;
 use chip::Event;
 use chip::events;
 use chip_layout::admission;
+use chip_layout::in_place;
 use part::refusal::Verdict;
 
 fn bytes_told(answer: Answer) -> usize
@@ -90,7 +94,16 @@ fn step(
     }
 }
 
-// A byte comes. The reply, if one is made, lies at the start of the room: told are its bytes and its frames.
+// What a state's bytes are known to be: of a lent array the language does not say it, of a slice it does.
+fn are_bytes(state: &[u8])
+    requires { ⌜ length (now state) ≡ stateSize ⌝ }
+    ensures { λ r. ⌜ ((i : ℕ) → getD (now (state .entry)) i 0 < 256) ⌝ }
+{
+    let b = state[0];
+}
+
+// A byte comes. The reply, if one is made, lies at the start of the room: told are its bytes and its frames. One that is only added to what is collected is written
+// where the state lies.
 #[no_mangle]
 pub extern "C" fn zc_byte(
     part: &[u8; 19],
@@ -105,10 +118,21 @@ pub extern "C" fn zc_byte(
         ≡ steppedThrough (partIn (now (part .entry))) (Byte b) (now (told .entry)) (now (state .entry))
         (flash (now (code .entry)) (now («data» .entry))) (now (room .entry)) ⌝ }
 {
+    if in_place::is_added(state) {
+        are_bytes(state);
+        let p = part_layout::bare_in(part);
+        let refused = admission::judge(p, state, code.len(), data.len(), room.len());
+        if refused != 0 {
+            return refused;
+        }
+        in_place::add_byte(state, b);
+        *told = [0, 0];
+        return 0;
+    }
     step(part, state, Event::Byte(b), code, data, room, told)
 }
 
-// A gap comes.
+// A gap comes: only the count of what is collected is new, and it is written where the state lies.
 #[no_mangle]
 pub extern "C" fn zc_gap(
     part: &[u8; 19],
@@ -122,7 +146,15 @@ pub extern "C" fn zc_gap(
         ≡ steppedThrough (partIn (now (part .entry))) Gap (now (told .entry)) (now (state .entry))
         (flash (now (code .entry)) (now («data» .entry))) (now (room .entry)) ⌝ }
 {
-    step(part, state, Event::Gap, code, data, room, told)
+    are_bytes(state);
+    let p = part_layout::bare_in(part);
+    let refused = admission::judge(p, state, code.len(), data.len(), room.len());
+    if refused != 0 {
+        return refused;
+    }
+    in_place::lay_count(state, 0);
+    *told = [0, 0];
+    0
 }
 
 // Power-on.

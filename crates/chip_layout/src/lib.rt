@@ -1,4 +1,5 @@
-// How a chip's state crosses the door as bytes: one layout, read and written here alone. What bars a call on such bytes stands in `admission`.
+// How a chip's state crosses the door as bytes: one layout, read and written here alone. What bars a call on such bytes stands in `admission`,
+// and what is written without reading the whole state in `in_place`.
 ghost use mathlib.Core.Path.{_≡_};
 ghost use Prim.Native.Nat.{_+_, _≤_};
 ghost use lib.ListN.{drop, length, take};
@@ -14,6 +15,7 @@ use chip_state::Chip;
 use frame::collector::Collector;
 
 pub mod admission;
+pub mod in_place;
 
 // The bytes of a state are known to be there: they are read without a test for each.
 fn number4(bytes: &[u8], at: usize) -> u32
