@@ -1,0 +1,65 @@
+/* What the C examples that rehearse a job have in common: a chip of the replay's part (document 01, "Replay") with its flash and reply room, and a dock with its
+ * job. A program says START and END, the range of the job, before it takes this file. */
+#include <stdio.h>
+#include <stdlib.h>
+#include <string.h>
+
+#include "../include/door.h"
+
+static const uint8_t names[ZC_NAMES] = {0x10, 0x00, 0x06, 'R', '5', 'F', '1', '0', '0', 'L', 'E', ' ', ' ', 1, 2, 3};
+
+static uint8_t part[ZC_PART], state[ZC_STATE], code[1024 * 16], data[1024 * 4], room[ZC_ROOM];
+static uint8_t job[ZC_JOB], dock[ZC_DOCK], image[END + 1 - START], frame[ZC_FRAME_ROOM];
+/* Even a damaged line makes no more than 52 frames of 5 bytes out of one of 260, and no answer to one is longer than 31 bytes. */
+static uint8_t answer[52 * ZC_ANSWER];
+
+/* What every call of the chip and of the dock begins with, and what the chip's events end with. */
+#define CHIP part, state
+#define FLASH code, sizeof code, data, sizeof data, room, sizeof room
+#define DOCK part, job, image, sizeof image, dock
+
+static void must(const char *call, uint32_t refusal) {
+    if (refusal == 0) return;
+    printf("%s: refused, %u\n", call, (unsigned)refusal);
+    exit(1);
+}
+
+/* The bytes reach the chip. What it says is gathered in `answer`; its length is handed back. */
+static size_t hear(const uint8_t *heard, size_t length) {
+    size_t said = 0;
+    while (length > 0) {
+        uint64_t told[3];
+        must("zc_feed", zc_feed(CHIP, heard, length, FLASH, told));
+        uint64_t taken = told[0], bytes = told[1];
+        memcpy(answer + said, room, bytes);
+        said += bytes;
+        heard += taken;
+        length -= taken;
+    }
+    return said;
+}
+
+/* A fresh chip is taken up with the flash as it is, and hears its mode byte; the dock stands before its first frame. The job is at 115,200 baud and 3.3 V, with
+ * up to three retries. */
+static void take_up(void) {
+    static const uint8_t mode_byte = 0x3A;
+    zc_part(part, 16, 4, 32, names);
+    zc_job(job, START, END, 0, 33, 3);
+    must("zc_fresh", zc_fresh(CHIP));
+    must("zc_start", zc_start(DOCK));
+    hear(&mode_byte, 1);
+}
+
+static inline void print_bytes(const uint8_t *bytes, size_t length, size_t most) {
+    for (size_t at = 0; at < length && at < most; at++) printf(at == 0 ? "%02X" : " %02X", bytes[at]);
+    if (length > most) printf(" ..");
+}
+
+/* How the job ended, and whether flash holds the image; the status of the program. */
+static int print_end(const uint64_t told[3]) {
+    static const char *const why[] = {"", " by status", " by mismatch", ", unreadable", " by timeout"};
+    printf("%s%s, %u frames, %u retries\n", told[0] == ZC_FINISHED ? "finished" : "failed", why[zc_dock_cause(dock)], (unsigned)told[1], (unsigned)told[2]);
+    int holds = memcmp(code + START, image, sizeof image) == 0;
+    printf("%05Xh to %05Xh %s the image\n", START, END, holds ? "holds" : "does not hold");
+    return told[0] == ZC_FINISHED && holds ? 0 : 1;
+}
