@@ -1,5 +1,5 @@
-/* What the C examples that rehearse a job have in common: a chip of the replay's part (document 01, "Replay") with its flash and reply room, and a dock with its
- * job. A program says START and END, the range of the job, before it takes this file. */
+/* What the C examples that rehearse a job have in common: a chip of the replay's part (document 01, "Replay") with its flash, sums and reply room, and a dock
+ * with its job. A program says START and END, the range of the job, before it takes this file. */
 #include <stdio.h>
 #include <stdlib.h>
 #include <string.h>
@@ -9,13 +9,14 @@
 static const uint8_t names[ZC_NAMES] = {0x10, 0x00, 0x06, 'R', '5', 'F', '1', '0', '0', 'L', 'E', ' ', ' ', 1, 2, 3};
 
 static uint8_t part[ZC_PART], state[ZC_STATE], code[1024 * 16], data[1024 * 4], room[ZC_ROOM];
+static uint16_t sums[ZC_SUMS];
 static uint8_t job[ZC_JOB], dock[ZC_DOCK], image[END + 1 - START], frame[ZC_FRAME_ROOM];
 /* Even a damaged line makes no more than 52 frames of 5 bytes out of one of 260, and no answer to one is longer than 31 bytes. */
 static uint8_t answer[52 * ZC_ANSWER];
 
 /* What every call of the chip and of the dock begins with, and what the chip's events end with. */
 #define CHIP part, state
-#define FLASH code, sizeof code, data, sizeof data, room, sizeof room
+#define FLASH code, sizeof code, data, sizeof data, sums, room, sizeof room
 #define DOCK part, job, image, sizeof image, dock
 
 static void must(const char *call, uint32_t refusal) {
@@ -40,12 +41,13 @@ static size_t hear(const uint8_t *heard, size_t length) {
 }
 
 /* A fresh chip is taken up with the flash as it is, and hears its mode byte; the dock stands before its first frame. The job is at 115,200 baud and 3.3 V, with
- * up to three retries. */
+ * up to three retries. The flash need not be blank, so the sums are worked out from it. */
 static void take_up(void) {
     static const uint8_t mode_byte = 0x3A;
     zc_part(part, 16, 4, 32, names);
     zc_job(job, START, END, 0, 33, 3);
     must("zc_fresh", zc_fresh(CHIP));
+    must("zc_sums", zc_sums(part, code, sizeof code, data, sizeof data, sums));
     must("zc_start", zc_start(DOCK));
     hear(&mode_byte, 1);
 }

@@ -1,34 +1,40 @@
-//! What the Rust examples that rehearse a job have in common: a chip of the replay's part (document 01, "Replay") with its flash and reply room, and how a job
-//! ended.
+//! What the Rust examples that rehearse a job have in common: a chip of the replay's part (document 01, "Replay") with its flash, sums and reply room, and how
+//! a job ended.
 
 #[path = "../include/door.rs"]
 pub mod door;
 
-use door::{Part, Report, DOCK, ROOM, STATE};
+use door::{Part, Report, DOCK, ROOM, STATE, SUMS};
 
 const NAMES: &[u8; door::NAMES] = b"\x10\x00\x06R5F100LE  \x01\x02\x03";
 const MODE_BYTE: u8 = 0x3A;
 
-/// A chip's part and state, with its flash and reply room.
+/// A chip's part and state, with its flash, sums and reply room.
 pub struct Chip {
     pub part: Part,
     state: [u8; STATE],
     pub code: Vec<u8>,
     pub data: Vec<u8>,
+    pub sums: [u16; SUMS],
     room: [u8; ROOM],
 }
 
 impl Chip {
-    /// A fresh chip is taken up with this flash, and hears its mode byte.
+    /// A fresh chip is taken up with this flash, which need not be blank, and hears its mode byte.
     pub fn taken_up(code: Vec<u8>, data: Vec<u8>) -> Chip {
         let mut chip = Chip {
             part: door::part(16, 4, 32, NAMES),
             state: [0; STATE],
             code,
             data,
+            sums: [0; SUMS],
             room: [0; ROOM],
         };
         must("zc_fresh", door::fresh(&chip.part, &mut chip.state));
+        must(
+            "zc_sums",
+            door::sums(&chip.part, &chip.code, &chip.data, &mut chip.sums),
+        );
         chip.hear(&[MODE_BYTE]);
         chip
     }
@@ -43,6 +49,7 @@ impl Chip {
                 bytes,
                 &mut self.code,
                 &mut self.data,
+                &mut self.sums,
                 &mut self.room,
             );
             must("zc_feed", told.refusal);
@@ -58,6 +65,7 @@ impl Chip {
             &mut self.state,
             &mut self.code,
             &mut self.data,
+            &mut self.sums,
             &mut self.room,
         );
         must("zc_gap", told.refusal);

@@ -12,6 +12,7 @@ static const uint8_t names[ZC_NAMES] = {0x10, 0x00, 0x06, 'R', '5', 'F', '1', '0
 static const uint8_t heard[] = {0x3A, 0x01, 0x03, 0x9A, 0x00, 0x21, 0x42, 0x03, 0x01, 0x01, 0xA1, 0x5E, 0x03};
 
 static uint8_t part[ZC_PART], state[ZC_STATE], code[1024 * CODE_BLOCKS], data[1024 * DATA_BLOCKS], room[ZC_ROOM];
+static uint16_t sums[ZC_SUMS];
 
 /* Reply frames lie end to end; a frame has LEN + 4 bytes, and LEN 00h is 256. */
 static size_t print_frames(const uint8_t *reply, size_t bytes) {
@@ -29,9 +30,10 @@ int main(void) {
     memset(data, 0xFF, sizeof data);
     zc_part(part, CODE_BLOCKS, DATA_BLOCKS, CLOCK, names);
     uint32_t refused = zc_fresh(part, state);
+    if (refused == 0) refused = zc_sums(part, code, sizeof code, data, sizeof data, sums);
     while (refused == 0 && at < sizeof heard) {
         uint64_t told[3];
-        refused = zc_feed(part, state, heard + at, sizeof heard - at, code, sizeof code, data, sizeof data, room, sizeof room, told);
+        refused = zc_feed(part, state, heard + at, sizeof heard - at, code, sizeof code, data, sizeof data, sums, room, sizeof room, told);
         if (refused != 0) break;
         at += told[0];
         if (print_frames(room, told[1]) != told[2]) return 2;

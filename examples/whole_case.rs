@@ -3,7 +3,7 @@
 #[path = "../include/door.rs"]
 mod door;
 
-use door::{fresh, replay, BAD_RECORD, OUTPUT, ROOM, STATE};
+use door::{fresh, replay, sums, BAD_RECORD, OUTPUT, ROOM, STATE, SUMS};
 
 const NAMES: &[u8; door::NAMES] = b"\x10\x00\x06R5F100LE  \x01\x02\x03";
 
@@ -18,7 +18,13 @@ fn main() {
     let part = door::part(16, 4, 32, NAMES);
     let mut state = [0; STATE];
     let (mut code, mut data, mut room) = ([0xFF; 16 * 1024], [0xFF; 4 * 1024], [0; ROOM]);
+    let mut kept = [0; SUMS];
     assert_eq!(fresh(&part, &mut state), 0, "the part is described");
+    assert_eq!(
+        sums(&part, &code, &data, &mut kept),
+        0,
+        "its flash is as long as it says"
+    );
 
     // Output enough for the replies to all records.
     let mut output = [0; OUTPUT * (WHOLE_CASE.len() / 8 + 1)];
@@ -28,6 +34,7 @@ fn main() {
         &WHOLE_CASE,
         &mut code,
         &mut data,
+        &mut kept,
         &mut room,
         &mut output,
     );

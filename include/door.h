@@ -1,7 +1,7 @@
-/* The proved chip and the proved dock for programs in C: document 01's software chip behind six calls, and its dock behind five.
+/* The proved chip and the proved dock for programs in C: document 01's software chip behind seven calls, and its dock behind five.
  *
- * Every call is total: no argument makes it undefined, as long as each pointer points to as many bytes as its array or the length after it says, nothing that is
- * lent to be changed overlaps anything else, and no pointer is null but that of a slice of length 0. What a call does is proved equal to a definition
+ * Every call is total: no argument makes it undefined, as long as each pointer points to as many bytes or numbers as its array or the length after it says, nothing
+ * that is lent to be changed overlaps anything else, and no pointer is null but that of a slice of length 0. What a call does is proved equal to a definition
  * (crates/chip_door/specs, crates/replay_door/specs and crates/dock_door/specs); nothing checks this header against the source, so it is kept to numbers and
  * bytes.
  *
@@ -22,8 +22,18 @@
  *     20 why the job failed (ZC_BY_..)   21 the command of the frame that failed   22 the status named
  * Stages 4 to 9 name their block, 7 and 9 their page, and 11 what the failure names; whatever is not named is 0. Numbers are low byte first.
  *
+ * A chip's sums are ZC_SUMS numbers, which the caller keeps beside its state and lends to every event (document 02, section 1): for each block what B0h says of
+ * it, 0000h less each of its 1,024 bytes, in 16 bits; a blank block has 0400h. A bench screen reads them after each frame. They are numbers as the machine holds
+ * them, not bytes:
+ *     0-63 the code blocks, block b in slot b   64-71 the data blocks, block b in slot ZC_DATA_SUMS + b
+ * zc_sums works them out from flash. Call it when a chip is taken up, after zc_fresh as well as with a state and flash that were kept: until then they are
+ * whatever the caller put there. From then on they stay right, as long as nothing but the calls changes flash: an erase and a stored page work the sum of their
+ * block out afresh, and nothing else writes a sum. The slots of blocks that the part has not are never written.
+ * Wrong sums are no fault of a call: none judges them, and none is refused for them. B0h over one block says the number that is kept, right or wrong; over more
+ * blocks it adds up the bytes of flash. A wrong sum stays until its block is erased, a page of it is stored, or zc_sums is called.
+ *
  * Each call answers 0, or the number of document 01's refusal, for the chip in the order 1, 2, 3, 9, 4, for the dock 1, 5, 6, 7, 9, 4, 8. After a refusal nothing
- * that was lent has changed, the numbers told included. zc_replay can also end with ZC_BAD_RECORD or ZC_OUTPUT_FULL, which are no refusals.
+ * that was lent has changed, the sums and the numbers told included. zc_replay can also end with ZC_BAD_RECORD or ZC_OUTPUT_FULL, which are no refusals.
  */
 #ifndef ZC_DOOR_H
 #define ZC_DOOR_H
@@ -35,6 +45,8 @@
 #define ZC_NAMES 16
 #define ZC_JOB 11
 #define ZC_STATE 293
+#define ZC_SUMS 72
+#define ZC_DATA_SUMS 64 /* the slot of data block 0 */
 #define ZC_DOCK 23
 #define ZC_ROOM 32 /* the least reply room */
 #define ZC_FRAME_ROOM 260 /* the least frame room */
@@ -90,26 +102,31 @@
 extern "C" {
 #endif
 
-/* A fresh chip of the part: at the mode byte, fresh options, nothing collected. The flash is the caller's to set to FFh. Refusal: 1. */
+/* A fresh chip of the part: at the mode byte, fresh options, nothing collected. The flash is the caller's to set to FFh; then zc_sums works out its sums.
+ * Refusal: 1. */
 uint32_t zc_fresh(const uint8_t part[ZC_PART], uint8_t state[ZC_STATE]);
+
+/* The sums of all blocks of the part, worked out from flash; the other slots stay. Refusals: 1, 2, 3. */
+uint32_t zc_sums(const uint8_t part[ZC_PART], const uint8_t *code, uint64_t code_len, const uint8_t *data, uint64_t data_len, uint16_t sums[ZC_SUMS]);
 
 /* One event. A reply lies at the start of the room: told[0] bytes, which are told[1] frames; the room past them stays. */
 uint32_t zc_byte(const uint8_t part[ZC_PART], uint8_t state[ZC_STATE], uint8_t byte, uint8_t *code, uint64_t code_len, uint8_t *data, uint64_t data_len,
-                 uint8_t *room, uint64_t room_len, uint64_t told[2]);
-uint32_t zc_gap(const uint8_t part[ZC_PART], uint8_t state[ZC_STATE], uint8_t *code, uint64_t code_len, uint8_t *data, uint64_t data_len, uint8_t *room,
-                uint64_t room_len, uint64_t told[2]);
-uint32_t zc_power_on(const uint8_t part[ZC_PART], uint8_t state[ZC_STATE], uint8_t *code, uint64_t code_len, uint8_t *data, uint64_t data_len, uint8_t *room,
-                     uint64_t room_len, uint64_t told[2]);
+                 uint16_t sums[ZC_SUMS], uint8_t *room, uint64_t room_len, uint64_t told[2]);
+uint32_t zc_gap(const uint8_t part[ZC_PART], uint8_t state[ZC_STATE], uint8_t *code, uint64_t code_len, uint8_t *data, uint64_t data_len,
+                uint16_t sums[ZC_SUMS], uint8_t *room, uint64_t room_len, uint64_t told[2]);
+uint32_t zc_power_on(const uint8_t part[ZC_PART], uint8_t state[ZC_STATE], uint8_t *code, uint64_t code_len, uint8_t *data, uint64_t data_len,
+                     uint16_t sums[ZC_SUMS], uint8_t *room, uint64_t room_len, uint64_t told[2]);
 
 /* Bytes one after the other, each as zc_byte would take it, up to the first that is answered; told[0] of them were taken, and told[1] and told[2] are the
  * reply's bytes and frames. Hand in the rest again. It is refused as zc_byte would be, also where there is no byte. */
 uint32_t zc_feed(const uint8_t part[ZC_PART], uint8_t state[ZC_STATE], const uint8_t *fed, uint64_t fed_len, uint8_t *code, uint64_t code_len, uint8_t *data,
-                 uint64_t data_len, uint8_t *room, uint64_t room_len, uint64_t told[3]);
+                 uint64_t data_len, uint16_t sums[ZC_SUMS], uint8_t *room, uint64_t room_len, uint64_t told[3]);
 
 /* Capture records (8 bytes each) one after the other. told[0] records were played; their replies, told[1] bytes and told[2] frames, lie end to end in the output.
  * It is refused before any record, as zc_gap would be, also where there is none. An empty capture needs no output. */
 uint32_t zc_replay(const uint8_t part[ZC_PART], uint8_t state[ZC_STATE], const uint8_t *capture, uint64_t capture_len, uint8_t *code, uint64_t code_len,
-                   uint8_t *data, uint64_t data_len, uint8_t *room, uint64_t room_len, uint8_t *output, uint64_t output_len, uint64_t told[3]);
+                   uint8_t *data, uint64_t data_len, uint16_t sums[ZC_SUMS], uint8_t *room, uint64_t room_len, uint8_t *output, uint64_t output_len,
+                   uint64_t told[3]);
 
 /* A dock before its first frame. The chip that it is for has its mode byte. Refusals: 1, 5, 6, 7. */
 uint32_t zc_start(const uint8_t part[ZC_PART], const uint8_t job[ZC_JOB], const uint8_t *image, uint64_t image_len, uint8_t dock[ZC_DOCK]);

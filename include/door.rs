@@ -6,6 +6,8 @@ pub const PART: usize = 19;
 pub const NAMES: usize = 16;
 pub const JOB: usize = 11;
 pub const STATE: usize = 293;
+pub const SUMS: usize = 72;
+pub const DATA_SUMS: usize = 64;
 pub const DOCK: usize = 23;
 pub const ROOM: usize = 32;
 pub const FRAME_ROOM: usize = 260;
@@ -79,12 +81,27 @@ pub fn fresh(part: &Part, state: &mut [u8; STATE]) -> u32 {
 }
 
 #[inline]
+pub fn sums(part: &Part, code: &[u8], data: &[u8], sums: &mut [u16; SUMS]) -> u32 {
+    unsafe {
+        zc_sums(
+            part,
+            code.as_ptr(),
+            code.len() as u64,
+            data.as_ptr(),
+            data.len() as u64,
+            sums,
+        )
+    }
+}
+
+#[inline]
 pub fn byte(
     part: &Part,
     state: &mut [u8; STATE],
     byte: u8,
     code: &mut [u8],
     data: &mut [u8],
+    sums: &mut [u16; SUMS],
     room: &mut [u8],
 ) -> Told {
     let mut told = [UNTOLD; 2];
@@ -97,6 +114,7 @@ pub fn byte(
             code.len() as u64,
             data.as_mut_ptr(),
             data.len() as u64,
+            sums,
             room.as_mut_ptr(),
             room.len() as u64,
             &mut told,
@@ -111,6 +129,7 @@ pub fn gap(
     state: &mut [u8; STATE],
     code: &mut [u8],
     data: &mut [u8],
+    sums: &mut [u16; SUMS],
     room: &mut [u8],
 ) -> Told {
     let mut told = [UNTOLD; 2];
@@ -122,6 +141,7 @@ pub fn gap(
             code.len() as u64,
             data.as_mut_ptr(),
             data.len() as u64,
+            sums,
             room.as_mut_ptr(),
             room.len() as u64,
             &mut told,
@@ -136,6 +156,7 @@ pub fn power_on(
     state: &mut [u8; STATE],
     code: &mut [u8],
     data: &mut [u8],
+    sums: &mut [u16; SUMS],
     room: &mut [u8],
 ) -> Told {
     let mut told = [UNTOLD; 2];
@@ -147,6 +168,7 @@ pub fn power_on(
             code.len() as u64,
             data.as_mut_ptr(),
             data.len() as u64,
+            sums,
             room.as_mut_ptr(),
             room.len() as u64,
             &mut told,
@@ -163,6 +185,7 @@ pub fn feed(
     fed: &[u8],
     code: &mut [u8],
     data: &mut [u8],
+    sums: &mut [u16; SUMS],
     room: &mut [u8],
 ) -> (u64, Told) {
     let mut told = [UNTOLD; 3];
@@ -176,6 +199,7 @@ pub fn feed(
             code.len() as u64,
             data.as_mut_ptr(),
             data.len() as u64,
+            sums,
             room.as_mut_ptr(),
             room.len() as u64,
             &mut told,
@@ -192,6 +216,7 @@ pub fn replay(
     capture: &[u8],
     code: &mut [u8],
     data: &mut [u8],
+    sums: &mut [u16; SUMS],
     room: &mut [u8],
     output: &mut [u8],
 ) -> (u64, Told) {
@@ -206,6 +231,7 @@ pub fn replay(
             code.len() as u64,
             data.as_mut_ptr(),
             data.len() as u64,
+            sums,
             room.as_mut_ptr(),
             room.len() as u64,
             output.as_mut_ptr(),
@@ -320,6 +346,14 @@ fn reported(refusal: u32, [ended, frames_used, retries_used]: [u64; 3]) -> Repor
 #[link(name = "door", kind = "static")]
 extern "C" {
     fn zc_fresh(part: *const [u8; PART], state: *mut [u8; STATE]) -> u32;
+    fn zc_sums(
+        part: *const [u8; PART],
+        code: *const u8,
+        code_len: u64,
+        data: *const u8,
+        data_len: u64,
+        sums: *mut [u16; SUMS],
+    ) -> u32;
     fn zc_byte(
         part: *const [u8; PART],
         state: *mut [u8; STATE],
@@ -328,6 +362,7 @@ extern "C" {
         code_len: u64,
         data: *mut u8,
         data_len: u64,
+        sums: *mut [u16; SUMS],
         room: *mut u8,
         room_len: u64,
         told: *mut [u64; 2],
@@ -339,6 +374,7 @@ extern "C" {
         code_len: u64,
         data: *mut u8,
         data_len: u64,
+        sums: *mut [u16; SUMS],
         room: *mut u8,
         room_len: u64,
         told: *mut [u64; 2],
@@ -350,6 +386,7 @@ extern "C" {
         code_len: u64,
         data: *mut u8,
         data_len: u64,
+        sums: *mut [u16; SUMS],
         room: *mut u8,
         room_len: u64,
         told: *mut [u64; 2],
@@ -363,6 +400,7 @@ extern "C" {
         code_len: u64,
         data: *mut u8,
         data_len: u64,
+        sums: *mut [u16; SUMS],
         room: *mut u8,
         room_len: u64,
         told: *mut [u64; 3],
@@ -376,6 +414,7 @@ extern "C" {
         code_len: u64,
         data: *mut u8,
         data_len: u64,
+        sums: *mut [u16; SUMS],
         room: *mut u8,
         room_len: u64,
         output: *mut u8,

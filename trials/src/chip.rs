@@ -1,6 +1,6 @@
-//! A proved chip with its flash and reply room, and the twin's chip in the door's layout.
+//! A proved chip with its flash, kept sums and reply room, and the twin's chip in the door's layout.
 
-use crate::door::{self, Told, NAMES, OUTPUT_FULL, ROOM, STATE};
+use crate::door::{self, Told, NAMES, OUTPUT_FULL, ROOM, STATE, SUMS};
 use twin::chip::{Chip, Phase, ERASED};
 use twin::part::{Area, Part};
 
@@ -9,20 +9,24 @@ pub struct Door {
     pub state: [u8; STATE],
     pub code: Vec<u8>,
     pub data: Vec<u8>,
+    pub sums: [u16; SUMS],
     pub room: [u8; ROOM],
 }
 
 impl Door {
-    /// A fresh chip of a described part, with erased flash.
+    /// A fresh chip of a described part, with erased flash and the sums of its blocks.
     pub fn fresh(part: &Part) -> Door {
         let mut chip = Door {
             part: described(part),
             state: [0; STATE],
             code: vec![ERASED; part.size(Area::Code)],
             data: vec![ERASED; part.size(Area::Data)],
+            sums: [0; SUMS],
             room: [0; ROOM],
         };
         let told = door::fresh(&chip.part, &mut chip.state);
+        assert_eq!(told, 0);
+        let told = door::sums(&chip.part, &chip.code, &chip.data, &mut chip.sums);
         assert_eq!(told, 0);
         chip
     }
@@ -36,6 +40,7 @@ impl Door {
             byte,
             &mut self.code,
             &mut self.data,
+            &mut self.sums,
             &mut self.room,
         ))
     }
@@ -47,6 +52,7 @@ impl Door {
             &mut self.state,
             &mut self.code,
             &mut self.data,
+            &mut self.sums,
             &mut self.room,
         ));
     }
@@ -59,6 +65,7 @@ impl Door {
             fed,
             &mut self.code,
             &mut self.data,
+            &mut self.sums,
             &mut self.room,
         );
         (taken as usize, accepted(told))
@@ -72,6 +79,7 @@ impl Door {
             capture,
             &mut self.code,
             &mut self.data,
+            &mut self.sums,
             &mut self.room,
             output,
         );

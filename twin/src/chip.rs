@@ -1,9 +1,10 @@
-//! The software chip: one step over a byte, a gap or power-on (01 "The part" to "Refusal numbers").
+//! The software chip: one step over a byte, a gap or power-on (01 "The part" to "Refusal numbers"), with a sum kept for each block (02 §1).
 
 use crate::frame::{
     counted, Frame, Reply, COMMAND_HEADER, DATA_HEADER, LAST_FOOTER, LONGEST, MORE_FOOTER,
 };
 use crate::part::{Area, Part};
+use crate::sums::{slot_of, sum_of, Sums};
 
 pub const LAST_BOOT_BLOCK: u8 = 0x03;
 pub const ERASED: u8 = 0xFF;
@@ -64,7 +65,7 @@ pub enum Phase {
     },
 }
 
-/// The chip's state; flash is lent beside it.
+/// The chip's state; flash and the kept sums are lent beside it.
 #[derive(Clone, Debug, PartialEq, Eq)]
 pub struct Chip {
     pub options: Options,
@@ -106,19 +107,20 @@ impl Chip {
     }
 }
 
-/// One event for the chip. A refused call changes nothing at all.
+/// One event for the chip. A refused call changes nothing at all; wrong sums are no cause to refuse.
 pub fn step(
     part: &Part,
     chip: &mut Chip,
     event: Event,
     code: &mut [u8],
     data: &mut [u8],
+    sums: &mut Sums,
     room: &mut [u8],
 ) -> Answer {
-    if let Some(number) = refusal(part, chip, code, data, room) {
+    if let Err(number) = accept(part, chip, code, data, room) {
         return Answer::Refused(number);
     }
-    let mut flash = Flash { code, data };
+    let mut flash = Flash { code, data, sums };
     let mut reply = Reply::at_start(room);
     match event {
         Event::Byte(byte) => hear(part, chip, byte, &mut flash, &mut reply),
@@ -140,19 +142,14 @@ fn power_on(chip: &mut Chip) {
 
 // Refusals: 01 "Refusal numbers", order 1, 2, 3, 9, 4
 
-fn refusal(part: &Part, chip: &Chip, code: &[u8], data: &[u8], room: &[u8]) -> Option<u8> {
-    if !part.fits() {
-        Some(1)
-    } else if code.len() != part.size(Area::Code) {
-        Some(2)
-    } else if data.len() != part.size(Area::Data) {
-        Some(3)
-    } else if !state_fits(part, chip) {
-        Some(9)
+fn accept(part: &Part, chip: &Chip, code: &[u8], data: &[u8], room: &[u8]) -> Result<(), u8> {
+    part.takes(code, data)?;
+    if !state_fits(part, chip) {
+        Err(9)
     } else if room.len() < SMALLEST_ROOM {
-        Some(4)
+        Err(4)
     } else {
-        None
+        Ok(())
     }
 }
 
@@ -218,9 +215,11 @@ struct Range {
     end: usize,
 }
 
+/// Flash as it is lent, and the sums kept of its blocks.
 struct Flash<'a> {
     code: &'a mut [u8],
     data: &'a mut [u8],
+    sums: &'a mut Sums,
 }
 
 impl Flash<'_> {
@@ -240,6 +239,28 @@ impl Flash<'_> {
 
     fn is_blank(&self) -> bool {
         all_erased(self.code) && all_erased(self.data)
+    }
+
+    /// The block at this offset was touched: its sum is worked out afresh, and no other (02 §1).
+    fn keep_sum(&mut self, part: &Part, area: Area, offset: usize) {
+        let size = part.block_size(area);
+        let block = offset / size;
+        let touched = Range {
+            area,
+            first: block * size,
+            end: (block + 1) * size,
+        };
+        self.sums[slot_of(area, block)] = sum_of(self.bytes(touched));
+    }
+
+    /// "B0h over one block gives the kept sum, right or wrong" (02 §1); over more, the sum of the bytes.
+    fn sum(&self, part: &Part, range: Range) -> u16 {
+        let size = part.block_size(range.area);
+        if range.end - range.first == size {
+            self.sums[slot_of(range.area, range.first / size)]
+        } else {
+            sum_of(self.bytes(range))
+        }
     }
 }
 
@@ -511,6 +532,7 @@ fn work(part: &Part, chip: &mut Chip, command: Command, flash: &mut Flash, reply
         Command::Reset => reply.frame(&[ACK]),
         Command::Erase(block) => {
             flash.bytes_mut(block).fill(ERASED);
+            flash.keep_sum(part, block.area, block.first);
             reply.frame(&[ACK]);
         }
         Command::CheckBlank { range, options_too } => {
@@ -524,7 +546,7 @@ fn work(part: &Part, chip: &mut Chip, command: Command, flash: &mut Flash, reply
         }
         Command::Checksum(range) => {
             reply.frame(&[ACK]);
-            reply.frame(&block_sum(flash.bytes(range)).to_le_bytes());
+            reply.frame(&flash.sum(part, range).to_le_bytes());
         }
         Command::Signature => {
             reply.frame(&[ACK]);
@@ -549,13 +571,6 @@ fn work(part: &Part, chip: &mut Chip, command: Command, flash: &mut Flash, reply
 /// Flags and window; the last boot block has only one value.
 fn options_are_fresh(part: &Part, options: &Options) -> bool {
     options.flags == FRESH_FLAGS && options.start == 0 && options.end == last_code_block(part)
-}
-
-/// 0000h less each byte, in 16 bits (000 3.8.1).
-fn block_sum(bytes: &[u8]) -> u16 {
-    bytes
-        .iter()
-        .fold(0u16, |left, byte| left.wrapping_sub(u16::from(*byte)))
 }
 
 /// Device code, name, last code address, last data address, version (000 3.7.3).
@@ -711,8 +726,11 @@ fn hear_page(
         return;
     }
     chip.phase = pages.after_this(part);
-    if pages.command == PROGRAM && pages.on_last(part) {
-        reply.frame(&[ACK]);
+    if pages.command == PROGRAM {
+        flash.keep_sum(part, here.area, here.offset);
+        if pages.on_last(part) {
+            reply.frame(&[ACK]);
+        }
     }
 }
 

@@ -253,12 +253,7 @@ impl<D: FnMut(&Call) -> Outcome> Play<D> {
         chip.options.flags = choice.pick(&[0xFF, 0xFF, 0xFF, 0xFF, 0xFF, 0xEF, 0xFB, 0xFD]);
         let code = random_flash(choice, &part, Area::Code);
         let data = random_flash(choice, &part, Area::Data);
-        let chip = Player {
-            part,
-            chip,
-            code,
-            data,
-        };
+        let chip = Player::taken_up(part, chip, code, data);
         Line::Chip(Box::new(Far {
             chip,
             said: Vec::new(),

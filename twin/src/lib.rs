@@ -8,4 +8,5 @@ pub mod histories;
 pub mod part;
 pub mod random;
 pub mod replay;
+pub mod sums;
 pub mod transcript;

@@ -33,6 +33,19 @@ impl Part {
             && (1..=32).contains(&self.clock)
     }
 
+    /// Refusals 1, 2, 3, in this order: the description, then the lengths of the flash that is lent with it.
+    pub fn takes(&self, code: &[u8], data: &[u8]) -> Result<(), u8> {
+        if !self.fits() {
+            Err(1)
+        } else if code.len() != self.size(Area::Code) {
+            Err(2)
+        } else if data.len() != self.size(Area::Data) {
+            Err(3)
+        } else {
+            Ok(())
+        }
+    }
+
     pub fn blocks(&self, area: Area) -> usize {
         match area {
             Area::Code => self.code_blocks as usize,

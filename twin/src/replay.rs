@@ -5,6 +5,7 @@ use std::io::{self, Read, Write};
 use crate::chip::{step, Answer, Chip, Event, ERASED, SMALLEST_ROOM};
 use crate::frame::counted;
 use crate::part::{Area, Part};
+use crate::sums::{work_out, Sums, SUMS};
 
 pub const RECORD: usize = 8;
 /// The most bytes one record carries.
@@ -62,12 +63,13 @@ pub struct Reply {
     pub frames: usize,
 }
 
-/// A fresh chip with its flash.
+/// A chip with its flash and the sums kept of its blocks.
 pub struct Player {
     pub part: Part,
     pub chip: Chip,
     pub code: Vec<u8>,
     pub data: Vec<u8>,
+    pub sums: Sums,
 }
 
 impl Player {
@@ -76,11 +78,19 @@ impl Player {
         let chip = Chip::fresh(&part).expect("the replay part is inside 01's numbers");
         let code = vec![ERASED; part.size(Area::Code)];
         let data = vec![ERASED; part.size(Area::Data)];
+        Player::taken_up(part, chip, code, data)
+    }
+
+    /// A chip on flash that fits its part; the sums are worked out here, once (02 §1).
+    pub fn taken_up(part: Part, chip: Chip, code: Vec<u8>, data: Vec<u8>) -> Player {
+        let mut sums = [0; SUMS];
+        work_out(&part, &code, &data, &mut sums).expect("flash that fits its part");
         Player {
             part,
             chip,
             code,
             data,
+            sums,
         }
     }
 
@@ -92,6 +102,7 @@ impl Player {
             event,
             &mut self.code,
             &mut self.data,
+            &mut self.sums,
             &mut room,
         );
         match answer {

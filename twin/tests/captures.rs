@@ -286,6 +286,7 @@ fn random_captures_reach_every_command() {
                     chip: player.chip.clone(),
                     code: Vec::new(),
                     data: Vec::new(),
+                    sums: player.sums,
                 };
                 let reply = player.hear(event);
                 assert_eq!(split_frames(&reply.bytes).len(), reply.frames);

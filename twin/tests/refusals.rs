@@ -4,6 +4,7 @@ mod common;
 
 use common::*;
 use twin::chip::{Answer, Chip, Event, Phase};
+use twin::sums::SUMS;
 
 const EVENTS: [Event; 5] = [
     Event::Byte(0x01),
@@ -13,14 +14,16 @@ const EVENTS: [Event; 5] = [
     Event::PowerOn,
 ];
 
-/// Every event on this bench and room gets that refusal, and nothing changes.
+/// Every event on this bench and room gets that refusal, and nothing changes, a wrong sum neither.
 fn refused(bench: &Bench, room: usize, number: u8) {
+    let mut bench = bench.clone();
+    bench.sums = [0xB10C; SUMS];
     for event in EVENTS {
         let mut tried = bench.clone();
         let mut lent = vec![FILLER; room];
         let answer = tried.event_in(event, &mut lent);
         assert_eq!(answer, Answer::Refused(number), "{event:?}");
-        assert_eq!(tried, *bench);
+        assert_eq!(tried, bench);
         assert!(lent.iter().all(|byte| *byte == FILLER));
     }
 }

@@ -6,6 +6,7 @@ use twin::chip::{step, Answer, Chip, Event};
 use twin::dock::{answer, ask, start, Job, Report, SMALLEST_ROOM};
 use twin::part::Area;
 use twin::replay::{hex_line, replay_part};
+use twin::sums::{work_out, SUMS};
 
 const START: usize = 0x1800;
 const END: usize = 0x1FFF;
@@ -18,9 +19,13 @@ fn two_blocks_over_flash_that_is_not_blank() {
     let mut chip = Chip::fresh(&part).unwrap();
     let mut code = vec![0x5A; part.size(Area::Code)];
     let mut data = vec![0xFF; part.size(Area::Data)];
+    let mut sums = [0; SUMS];
+    work_out(&part, &code, &data, &mut sums).unwrap();
     let mut event = |event: Event, said: &mut Vec<u8>, code: &mut [u8]| {
         let mut room = [0; 32];
-        let told = step(&part, &mut chip, event, code, &mut data, &mut room);
+        let told = step(
+            &part, &mut chip, event, code, &mut data, &mut sums, &mut room,
+        );
         let Answer::Replied { bytes, .. } = told else {
             panic!("{told:?}");
         };

@@ -18,7 +18,7 @@ use Rattle.chip.specs.declared.Event.{Event}
 use Rattle.chip.specs.declared.Event.the-variants.{Byte}
 use Rattle.chip.specs.declared.events.Way.the-variants.{Hears}
 use Rattle.chip.specs.inner.Ways.{completesAt, wayOf, wayOn}
-use Rattle.chip_core.specs.Effect.{Flash}
+use Rattle.chip_core.specs.Effect.{Memory}
 use Rattle.chip_core.specs.Hearing.{hearing}
 use Rattle.chip_core.specs.declared.Hearing.{Hearing}
 use Rattle.chip_core.specs.declared.Hearing.the-variants.{HearsCommands, HearsData, HearsNothing}
@@ -35,9 +35,9 @@ use Rattle.part.specs.declared.refusal.Verdict.the-variants.{Accepted}
 use Rattle.words.specs.Words.{_and_, if_then_else_}
 
 -- The verdict depends on what is collected only by whether the state is good.
-abbrev pub verdictAt : Part → Chip → Flash → List ℕ → Verdict
+abbrev pub verdictAt : Part → Chip → Memory → List ℕ → Verdict
 verdictAt p c m room =
-    verdictOn p c (length (m .codeFlash)) (length (m .dataFlash)) (length room)
+    verdictOn p c (length (m .flash .codeFlash)) (length (m .flash .dataFlash)) (length room)
 
 -- A byte that is only added: the way of such a byte, in the phase that a good state is in.
 record HeardAs (f : Hearing) (c : Collector) : Type 0 where
@@ -63,7 +63,7 @@ not-last n len s = go (leb 2 n)
 abbrev pub after : Chip → ℕ → Chip
 after c b = record { core = c .core; collector = added (c .collector) (b ∷ []) }
 
-module _ (p : Part) (c : Chip) (m : Flash) (room : List ℕ) (places : length (c .collector .bytes) ≡ 260) (accepted : verdictAt p c m room ≡ Accepted)
+module _ (p : Part) (c : Chip) (m : Memory) (room : List ℕ) (places : length (c .collector .bytes) ≡ 260) (accepted : verdictAt p c m room ≡ Accepted)
     (some : 1 ≤ c .collector .len) (short : completesAt (c .collector .len) (getD (c .collector .bytes) 1 0) ≡ false) where
   heard-so : HeardAs (hearing (c .core .phase)) (c .collector)
   heard-so = heard-as (hearing (c .core .phase)) (c .collector) places some short (state-collected p (c .core) _ _ _ (hearing (c .core .phase)) (accepts accepted .state) refl)
@@ -77,11 +77,11 @@ module _ (p : Part) (c : Chip) (m : Flash) (room : List ℕ) (places : length (c
       (hears-settles p (c .collector) (added (c .collector) (b ∷ [])) (c .core) (w .header) b m room places (accepts accepted) (w .way) adds)
 
 -- The LEN byte is one: it comes after the header, and no frame is complete with it.
-pub len-heard : (p : Part) (c : Chip) (m : Flash) (room : List ℕ) → length (c .collector .bytes) ≡ 260 → verdictAt p c m room ≡ Accepted → c .collector .len ≡ 1
+pub len-heard : (p : Part) (c : Chip) (m : Memory) (room : List ℕ) → length (c .collector .bytes) ≡ 260 → verdictAt p c m room ≡ Accepted → c .collector .len ≡ 1
     → (b : ℕ) → before (after c b) m room ≡ stepOf p c (Byte b) m room
 len-heard p c m room l a e b = only-added p c m room l a (omega arith) (not-last _ _ (omega (arith, counted-some (getD (c .collector .bytes) 1 0)))) b
 
-module _ (p : Part) (c : Chip) (m : Flash) (room : List ℕ) (places : length (c .collector .bytes) ≡ 260) (accepted : verdictAt p c m room ≡ Accepted)
+module _ (p : Part) (c : Chip) (m : Memory) (room : List ℕ) (places : length (c .collector .bytes) ≡ 260) (accepted : verdictAt p c m room ≡ Accepted)
     (begun : 2 ≤ c .collector .len) (short : c .collector .len < counted (getD (c .collector .bytes) 1 0) + 3) where
   within : c .collector .len < 260
   within = heard-so p c m room places accepted (omega arith) (not-last _ _ short) .begins .within
@@ -97,7 +97,7 @@ module _ (p : Part) (c : Chip) (m : Flash) (room : List ℕ) (places : length (c
       rw (added-count (c .collector) (b ∷ []) places (omega arith), added-at 0 b (omega arith), added-at 1 b (omega arith)) (one-more-accepted _ _ _ accepted begun (omega arith) small)
 
 -- One such byte, as the step adds it.
-pub byte-adds : (p : Part) (c : Chip) (d : Collector) (v : Event) (b n : ℕ) (m : Flash) (room : List ℕ) → length (c .collector .bytes) ≡ 260
+pub byte-adds : (p : Part) (c : Chip) (d : Collector) (v : Event) (b n : ℕ) (m : Memory) (room : List ℕ) → length (c .collector .bytes) ≡ 260
     → verdictAt p c m room ≡ Accepted → n ≡ lackingOf (c .collector .len) (getD (c .collector .bytes) 1 0) 1 → 0 < n → v ≡ Byte b → d ≡ added (c .collector) (b ∷ [])
     → before (record { core = c .core; collector = d }) m room ≡ stepOf p c v m room
 byte-adds p c d v b n m room l a e h f g =

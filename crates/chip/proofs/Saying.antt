@@ -12,7 +12,7 @@ use Rattle.chip.specs.declared.Answer.the-variants.{Replied}
 use Rattle.chip.specs.declared.Answer.the-variants as Answer
 use Rattle.chip_state.specs.declared.Chip.{Chip}
 use Rattle.chip.specs.declared.Event.{Event}
-use Rattle.chip_core.specs.Effect.{Flash}
+use Rattle.chip_core.specs.Effect.{Memory}
 use Rattle.part.specs.Part.{Arrays}
 use Rattle.part.specs.declared.Part.{Part}
 use Rattle.part.specs.declared.refusal.Refusal.{Refusal}
@@ -52,7 +52,7 @@ refused-fits r room =
       framed = λ n k e. absurd (let z : _≡_ {A = ℕ} 0 1 = cc in omega arith);
     }
 
-settled-fits : (v : Verdict) (p : Part) (x : Reaction) (c : Chip) (m : Flash) (room : List ℕ) → Arrays p → (v ≡ Accepted → 32 ≤ length room)
+settled-fits : (v : Verdict) (p : Part) (x : Reaction) (c : Chip) (m : Memory) (room : List ℕ) → Arrays p → (v ≡ Accepted → 32 ≤ length room)
     → Fitting (settled v p x c m room .answer) (length (settled v p x c m room .room))
 unfolding settled
 settled-fits (Verdict.Refused r) p x c m room a h = refused-fits r (length room)
@@ -63,7 +63,7 @@ settled-fits Accepted p x c m room a h =
     let f = said-fits rs (length room) l (few-payloads p (x .does .core .options) (x .does .reply)) (h refl) in
     rw (k, said-lands rs room) f
 
-pub step-fits : (p : Part) (c : Chip) (v : Event) (m : Flash) (room : List ℕ) → Arrays p
+pub step-fits : (p : Part) (c : Chip) (v : Event) (m : Memory) (room : List ℕ) → Arrays p
     → Fitting (stepOf p c v m room .answer) (length (stepOf p c v m room .room))
 unfolding stepOf
 step-fits p c v m room a = settled-fits _ p _ c m room a (λ e. accepts e .roomy)

@@ -19,7 +19,7 @@ use Rattle.chip.specs.declared.Event.{Event}
 use Rattle.chip.specs.declared.Event.the-variants.{Byte, Gap, PowerOn}
 use Rattle.chip.specs.declared.events.Way.the-variants.{Completes, Hears, Mode}
 use Rattle.chip.specs.inner.Ways.{completesAt, wayOf, wayOn}
-use Rattle.chip_core.specs.Effect.{Effect, Flash, effect}
+use Rattle.chip_core.specs.Effect.{Effect, Memory, effect}
 use Rattle.chip_core.specs.declared.Core.{Core}
 use Rattle.chip_core.specs.declared.Done.{Done}
 use Rattle.chip_core.specs.Hearing.{hearing}
@@ -91,14 +91,14 @@ frame-is c d h b g e =
     ap (λ (n : ℕ). take n (d .bytes)) z ∙ sym (heard-is d) ∙ ap heard e ∙ heard-byte c h b (g .lacks)
 
 -- A silent step: only what is heard, and perhaps the record, is new.
-pub quiet-settles : (p : Part) (c d : Collector) (k new : Core) (hs : List ℕ) (m : Flash) (room : List ℕ) → d ≡ holding c hs → 32 ≤ length room
+pub quiet-settles : (p : Part) (c d : Collector) (k new : Core) (hs : List ℕ) (m : Memory) (room : List ℕ) → d ≡ holding c hs → 32 ≤ length room
     → record { answer = Replied 0 0; chip = record { core = new; collector = d }; memory = m; room = room }
     ≡ settled Accepted p (reaction hs (silent new m)) (record { core = k; collector = c }) m room
 unfolding settled
 quiet-settles p c d k new hs m room e h = rw (e, ← said-silence p (new .options) room)
 
 -- A step whose frame was complete: the reply is sent, and the collector emptied.
-pub frame-settles : (p : Part) (d : Done) (c e : Collector) (k : Core) (s : Sent) (x : Effect) (m n : Flash) (room r : List ℕ)
+pub frame-settles : (p : Part) (d : Done) (c e : Collector) (k : Core) (s : Sent) (x : Effect) (m n : Memory) (room r : List ℕ)
     → effect d n ≡ x → said s r ≡ saidOf (payloads p (d .core .options) (d .reply)) room → e ≡ dropped c
     → record { answer = replied s; chip = record { core = d .core; collector = e }; memory = n; room = r }
     ≡ settled Accepted p (reaction [] x) (record { core = k; collector = c }) m room
@@ -114,16 +114,16 @@ next-within c d h b l g e =
     let n : d .len ≡ length (hear h (heard c) b) = ap (λ (x : Collector). x .len) (byte-holds c d h b g e) ∙ holding-count c (hear h (heard c) b) in
     omega (arith, hear-long h (heard c) b, length-heard c (omega (arith, g .within)), g .within)
 
-heard-done : (hs f : List ℕ) (x : List ℕ → Effect) (k : Core) (m : Flash) → f ≡ hs → complete hs ≡ true → reaction [] (x f) ≡ heardByte hs (x hs) k m
+heard-done : (hs f : List ℕ) (x : List ℕ → Effect) (k : Core) (m : Memory) → f ≡ hs → complete hs ≡ true → reaction [] (x f) ≡ heardByte hs (x hs) k m
 unfolding heardByte if_then_else_
 heard-done hs f x k m e t = rw t (ap (λ (g : List ℕ). reaction [] (x g)) e)
 
-heard-on : (hs : List ℕ) (x : Effect) (k : Core) (m : Flash) → complete hs ≡ false → reaction hs (silent k m) ≡ heardByte hs x k m
+heard-on : (hs : List ℕ) (x : Effect) (k : Core) (m : Memory) → complete hs ≡ false → reaction hs (silent k m) ≡ heardByte hs x k m
 unfolding heardByte if_then_else_
 heard-on hs x k m t = rw t
 
 -- A byte that completes a frame, and one that does not. x is what a complete frame does.
-byte-done : (p : Part) (d : Done) (c next e : Collector) (k : Core) (h : Header) (b : ℕ) (s : Sent) (x : List ℕ → Effect) (m n : Flash) (room r : List ℕ)
+byte-done : (p : Part) (d : Done) (c next e : Collector) (k : Core) (h : Header) (b : ℕ) (s : Sent) (x : List ℕ → Effect) (m n : Memory) (room r : List ℕ)
     → length (c .bytes) ≡ 260 → Begun c → next ≡ byteOf c h b → completesAt (c .len) (getD (c .bytes) 1 0) ≡ true
     → effect d n ≡ x (take (next .len - 0) (next .bytes)) → said s r ≡ saidOf (payloads p (d .core .options) (d .reply)) room → e ≡ dropped c
     → record { answer = replied s; chip = record { core = d .core; collector = e }; memory = n; room = r }
@@ -133,7 +133,7 @@ byte-done p d c next e k h b s x m n room r l g q t f u v =
     ∙ ap (λ (y : Reaction). settled Accepted p y (record { core = k; collector = c }) m room)
     (heard-done (hear h (heard c) b) (take (next .len - 0) (next .bytes)) x k m (frame-is c next h b g q) (completes-is c h b l g ∙ t))
 
-byte-on : (p : Part) (c next : Collector) (k : Core) (h : Header) (b : ℕ) (x : Effect) (m : Flash) (room : List ℕ)
+byte-on : (p : Part) (c next : Collector) (k : Core) (h : Header) (b : ℕ) (x : Effect) (m : Memory) (room : List ℕ)
     → length (c .bytes) ≡ 260 → Begun c → next ≡ byteOf c h b → completesAt (c .len) (getD (c .bytes) 1 0) ≡ false → 32 ≤ length room
     → record { answer = Replied 0 0; chip = record { core = k; collector = next }; memory = m; room = room }
     ≡ settled Accepted p (heardByte (hear h (heard c) b) x k m) (record { core = k; collector = c }) m room
@@ -180,8 +180,8 @@ mode-way HearsCommands n x e = absurd (no-mode Command n x e)
 mode-way (HearsData w) n x e = absurd (no-mode Data n x e)
 
 -- The three ways of a byte, each settled as the phase says.
-pub mode-settles : (p : Part) (c : Collector) (k new : Core) (b : ℕ) (m : Flash) (room : List ℕ)
-    → Accepts p k (handedWith c (length (m .codeFlash)) (length (m .dataFlash)) (length room)) → wayOf (hearing (k .phase)) (c .len) (getD (c .bytes) 1 0) ≡ Mode → new ≡ modeByte k b
+pub mode-settles : (p : Part) (c : Collector) (k new : Core) (b : ℕ) (m : Memory) (room : List ℕ)
+    → Accepts p k (handedWith c (length (m .flash .codeFlash)) (length (m .flash .dataFlash)) (length room)) → wayOf (hearing (k .phase)) (c .len) (getD (c .bytes) 1 0) ≡ Mode → new ≡ modeByte k b
     → record { answer = Replied 0 0; chip = record { core = new; collector = c }; memory = m; room = room }
     ≡ settled Accepted p (byteIn (hearing (k .phase)) p k (heard c) b m) (record { core = k; collector = c }) m room
 unfolding byteIn
@@ -192,8 +192,8 @@ mode-settles p c k new b m room a w n =
     ∙ quiet-settles p c c k (modeByte k b) (heard c) m room (sym (holding-heard c (omega arith))) (a .roomy)
     ∙ ap (λ (f : Hearing). settled Accepted p (byteIn f p k (heard c) b m) (record { core = k; collector = c }) m room) (sym e)
 
-pub hears-settles : (p : Part) (c next : Collector) (k : Core) (g : Header) (b : ℕ) (m : Flash) (room : List ℕ) → length (c .bytes) ≡ 260
-    → Accepts p k (handedWith c (length (m .codeFlash)) (length (m .dataFlash)) (length room)) → wayOf (hearing (k .phase)) (c .len) (getD (c .bytes) 1 0) ≡ Hears g → next ≡ byteOf c g b
+pub hears-settles : (p : Part) (c next : Collector) (k : Core) (g : Header) (b : ℕ) (m : Memory) (room : List ℕ) → length (c .bytes) ≡ 260
+    → Accepts p k (handedWith c (length (m .flash .codeFlash)) (length (m .flash .dataFlash)) (length room)) → wayOf (hearing (k .phase)) (c .len) (getD (c .bytes) 1 0) ≡ Hears g → next ≡ byteOf c g b
     → record { answer = Replied 0 0; chip = record { core = k; collector = next }; memory = m; room = room }
     ≡ settled Accepted p (byteIn (hearing (k .phase)) p k (heard c) b m) (record { core = k; collector = c }) m room
 unfolding wayOf byteIn
@@ -213,8 +213,8 @@ hears-settles p c next k g b m room l a w nx = go (hearing (k .phase)) refl w
     go HearsCommands e v = on HearsCommands Command (frameDoes HearsCommands p k (hear Command (heard c) b) m) (begun-in p c k HearsCommands Command _ _ _ l a e (command-collected _ _ _)) v
     go (HearsData w) e v = on (HearsData w) Data (frameDoes (HearsData w) p k (hear Data (heard c) b) m) (begun-in p c k (HearsData w) Data _ _ _ l a e (data-collected w _ _ _)) v
 
-pub completes-settles : (p : Part) (d : Done) (c next e : Collector) (k : Core) (g : Header) (b : ℕ) (s : Sent) (m n : Flash) (room r : List ℕ) → length (c .bytes) ≡ 260
-    → Accepts p k (handedWith c (length (m .codeFlash)) (length (m .dataFlash)) (length room)) → wayOf (hearing (k .phase)) (c .len) (getD (c .bytes) 1 0) ≡ Completes g → next ≡ byteOf c g b
+pub completes-settles : (p : Part) (d : Done) (c next e : Collector) (k : Core) (g : Header) (b : ℕ) (s : Sent) (m n : Memory) (room r : List ℕ) → length (c .bytes) ≡ 260
+    → Accepts p k (handedWith c (length (m .flash .codeFlash)) (length (m .flash .dataFlash)) (length room)) → wayOf (hearing (k .phase)) (c .len) (getD (c .bytes) 1 0) ≡ Completes g → next ≡ byteOf c g b
     → effect d n ≡ frameDoes (hearing (k .phase)) p k (take (next .len - 0) (next .bytes)) m → said s r ≡ sendOf p (d .core .options) (d .reply) room → e ≡ dropped c
     → record { answer = replied s; chip = record { core = d .core; collector = e }; memory = n; room = r }
     ≡ settled Accepted p (byteIn (hearing (k .phase)) p k (heard c) b m) (record { core = k; collector = c }) m room
@@ -248,42 +248,42 @@ next-in-array p c next k g b code flash room l a w nx = go (hearing (k .phase)) 
     go (HearsData w) e j = next-within c next g b l (begun-in p c k (HearsData w) Data _ _ _ l a e (data-collected w _ _ _)) nx
 
 -- A gap or power-on: nothing is heard any more, and nothing is said.
-pub emptied : (p : Part) (c e : Collector) (k new : Core) (m : Flash) (room : List ℕ) → e ≡ dropped c → 32 ≤ length room
+pub emptied : (p : Part) (c e : Collector) (k new : Core) (m : Memory) (room : List ℕ) → e ≡ dropped c → 32 ≤ length room
     → record { answer = Replied 0 0; chip = record { core = new; collector = e }; memory = m; room = room }
     ≡ settled Accepted p (reaction [] (silent new m)) (record { core = k; collector = c }) m room
 emptied p c e k new m room f h = quiet-settles p c e k new [] m room (f ∙ dropped-is c) h
 
 -- A step is its verdict and, accepted, its event's reaction.
-pub step-accepted : (o : Outcome) (x : Reaction) (p : Part) (c : Chip) (v w : Event) (m : Flash) (room : List ℕ)
-    → verdictOn p c (length (m .codeFlash)) (length (m .dataFlash)) (length room) ≡ Accepted
+pub step-accepted : (o : Outcome) (x : Reaction) (p : Part) (c : Chip) (v w : Event) (m : Memory) (room : List ℕ)
+    → verdictOn p c (length (m .flash .codeFlash)) (length (m .flash .dataFlash)) (length room) ≡ Accepted
     → v ≡ w → x ≡ reactTo w p (c .core) (heard (c .collector)) m → o ≡ settled Accepted p x c m room → o ≡ stepOf p c v m room
 unfolding stepOf
 step-accepted o x p c v w m room a e f g =
     rw a (g ∙ ap (λ (y : Reaction). settled Accepted p y c m room) (f ∙ ap (λ (q : Event). reactTo q p (c .core) (heard (c .collector)) m) (sym e)))
 
-pub step-barred : (p : Part) (c : Chip) (v : Event) (m : Flash) (room : List ℕ) (r : Refusal)
-    → verdictOn p c (length (m .codeFlash)) (length (m .dataFlash)) (length room) ≡ Verdict.Refused r
+pub step-barred : (p : Part) (c : Chip) (v : Event) (m : Memory) (room : List ℕ) (r : Refusal)
+    → verdictOn p c (length (m .flash .codeFlash)) (length (m .flash .dataFlash)) (length room) ≡ Verdict.Refused r
     → outcome (record { answer = Answer.Refused r; chip = c }) m room ≡ stepOf p c v m room
 unfolding stepOf settled
 step-barred p c v m room r a = rw a
 
-pub same-event : (o : Outcome) (p : Part) (c : Chip) (v w : Event) (m : Flash) (room : List ℕ) → o ≡ stepOf p c w m room → v ≡ w → o ≡ stepOf p c v m room
+pub same-event : (o : Outcome) (p : Part) (c : Chip) (v w : Event) (m : Memory) (room : List ℕ) → o ≡ stepOf p c w m room → v ≡ w → o ≡ stepOf p c v m room
 same-event o p c v w m room e f = e ∙ ap (λ (q : Event). stepOf p c q m room) (sym f)
 
-at-byte : (p : Part) (k : Core) (hs : List ℕ) (b : ℕ) (m : Flash) → byteIn (hearing (k .phase)) p k hs b m ≡ reactTo (Byte b) p k hs m
+at-byte : (p : Part) (k : Core) (hs : List ℕ) (b : ℕ) (m : Memory) → byteIn (hearing (k .phase)) p k hs b m ≡ reactTo (Byte b) p k hs m
 unfolding reactTo
 at-byte p k hs b m = refl
 
-pub byte-accepted : (o : Outcome) (p : Part) (c : Chip) (b : ℕ) (m : Flash) (room : List ℕ)
-    → verdictOn p c (length (m .codeFlash)) (length (m .dataFlash)) (length room) ≡ Accepted
+pub byte-accepted : (o : Outcome) (p : Part) (c : Chip) (b : ℕ) (m : Memory) (room : List ℕ)
+    → verdictOn p c (length (m .flash .codeFlash)) (length (m .flash .dataFlash)) (length room) ≡ Accepted
     → o ≡ settled Accepted p (byteIn (hearing (c .core .phase)) p (c .core) (heard (c .collector)) b m) c m room → o ≡ stepOf p c (Byte b) m room
 byte-accepted o p c b m room a g =
     step-accepted o (byteIn (hearing (c .core .phase)) p (c .core) (heard (c .collector)) b m) p c (Byte b) (Byte b) m room a refl (at-byte p (c .core) (heard (c .collector)) b m) g
 
-pub at-gap : (p : Part) (k : Core) (hs : List ℕ) (m : Flash) → reaction [] (silent k m) ≡ reactTo Gap p k hs m
+pub at-gap : (p : Part) (k : Core) (hs : List ℕ) (m : Memory) → reaction [] (silent k m) ≡ reactTo Gap p k hs m
 unfolding reactTo
 at-gap p k hs m = refl
 
-pub at-power-on : (p : Part) (k new : Core) (hs : List ℕ) (m : Flash) → new ≡ poweredOn k → reaction [] (silent new m) ≡ reactTo PowerOn p k hs m
+pub at-power-on : (p : Part) (k new : Core) (hs : List ℕ) (m : Memory) → new ≡ poweredOn k → reaction [] (silent new m) ≡ reactTo PowerOn p k hs m
 unfolding reactTo
 at-power-on p k new hs m e = ap (λ (q : Core). reaction [] (silent q m)) e

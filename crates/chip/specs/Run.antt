@@ -7,7 +7,7 @@ use Rattle.chip.specs.declared.Answer.{Answer}
 use Rattle.chip.specs.declared.Answer.the-variants.{Refused, Replied}
 use Rattle.chip_state.specs.declared.Chip.{Chip}
 use Rattle.chip.specs.declared.Event.{Event}
-use Rattle.chip_core.specs.Effect.{Flash}
+use Rattle.chip_core.specs.Effect.{Memory}
 use Rattle.part.specs.declared.Part.{Part}
 
 -- One more event, on what the last one left.
@@ -19,7 +19,7 @@ run p [] o = o
 run p (v ∷ vs) o = run p vs (onward p o v)
 
 -- Before any event nothing has been said.
-abbrev pub before : Chip → Flash → List ℕ → Outcome
+abbrev pub before : Chip → Memory → List ℕ → Outcome
 before c m room = record { answer = Replied 0 0; chip = c; memory = m; room = room }
 
 -- The answer to each event, with the room after it.

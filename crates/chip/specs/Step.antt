@@ -13,7 +13,7 @@ use Rattle.chip.specs.declared.Event.the-variants.{Byte, Gap, PowerOn}
 use Rattle.chip.specs.declared.Step.{Step}
 use Rattle.chip_commands.specs.Commands.{commandDoes}
 use Rattle.chip_state.specs.Refusals.{verdictOn}
-use Rattle.chip_core.specs.Effect.{Effect, Flash, effect, entered, told}
+use Rattle.chip_core.specs.Effect.{Effect, Memory, effect, entered, told}
 use Rattle.chip_pages.specs.Pages.{dataDoes}
 use Rattle.chip_core.specs.declared.Core.{Core}
 use Rattle.chip_core.specs.Hearing.{hearing}
@@ -43,7 +43,7 @@ pub record Reaction : Type 0 where
 abbrev pub reaction : List ℕ → Effect → Reaction
 reaction hs x = record { hears = hs; does = x }
 
-abbrev pub silent : Core → Flash → Effect
+abbrev pub silent : Core → Memory → Effect
 silent k m = effect (told Silence k) m
 
 -- "1. Mode byte: 3Ah (one wire) or 00h (two wires); others skipped without reply."
@@ -51,17 +51,17 @@ unfoldable pub modeByte : Core → ℕ → Core
 modeByte k b = if eqb b 0x3A or eqb b 0x00 then entered k Setup else k
 
 -- A byte while a frame is awaited: a complete frame does its work, and nothing is collected then.
-unfoldable pub heardByte : List ℕ → Effect → Core → Flash → Reaction
+unfoldable pub heardByte : List ℕ → Effect → Core → Memory → Reaction
 heardByte hs x k m = if complete hs then reaction [] x else reaction hs (silent k m)
 
 -- A complete frame does its work by what was awaited. (Where no frame is awaited, none comes.)
-unfoldable pub frameDoes : Hearing → Part → Core → List ℕ → Flash → Effect
+unfoldable pub frameDoes : Hearing → Part → Core → List ℕ → Memory → Effect
 frameDoes HearsNothing p k f m = silent k m
 frameDoes HearsCommands p k f m = commandDoes p k f m
 frameDoes (HearsData w) p k f m = dataDoes p k w f m
 
 -- A byte: the mode byte where no frame is awaited, else one more byte of a frame.
-unfoldable pub byteIn : Hearing → Part → Core → List ℕ → ℕ → Flash → Reaction
+unfoldable pub byteIn : Hearing → Part → Core → List ℕ → ℕ → Memory → Reaction
 byteIn HearsNothing p k hs b m = reaction hs (silent (modeByte k b) m)
 byteIn HearsCommands p k hs b m = heardByte (hear Command hs b) (frameDoes HearsCommands p k (hear Command hs b) m) k m
 byteIn (HearsData w) p k hs b m = heardByte (hear Data hs b) (frameDoes (HearsData w) p k (hear Data hs b) m) k m
@@ -71,7 +71,7 @@ byteIn (HearsData w) p k hs b m = heardByte (hear Data hs b) (frameDoes (HearsDa
 abbrev pub poweredOn : Core → Core
 poweredOn k = record { options = k .options; rate = 0x00; phase = ModeByte }
 
-unfoldable pub reactTo : Event → Part → Core → List ℕ → Flash → Reaction
+unfoldable pub reactTo : Event → Part → Core → List ℕ → Memory → Reaction
 reactTo (Byte b) p k hs m = byteIn (hearing (k .phase)) p k hs b m
 reactTo Gap p k hs m = reaction [] (silent k m)
 reactTo PowerOn p k hs m = reaction [] (silent (poweredOn k) m)
@@ -80,17 +80,17 @@ reactTo PowerOn p k hs m = reaction [] (silent (poweredOn k) m)
 pub record Outcome : Type 0 where
   pub answer : Answer
   pub chip : Chip
-  pub memory : Flash
+  pub memory : Memory
   pub room : List ℕ
 
-abbrev pub outcome : Step → Flash → List ℕ → Outcome
+abbrev pub outcome : Step → Memory → List ℕ → Outcome
 outcome s m r = record { answer = s .answer; chip = s .chip; memory = m; room = r }
 
 abbrev pub replied : Sent → Answer
 replied s = Replied (s .bytes) (s .frames)
 
 -- A refused call changes nothing; otherwise what is heard becomes the collector, and the replies become bytes in the room.
-unfoldable pub settled : Verdict → Part → Reaction → Chip → Flash → List ℕ → Outcome
+unfoldable pub settled : Verdict → Part → Reaction → Chip → Memory → List ℕ → Outcome
 settled (Verdict.Refused r) p x c m room = record { answer = Answer.Refused r; chip = c; memory = m; room = room }
 settled Accepted p x c m room =
     let sends = saidOf (payloads p (x .does .core .options) (x .does .reply)) room in
@@ -101,9 +101,9 @@ settled Accepted p x c m room =
       room = sends .room;
     }
 
-unfoldable pub stepOf : Part → Chip → Event → Flash → List ℕ → Outcome
+unfoldable pub stepOf : Part → Chip → Event → Memory → List ℕ → Outcome
 stepOf p c v m room =
-    let verdict = verdictOn p c (length (m .codeFlash)) (length (m .dataFlash)) (length room) in
+    let verdict = verdictOn p c (length (m .flash .codeFlash)) (length (m .flash .dataFlash)) (length room) in
     let reaction = reactTo v p (c .core) (heard (c .collector)) m in
     settled verdict p reaction c m room
 

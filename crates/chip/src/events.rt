@@ -3,7 +3,7 @@
 ghost use mathlib.Core.Path.{_≡_};
 ghost use Prim.Native.Nat.{_<_, _+_};
 ghost use lib.ListN.{length};
-ghost use Rattle.chip_core.specs.Effect.{flash, effect};
+ghost use Rattle.chip_core.specs.Effect.{effect, memory};
 ghost use Rattle.chip_core.specs.Hearing.{hearing};
 ghost use Rattle.chip_state.specs.Refusals.{verdictOn};
 ghost use Rattle.part.specs.declared.refusal.Verdict.the-variants.{Accepted};
@@ -78,9 +78,16 @@ fn way_in(phase: Phase, count: usize, len: u8) -> Way
 }
 
 // A complete frame, by what the phase hears.
-fn frame_does(part: Part, core: Core, bytes: &[u8], code: &mut [u8], data: &mut [u8]) -> Done
-    ensures { λ r. ⌜ effect r (flash (now (code .exit)) (now («data» .exit)))
-        ≡ frameDoes (hearing (core .phase)) part core (now (bytes .entry)) (flash (now (code .entry)) (now («data» .entry))) ⌝ }
+fn frame_does(
+    part: Part,
+    core: Core,
+    bytes: &[u8],
+    code: &mut [u8],
+    data: &mut [u8],
+    sums: &mut [u16; 72],
+) -> Done
+    ensures { λ r. ⌜ effect r (memory (now (code .exit)) (now («data» .exit)) (now (sums .exit)))
+        ≡ frameDoes (hearing (core .phase)) part core (now (bytes .entry)) (memory (now (code .entry)) (now («data» .entry)) (now (sums .entry))) ⌝ }
 {
     let phase = core.phase;
     let hears = phase.hearing();
@@ -89,8 +96,8 @@ fn frame_does(part: Part, core: Core, bytes: &[u8], code: &mut [u8], data: &mut 
             reply: Reply::Silence,
             core,
         },
-        Hearing::HearsCommands => chip_commands::command(part, core, bytes, code, data),
-        Hearing::HearsData(w) => chip_pages::page(part, core, w, bytes, code, data),
+        Hearing::HearsCommands => chip_commands::command(part, core, bytes, code, data, sums),
+        Hearing::HearsData(w) => chip_pages::page(part, core, w, bytes, code, data, sums),
     }
 }
 
@@ -118,11 +125,12 @@ fn byte_step(
     b: u8,
     code: &mut [u8],
     data: &mut [u8],
+    sums: &mut [u16; 72],
     room: &mut [u8],
 ) -> ByteDone
     requires { ⌜ verdictOn part chip (length (now code)) (length (now «data»)) (length (now room)) ≡ Accepted ⌝ }
-    ensures { λ r. ⌜ outcome (answered r) (flash (now (code .exit)) (now («data» .exit))) (now (room .exit))
-        ≡ stepOf part chip (Byte b) (flash (now (code .entry)) (now («data» .entry))) (now (room .entry)) ⌝ }
+    ensures { λ r. ⌜ outcome (answered r) (memory (now (code .exit)) (now («data» .exit)) (now (sums .exit))) (now (room .exit))
+        ≡ stepOf part chip (Byte b) (memory (now (code .entry)) (now («data» .entry)) (now (sums .entry))) (now (room .entry)) ⌝ }
 {
     let core = chip.core;
     let collector = chip.collector;
@@ -153,7 +161,7 @@ fn byte_step(
             let next = collector.byte(header, b);
             let bytes = next.bytes;
             let n = next.len;
-            let done = frame_does(part, core, &bytes[0..n], code, data);
+            let done = frame_does(part, core, &bytes[0..n], code, data, sums);
             let after = done.core;
             let options = after.options;
             let reply = done.reply;
@@ -205,10 +213,11 @@ pub fn step(
     event: Event,
     code: &mut [u8],
     data: &mut [u8],
+    sums: &mut [u16; 72],
     room: &mut [u8],
 ) -> Step
-    ensures { λ r. ⌜ outcome r (flash (now (code .exit)) (now («data» .exit))) (now (room .exit))
-        ≡ stepOf part chip event (flash (now (code .entry)) (now («data» .entry))) (now (room .entry)) ⌝ }
+    ensures { λ r. ⌜ outcome r (memory (now (code .exit)) (now («data» .exit)) (now (sums .exit))) (now (room .exit))
+        ≡ stepOf part chip event (memory (now (code .entry)) (now («data» .entry)) (now (sums .entry))) (now (room .entry)) ⌝ }
 {
     let core = chip.core;
     let collector = chip.collector;
@@ -271,7 +280,7 @@ pub fn step(
                     };
                 }
                 let whole = chip;
-                let stepped = byte_step(part, whole, b, code, data, room);
+                let stepped = byte_step(part, whole, b, code, data, sums, room);
                 let sent = stepped.sent;
                 let next = stepped.chip;
                 return Step {

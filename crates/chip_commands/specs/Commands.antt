@@ -4,7 +4,7 @@ use mathlib.Core.List.{List}
 use Prim.Native.Nat.{ℕ}
 use lib.Dec.{eqb}
 use lib.ListN.{getD}
-use Rattle.chip_core.specs.Effect.{Effect, Flash, acknowledge, awaiting, commandError, effect, says, told}
+use Rattle.chip_core.specs.Effect.{Effect, Memory, acknowledge, awaiting, commandError, effect, says, told}
 use Rattle.chip_core.specs.declared.Core.{Core}
 use Rattle.chip_core.specs.declared.Phase.{Phase}
 use Rattle.chip_core.specs.declared.Phase.the-variants.{Awaiting, ModeByte, Ready, Setup}
@@ -32,27 +32,27 @@ allowedIn Ready cmd = not (eqb cmd 0x9A)
 allowedIn (Awaiting w) cmd = false
 
 -- The work of each command, in the order of the table.
-unfoldable pub work : Command → Part → Core → Flash → Effect
+unfoldable pub work : Command → Part → Core → Memory → Effect
 work (RateSet rate supply) p k m = effect (rateSet p k rate supply) m
 work Reset p k m = effect (says acknowledge k) m
 work (BlockErase start) p k m = blockErase p k (placeOf p start) m
-work (BlankCheck start end d01) p k m = effect (blankCheck p k (rangeOf p start end) d01 m) m
+work (BlankCheck start end d01) p k m = effect (blankCheck p k (rangeOf p start end) d01 (m .flash)) m
 work (Programming start end) p k m = effect (programming p k (rangeOf p start end) start end) m
 work (Verify start end) p k m = effect (verify k (rangeOf p start end) start end) m
 work (Checksum start end) p k m = effect (checksum p k (rangeOf p start end) m) m
 work SignatureGet p k m = effect (told Signature k) m
 work SecurityGet p k m = effect (told Security k) m
 work SecuritySet p k m = effect (says acknowledge (awaiting 0xA0 0 0 k)) m
-work SecurityRelease p k m = effect (securityRelease p k m) m
+work SecurityRelease p k m = effect (securityRelease p k (m .flash)) m
 
 -- "command unknown .. 04h; LEN unfit for the command 15h; ..; then the work"
-unfoldable pub readingDoes : Reading → Part → Core → Flash → Effect
+unfoldable pub readingDoes : Reading → Part → Core → Memory → Effect
 readingDoes Unknown p k m = effect (says commandError k) m
 readingDoes UnfitLen p k m = effect (says (statusOf UnfitLength) k) m
 readingDoes (Meant c) p k m = work c p k m
 
 -- A complete command frame: footer and SUM first, then whether the phase allows its COM, the command, its LEN, its parameters, protection, the work.
-unfoldable pub commandDoes : Part → Core → List ℕ → Flash → Effect
+unfoldable pub commandDoes : Part → Core → List ℕ → Memory → Effect
 commandDoes p k f m =
     if not (isGood (judgeOf Last f)) then effect (says (statusOf (judgeOf Last f)) k) m
     else if not (allowedIn (k .phase) (getD (payload f) 0 0)) then effect (says commandError k) m

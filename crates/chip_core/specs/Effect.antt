@@ -1,4 +1,4 @@
--- What a complete frame does: its reply, the chip's record after it, and flash. No room, collector or array is in it.
+-- What a complete frame does: its reply, the chip's record after it, flash and the kept sums. No room, collector or array is in it.
 use mathlib.Core.List.{List}
 use Prim.Native.Nat.{ℕ}
 use Rattle.chip_core.specs.declared.Core.{Core}
@@ -26,7 +26,18 @@ abbrev pub withBytes : Area → Flash → List ℕ → Flash
 withBytes CodeFlash m l = flash l (m .dataFlash)
 withBytes DataFlash m l = flash (m .codeFlash) l
 
--- What a complete frame did beside flash: the reply, whose bytes `payloads` gives, and the record after it.
+-- What is lent to every event: flash, and the sums that are kept beside the chip's lasting record (document 02, §1).
+pub record Memory : Type 0 where
+  pub flash : Flash
+  pub sums : List ℕ
+
+abbrev pub memory : List ℕ → List ℕ → List ℕ → Memory
+memory c d s = record { flash = flash c d; sums = s }
+
+abbrev pub withFlash : Memory → Flash → Memory
+withFlash m f = record { flash = f; sums = m .sums }
+
+-- What a complete frame did beside what is lent: the reply, whose bytes `payloads` gives, and the record after it.
 abbrev pub told : Reply → Core → Done
 told r k = record { reply = r; core = k }
 
@@ -34,9 +45,9 @@ told r k = record { reply = r; core = k }
 pub record Effect : Type 0 where
   pub reply : Reply
   pub core : Core
-  pub memory : Flash
+  pub memory : Memory
 
-abbrev pub effect : Done → Flash → Effect
+abbrev pub effect : Done → Memory → Effect
 effect d m = record { reply = d .reply; core = d .core; memory = m }
 
 -- The record with another phase.

@@ -1,4 +1,4 @@
--- One event through the door, by the chip's answer.
+-- One event through the door, by the chip's answer; and the sums worked out, by the verdict.
 -- Assumes nothing.
 use mathlib.Core.List.{List, [], _∷_}
 use mathlib.Core.Path.{_≡_}
@@ -7,26 +7,40 @@ use lib.ListN.{length}
 use Rattle.chip.specs.Step.{Outcome, stepOf}
 use Rattle.chip.specs.declared.Answer.the-variants.{Refused, Replied}
 use Rattle.chip.specs.declared.Event.{Event}
-use Rattle.chip_core.specs.Effect.{Flash}
-use Rattle.chip_door.specs.Calls.{answeredBy, stepTold, steppedBy, steppedThrough}
+use Rattle.chip_core.specs.Effect.{Flash, Memory}
+use Rattle.chip_door.specs.Calls.{answeredBy, stepTold, steppedBy, steppedThrough, sumsTold, summedThrough}
+use Rattle.chip_layout.proofs.Laws.{accepted-number, refused-number}
 use Rattle.chip_layout.specs.Admission.{chipAdmission}
 use Rattle.chip_layout.specs.Layout.{chipBytes, chipIn}
 use Rattle.chip_state.specs.declared.Chip.{Chip}
+use Rattle.chip_sums.specs.Sums.{summing, workedOut}
 use Rattle.part.specs.Refusal.{number}
 use Rattle.part.specs.declared.Part.{Part}
 use Rattle.part.specs.declared.refusal.Refusal.{Refusal}
 use Rattle.part.specs.declared.refusal.Verdict.{Verdict}
 use Rattle.part.specs.declared.refusal.Verdict.the-variants.{Accepted}
+use Rattle.part.specs.declared.refusal.Verdict.the-variants as Verdict
 use Rattle.part_layout.specs.Layout.{partIn}
 
-pub step-refused : {p : Part} {u : Verdict} {c : Chip} {n : ℕ} {r : Refusal} (o : Outcome) (part : List ℕ) (v : Event) (told state : List ℕ) (m : Flash) (room : List ℕ)
-    → p ≡ partIn part → u ≡ chipAdmission p state (length (m .codeFlash)) (length (m .dataFlash)) → u ≡ Accepted → c ≡ chipIn state → o ≡ stepOf p c v m room
+pub step-refused : {p : Part} {u : Verdict} {c : Chip} {n : ℕ} {r : Refusal} (o : Outcome) (part : List ℕ) (v : Event) (told state : List ℕ) (m : Memory) (room : List ℕ)
+    → p ≡ partIn part → u ≡ chipAdmission p state (length (m .flash .codeFlash)) (length (m .flash .dataFlash)) → u ≡ Accepted → c ≡ chipIn state → o ≡ stepOf p c v m room
     → o .answer ≡ Refused r → n ≡ number r → stepTold n told state (o .memory) (o .room) ≡ steppedThrough (partIn part) v told state m room
 unfolding steppedThrough steppedBy answeredBy
 step-refused o part v told state m room e f g h i k l = rw (← e, ← f, g, ← h, ← i, k, l)
 
-pub step-replied : {p : Part} {u : Verdict} {c : Chip} {n k : ℕ} {l : List ℕ} (o : Outcome) (part : List ℕ) (v : Event) (told state : List ℕ) (m : Flash) (room : List ℕ)
-    → p ≡ partIn part → u ≡ chipAdmission p state (length (m .codeFlash)) (length (m .dataFlash)) → u ≡ Accepted → c ≡ chipIn state → o ≡ stepOf p c v m room
+pub step-replied : {p : Part} {u : Verdict} {c : Chip} {n k : ℕ} {l : List ℕ} (o : Outcome) (part : List ℕ) (v : Event) (told state : List ℕ) (m : Memory) (room : List ℕ)
+    → p ≡ partIn part → u ≡ chipAdmission p state (length (m .flash .codeFlash)) (length (m .flash .dataFlash)) → u ≡ Accepted → c ≡ chipIn state → o ≡ stepOf p c v m room
     → o .answer ≡ Replied n k → l ≡ chipBytes (o .chip) → stepTold 0 (n ∷ k ∷ []) l (o .memory) (o .room) ≡ steppedThrough (partIn part) v told state m room
 unfolding steppedThrough steppedBy answeredBy
 step-replied o part v told state m room e f g h i j q = rw (← e, ← f, g, ← h, ← i, j, q)
+
+-- All sums worked out, by the verdict on the call.
+pub sums-refused : {p : Part} {v : Verdict} {t : List ℕ} {n : ℕ} {r : Refusal} (part : List ℕ) (m : Flash) (s : List ℕ) → p ≡ partIn part → summing v t ≡ workedOut p m s
+    → v ≡ Verdict.Refused r → n ≡ number r → sumsTold n t ≡ summedThrough (partIn part) m s
+unfolding summedThrough
+sums-refused {r = r} part m s e w v n = rw (← e, ← w, v, n, refused-number r)
+
+pub sums-worked : {p : Part} {v : Verdict} {t : List ℕ} (part : List ℕ) (m : Flash) (s : List ℕ) → p ≡ partIn part → summing v t ≡ workedOut p m s → v ≡ Accepted
+    → sumsTold 0 t ≡ summedThrough (partIn part) m s
+unfolding summedThrough
+sums-worked part m s e w v = rw (← e, ← w, v, ← accepted-number)

@@ -5,9 +5,9 @@ ghost use Prim.Native.Nat.{_<_, ℕ};
 ghost use lib.ListN.{getD, length};
 ghost use Rattle.chip_layout.specs.Layout.{stateSize};
 ghost use Rattle.chip.specs.declared.Event.the-variants.{Byte, Gap, PowerOn};
-ghost use Rattle.chip_core.specs.Effect.{flash};
+ghost use Rattle.chip_core.specs.Effect.{flash, memory};
 ghost use Rattle.part_layout.specs.Layout.{partIn};
-ghost use Rattle.chip_door.specs.Calls.{bytesTold, fedThrough, framesTold, freshThrough, made, steppedThrough, stepTold};
+ghost use Rattle.chip_door.specs.Calls.{bytesTold, fedThrough, framesTold, freshThrough, made, steppedThrough, stepTold, sumsTold, summedThrough};
 use chip::Answer;
 use chip::Event;
 use chip::events;
@@ -58,18 +58,32 @@ pub extern "C" fn zc_fresh(part: &[u8; 19], state: &mut [u8; 293]) -> u32
     }
 }
 
+// All sums of a chip's blocks worked out from its flash into the lent numbers: when a chip is taken up.
+#[no_mangle]
+pub extern "C" fn zc_sums(part: &[u8; 19], code: &[u8], data: &[u8], sums: &mut [u16; 72]) -> u32
+    ensures { λ r. ⌜ sumsTold r (now (sums .exit))
+        ≡ summedThrough (partIn (now (part .entry))) (flash (now (code .entry)) (now («data» .entry))) (now (sums .entry)) ⌝ }
+{
+    let v = chip_sums::work_out(part_layout::part_in(part), code, data, sums);
+    match v {
+        Verdict::Refused(refusal) => refusal.number() as u32,
+        Verdict::Accepted => 0,
+    }
+}
+
 fn step(
     part: &[u8; 19],
     state: &mut [u8; 293],
     event: Event,
     code: &mut [u8],
     data: &mut [u8],
+    sums: &mut [u16; 72],
     room: &mut [u8],
     told: &mut [u64; 2],
 ) -> u32
-    ensures { λ r. ⌜ stepTold r (now (told .exit)) (now (state .exit)) (flash (now (code .exit)) (now («data» .exit))) (now (room .exit))
+    ensures { λ r. ⌜ stepTold r (now (told .exit)) (now (state .exit)) (memory (now (code .exit)) (now («data» .exit)) (now (sums .exit))) (now (room .exit))
         ≡ steppedThrough (partIn (now (part .entry))) event (now (told .entry)) (now (state .entry))
-        (flash (now (code .entry)) (now («data» .entry))) (now (room .entry)) ⌝ }
+        (memory (now (code .entry)) (now («data» .entry)) (now (sums .entry))) (now (room .entry)) ⌝ }
 {
     let p = part_layout::part_in(part);
     let v = admission::chip_admission(p, state, code.len(), data.len());
@@ -77,7 +91,7 @@ fn step(
         Verdict::Refused(refusal) => refusal.number() as u32,
         Verdict::Accepted => {
             let chip = chip_layout::chip_in(state);
-            let s = events::step(p, chip, event, code, data, room);
+            let s = events::step(p, chip, event, code, data, sums, room);
             let answer = s.answer;
             match answer {
                 Answer::Refused(refusal) => refusal.number() as u32,
@@ -111,12 +125,13 @@ pub extern "C" fn zc_byte(
     b: u8,
     code: &mut [u8],
     data: &mut [u8],
+    sums: &mut [u16; 72],
     room: &mut [u8],
     told: &mut [u64; 2],
 ) -> u32
-    ensures { λ r. ⌜ stepTold r (now (told .exit)) (now (state .exit)) (flash (now (code .exit)) (now («data» .exit))) (now (room .exit))
+    ensures { λ r. ⌜ stepTold r (now (told .exit)) (now (state .exit)) (memory (now (code .exit)) (now («data» .exit)) (now (sums .exit))) (now (room .exit))
         ≡ steppedThrough (partIn (now (part .entry))) (Byte b) (now (told .entry)) (now (state .entry))
-        (flash (now (code .entry)) (now («data» .entry))) (now (room .entry)) ⌝ }
+        (memory (now (code .entry)) (now («data» .entry)) (now (sums .entry))) (now (room .entry)) ⌝ }
 {
     if in_place::is_added(state) {
         are_bytes(state);
@@ -129,7 +144,7 @@ pub extern "C" fn zc_byte(
         *told = [0, 0];
         return 0;
     }
-    step(part, state, Event::Byte(b), code, data, room, told)
+    step(part, state, Event::Byte(b), code, data, sums, room, told)
 }
 
 // A gap comes: only the count of what is collected is new, and it is written where the state lies.
@@ -139,12 +154,13 @@ pub extern "C" fn zc_gap(
     state: &mut [u8; 293],
     code: &mut [u8],
     data: &mut [u8],
+    sums: &mut [u16; 72],
     room: &mut [u8],
     told: &mut [u64; 2],
 ) -> u32
-    ensures { λ r. ⌜ stepTold r (now (told .exit)) (now (state .exit)) (flash (now (code .exit)) (now («data» .exit))) (now (room .exit))
+    ensures { λ r. ⌜ stepTold r (now (told .exit)) (now (state .exit)) (memory (now (code .exit)) (now («data» .exit)) (now (sums .exit))) (now (room .exit))
         ≡ steppedThrough (partIn (now (part .entry))) Gap (now (told .entry)) (now (state .entry))
-        (flash (now (code .entry)) (now («data» .entry))) (now (room .entry)) ⌝ }
+        (memory (now (code .entry)) (now («data» .entry)) (now (sums .entry))) (now (room .entry)) ⌝ }
 {
     are_bytes(state);
     let p = part_layout::bare_in(part);
@@ -164,14 +180,15 @@ pub extern "C" fn zc_power_on(
     state: &mut [u8; 293],
     code: &mut [u8],
     data: &mut [u8],
+    sums: &mut [u16; 72],
     room: &mut [u8],
     told: &mut [u64; 2],
 ) -> u32
-    ensures { λ r. ⌜ stepTold r (now (told .exit)) (now (state .exit)) (flash (now (code .exit)) (now («data» .exit))) (now (room .exit))
+    ensures { λ r. ⌜ stepTold r (now (told .exit)) (now (state .exit)) (memory (now (code .exit)) (now («data» .exit)) (now (sums .exit))) (now (room .exit))
         ≡ steppedThrough (partIn (now (part .entry))) PowerOn (now (told .entry)) (now (state .entry))
-        (flash (now (code .entry)) (now («data» .entry))) (now (room .entry)) ⌝ }
+        (memory (now (code .entry)) (now («data» .entry)) (now (sums .entry))) (now (room .entry)) ⌝ }
 {
-    step(part, state, Event::PowerOn, code, data, room, told)
+    step(part, state, Event::PowerOn, code, data, sums, room, told)
 }
 
 // Bytes one after the other, up to the first that is answered: told are how many were taken, and the bytes and the frames of the reply. The caller hands the
@@ -183,12 +200,13 @@ pub extern "C" fn zc_feed(
     fed: &[u8],
     code: &mut [u8],
     data: &mut [u8],
+    sums: &mut [u16; 72],
     room: &mut [u8],
     told: &mut [u64; 3],
 ) -> u32
-    ensures { λ r. ⌜ stepTold r (now (told .exit)) (now (state .exit)) (flash (now (code .exit)) (now («data» .exit))) (now (room .exit))
+    ensures { λ r. ⌜ stepTold r (now (told .exit)) (now (state .exit)) (memory (now (code .exit)) (now («data» .exit)) (now (sums .exit))) (now (room .exit))
         ≡ fedThrough (partIn (now (part .entry))) (now (fed .entry)) (now (told .entry)) (now (state .entry))
-        (flash (now (code .entry)) (now («data» .entry))) (now (room .entry)) ⌝ }
+        (memory (now (code .entry)) (now («data» .entry)) (now (sums .entry))) (now (room .entry)) ⌝ }
 {
     let p = part_layout::part_in(part);
     let v = admission::chip_acceptance(p, state, code.len(), data.len(), room.len());
@@ -196,7 +214,7 @@ pub extern "C" fn zc_feed(
         Verdict::Refused(refusal) => refusal.number() as u32,
         Verdict::Accepted => {
             let chip = chip_layout::chip_in(state);
-            let f = chip_feed::feed(p, chip, fed, code, data, room);
+            let f = chip_feed::feed(p, chip, fed, code, data, sums, room);
             let answer = f.answer;
             chip_layout::lay_chip(f.chip, state);
             *told = [

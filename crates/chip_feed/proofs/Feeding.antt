@@ -16,7 +16,7 @@ use Rattle.chip.specs.Step.{Outcome, stepOf}
 use Rattle.chip.specs.declared.Answer.{Answer}
 use Rattle.chip.specs.declared.Answer.the-variants.{Refused, Replied}
 use Rattle.chip.specs.declared.Event.the-variants.{Byte}
-use Rattle.chip_core.specs.Effect.{Flash}
+use Rattle.chip_core.specs.Effect.{Memory}
 use Rattle.chip_feed.specs.Feed.{Feeding, fedOn, feedFrom, feedOf, feeding}
 use Rattle.chip_state.specs.declared.Chip.{Chip}
 use Rattle.part.specs.Part.{Arrays}
@@ -137,7 +137,7 @@ feed-from-fits p n (b ∷ bs) o a f =
     let g = step-fits p (o .chip) (Byte b) (o .memory) (o .room) a in
     fed-on-fits _ n _ _ g (feed-from-fits p (n + 1) bs (onward p o (Byte b)) a g)
 
-pub feed-fits : (p : Part) (bs : List ℕ) (c : Chip) (m : Flash) (room : List ℕ) → Arrays p
+pub feed-fits : (p : Part) (bs : List ℕ) (c : Chip) (m : Memory) (room : List ℕ) → Arrays p
     → Fitting (feedOf p bs (before c m room) .left .answer) (length (feedOf p bs (before c m room) .left .room))
 unfolding feedOf
 feed-fits p bs c m room a = feed-from-fits p 0 bs (before c m room) a (none-fits (length room))

@@ -18,7 +18,7 @@ use Rattle.chip_feed.specs.inner.Turn.{addedNext}
 use Rattle.chip.specs.Step.{Outcome, stepOf}
 use Rattle.chip_state.specs.declared.Chip.{Chip}
 use Rattle.chip.specs.declared.Event.the-variants.{Byte}
-use Rattle.chip_core.specs.Effect.{Flash}
+use Rattle.chip_core.specs.Effect.{Memory}
 use Rattle.frame.proofs.Laws.Collector.{added-count, added-more, added-none, added-places}
 use Rattle.frame.proofs.Laws.Frame.{Lacks, lacks}
 use Rattle.frame.specs.Collector.{added}
@@ -42,7 +42,7 @@ take-most zero l = omega arith
 take-most (suc m) [] = omega arith
 take-most (suc m) (x ∷ xs) = omega (arith, take-most m xs)
 
-stretch-fed : (p : Part) (bs : List ℕ) (k i : ℕ) (c : Chip) (m : Flash) (room : List ℕ) (t : Feeding) → FedFrom p bs i (before c m room) t
+stretch-fed : (p : Part) (bs : List ℕ) (k i : ℕ) (c : Chip) (m : Memory) (room : List ℕ) (t : Feeding) → FedFrom p bs i (before c m room) t
     → length (c .collector .bytes) ≡ 260 → counted (getD (c .collector .bytes) 1 0) ≤ 256 → verdictAt p c m room ≡ Accepted → 2 ≤ c .collector .len
     → c .collector .len + k ≤ counted (getD (c .collector .bytes) 1 0) + 3 → i + k ≤ length bs
     → FedFrom p bs (i + k) (before (stretched c (take k (drop i bs))) m room) t

@@ -7,7 +7,7 @@ use Rattle.chip.specs.Step.{Outcome}
 use Rattle.chip.specs.declared.Answer.{Answer}
 use Rattle.chip.specs.declared.Answer.the-variants.{Refused, Replied}
 use Rattle.chip.specs.declared.Event.the-variants.{Byte}
-use Rattle.chip_core.specs.Effect.{Flash}
+use Rattle.chip_core.specs.Effect.{Memory}
 use Rattle.chip_feed.specs.declared.Fed.{Fed}
 use Rattle.part.specs.declared.Part.{Part}
 use Rattle.words.specs.Words.{if_then_else_}
@@ -29,7 +29,7 @@ unfoldable pub feedFrom : Part → ℕ → List ℕ → Outcome → Feeding
 feedFrom p n [] o = feeding n o
 feedFrom p n (b ∷ bs) o = fedOn (onward p o (Byte b) .answer) n (onward p o (Byte b)) (feedFrom p (n + 1) bs (onward p o (Byte b)))
 
-abbrev pub fed : Fed → Flash → List ℕ → Feeding
+abbrev pub fed : Fed → Memory → List ℕ → Feeding
 fed f m room = feeding (f .taken) (record { answer = f .answer; chip = f .chip; memory = m; room = room })
 
 unfoldable pub feedOf : Part → List ℕ → Outcome → Feeding

@@ -1,7 +1,7 @@
 // A stretch of bytes for the chip: the fold of its step up to the first reply. Bytes that are only added to what is collected are taken at once.
 ghost use mathlib.Core.Path.{_≡_};
 ghost use Rattle.chip.specs.Run.{before};
-ghost use Rattle.chip_core.specs.Effect.{flash};
+ghost use Rattle.chip_core.specs.Effect.{memory};
 ghost use Prim.Native.Nat.{_<_, _≤_};
 ghost use Rattle.chip_feed.specs.Feed.{fed, feedOf};
 ghost use Rattle.chip_feed.specs.inner.Turn.{addedNext};
@@ -41,10 +41,11 @@ pub fn feed(
     bytes: &[u8],
     code: &mut [u8],
     data: &mut [u8],
+    sums: &mut [u16; 72],
     room: &mut [u8],
 ) -> Fed
-    ensures { λ r. ⌜ fed r (flash (now (code .exit)) (now («data» .exit))) (now (room .exit))
-        ≡ feedOf part (now (bytes .entry)) (before chip (flash (now (code .entry)) (now («data» .entry))) (now (room .entry))) ⌝ }
+    ensures { λ r. ⌜ fed r (memory (now (code .exit)) (now («data» .exit)) (now (sums .exit))) (now (room .exit))
+        ≡ feedOf part (now (bytes .entry)) (before chip (memory (now (code .entry)) (now («data» .entry)) (now (sums .entry))) (now (room .entry))) ⌝ }
 {
     let mut core = chip.core;
     let mut collector = chip.collector;
@@ -96,7 +97,7 @@ pub fn feed(
                 core,
                 collector: old,
             };
-            let stepped = events::step(part, whole, Event::Byte(b), code, data, room);
+            let stepped = events::step(part, whole, Event::Byte(b), code, data, sums, room);
             let chip = stepped.chip;
             let said = stepped.answer;
             match said {

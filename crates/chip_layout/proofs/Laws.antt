@@ -168,6 +168,14 @@ pub judge-bare : {n : ℕ} {q : Part} (p : Part) (state : List ℕ) (code «data
 judge-bare p state code «data» room e f =
     e ∙ ap (λ (x : Part). acceptanceNumber (chipAcceptance x state code «data» room)) f ∙ ap acceptanceNumber (acceptance-bare p state code «data» room)
 
+pub refused-number : (r : Refusal) → number r ≡ acceptanceNumber (Refused r)
+unfolding acceptanceNumber
+refused-number r = refl
+
+pub accepted-number : 0 ≡ acceptanceNumber Accepted
+unfolding acceptanceNumber
+accepted-number = refl
+
 -- A call with the number 0 is accepted.
 accepted-by : (v : Verdict) → acceptanceNumber v ≡ 0 → v ≡ Accepted
 unfolding acceptanceNumber

@@ -4,18 +4,18 @@ use Prim.Native.Nat.{ℕ}
 use Rattle.chip.specs.Run.{before, run}
 use Rattle.chip.specs.Step.{freshOf}
 use Rattle.chip.specs.declared.Event.the-variants.{Byte}
-use Rattle.chip_core.specs.Effect.{Flash}
+use Rattle.chip_core.specs.Effect.{Memory}
 use Rattle.part.specs.declared.Part.{Part}
 
 pub record Paced : Type 0 where
   pub count : ℕ
-  pub memory : Flash
+  pub memory : Memory
   pub room : List ℕ
 
-abbrev pub paced : ℕ → Flash → List ℕ → Paced
+abbrev pub paced : ℕ → Memory → List ℕ → Paced
 paced n m room = record { count = n; memory = m; room = room }
 
-unfoldable pub pacedOf : Part → List ℕ → Flash → List ℕ → Paced
+unfoldable pub pacedOf : Part → List ℕ → Memory → List ℕ → Paced
 pacedOf p bs m room =
     let o = run p (map Byte bs) (before (freshOf p .chip) m room) in
     paced (o .chip .collector .len) (o .memory) (o .room)

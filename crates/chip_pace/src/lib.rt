@@ -4,7 +4,7 @@ ghost use mathlib.Core.Path.{_≡_};
 ghost use Rattle.chip.specs.Run.{before, run};
 ghost use Rattle.chip.specs.Step.{outcome};
 ghost use Rattle.chip.specs.declared.Event.the-variants.{Byte};
-ghost use Rattle.chip_core.specs.Effect.{flash};
+ghost use Rattle.chip_core.specs.Effect.{memory};
 ghost use Rattle.part_layout.specs.Layout.{partIn};
 ghost use Rattle.chip_pace.specs.Pace.{paced, pacedOf};
 use chip::Answer;
@@ -20,10 +20,11 @@ fn steps(
     bytes: &[u8],
     code: &mut [u8],
     data: &mut [u8],
+    sums: &mut [u16; 72],
     room: &mut [u8],
 ) -> Step
-    ensures { λ r. ⌜ outcome r (flash (now (code .exit)) (now («data» .exit))) (now (room .exit))
-        ≡ run part (map Byte (now (bytes .entry))) (before chip (flash (now (code .entry)) (now («data» .entry))) (now (room .entry))) ⌝ }
+    ensures { λ r. ⌜ outcome r (memory (now (code .exit)) (now («data» .exit)) (now (sums .exit))) (now (room .exit))
+        ≡ run part (map Byte (now (bytes .entry))) (before chip (memory (now (code .entry)) (now («data» .entry)) (now (sums .entry))) (now (room .entry))) ⌝ }
 {
     let mut last = Step {
         answer: Answer::Replied {
@@ -37,7 +38,7 @@ fn steps(
         let b = bytes[i];
         i = i + 1;
         let next = last.chip;
-        last = events::step(part, next, Event::Byte(b), code, data, room);
+        last = events::step(part, next, Event::Byte(b), code, data, sums, room);
     }
     last
 }
@@ -49,15 +50,16 @@ pub extern "C" fn zp_steps(
     bytes: &[u8],
     code: &mut [u8],
     data: &mut [u8],
+    sums: &mut [u16; 72],
     room: &mut [u8],
 ) -> usize
-    ensures { λ r. ⌜ paced r (flash (now (code .exit)) (now («data» .exit))) (now (room .exit))
-        ≡ pacedOf (partIn (now (part .entry))) (now (bytes .entry)) (flash (now (code .entry)) (now («data» .entry)))
+    ensures { λ r. ⌜ paced r (memory (now (code .exit)) (now («data» .exit)) (now (sums .exit))) (now (room .exit))
+        ≡ pacedOf (partIn (now (part .entry))) (now (bytes .entry)) (memory (now (code .entry)) (now («data» .entry)) (now (sums .entry)))
         (now (room .entry)) ⌝ }
 {
     let p = part_layout::part_in(part);
     let first = events::fresh(p);
-    let last = steps(p, first.chip, bytes, code, data, room);
+    let last = steps(p, first.chip, bytes, code, data, sums, room);
     let chip = last.chip;
     let collector = chip.collector;
     collector.len

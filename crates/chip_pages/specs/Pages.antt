@@ -4,13 +4,14 @@ use mathlib.Core.List.{List, []}
 use Prim.Native.Nat.{_+_, ℕ}
 use lib.Dec.{eqb, ltb}
 use lib.ListN.{drop, getD, take}
-use Rattle.chip_core.specs.Effect.{Effect, Flash, awaiting, bytesIn, effect, entered, says, told, withBytes}
+use Rattle.chip_core.specs.Effect.{Effect, Flash, Memory, awaiting, bytesIn, effect, entered, says, told, withBytes, withFlash}
 use Rattle.chip_core.specs.Effect.{acknowledge, parameterError, protectError, verifyError, writeError}
 use Rattle.chip_core.specs.declared.Awaited.{Awaited}
 use Rattle.chip_core.specs.declared.Core.{Core}
 use Rattle.chip_core.specs.declared.Done.{Done}
 use Rattle.chip_core.specs.declared.Phase.the-variants.{Ready}
 use Rattle.chip_flash.specs.Flash.{blank}
+use Rattle.chip_sums.specs.Sums.{resummed}
 use Rattle.frame.specs.Frame.{payload}
 use Rattle.frame.specs.Judgement.{fitting, isGood, judgeOf, statusOf}
 use Rattle.frame.specs.declared.Footer.{Footer}
@@ -62,10 +63,11 @@ nextPage w k = if isLastPage w then ready k else awaiting (w .command) (w .next 
 unfoldable pub storedReply : Awaited → Reply
 storedReply w = if isLastPage w then LastStored else Pair acknowledge acknowledge
 
-unfoldable pub programPage : Core → Awaited → Place → List ℕ → Flash → Effect
-programPage k w at ds m =
-    if not (blank (pageIn at m)) then effect (pair acknowledge writeError (ready k)) m
-    else effect (told (storedReply w) (nextPage w k)) (pageStored at ds m)
+-- The sum of a stored page's block is worked out afresh (document 02, §1).
+unfoldable pub programPage : Part → Core → Awaited → Place → List ℕ → Memory → Effect
+programPage p k w at ds m =
+    if not (blank (pageIn at (m .flash))) then effect (pair acknowledge writeError (ready k)) m
+    else effect (told (storedReply w) (nextPage w k)) (resummed p at (withFlash m (pageStored at ds (m .flash))))
 
 -- 13h: "the second is 06h if equal, else 0Fh and the command is over"
 unfoldable pub verifyPage : Core → Awaited → Place → List ℕ → Flash → Done
@@ -85,14 +87,14 @@ securityData p k ds =
 unfoldable pub badData : Awaited → ℕ → Core → Done
 badData w s k = if eqb (w .command) 0xA0 then says s (ready k) else pair s s (ready k)
 
-unfoldable pub goodData : Part → Core → Awaited → List ℕ → Flash → Effect
+unfoldable pub goodData : Part → Core → Awaited → List ℕ → Memory → Effect
 goodData p k w ds m =
     if eqb (w .command) 0xA0 then effect (securityData p k ds) m
-    else if eqb (w .command) 0x40 then programPage k w (placeOf p (w .next)) ds m
-    else effect (verifyPage k w (placeOf p (w .next)) ds m) m
+    else if eqb (w .command) 0x40 then programPage p k w (placeOf p (w .next)) ds m
+    else effect (verifyPage k w (placeOf p (w .next)) ds (m .flash)) m
 
 -- A complete data frame: footer, SUM, LEN; then the work.
-unfoldable pub dataDoes : Part → Core → Awaited → List ℕ → Flash → Effect
+unfoldable pub dataDoes : Part → Core → Awaited → List ℕ → Memory → Effect
 dataDoes p k w f m =
     let judgement = fitting (lengthOf w) f (judgeOf (footerOf w) f) in
     if not (isGood judgement) then effect (badData w (statusOf judgement) k) m

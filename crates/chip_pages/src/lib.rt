@@ -6,7 +6,7 @@ ghost use Rattle.words.specs.Words.{_and_};
 ghost use Rattle.chip_flash.specs.Flash.{blank};
 ghost use Rattle.chip_options.specs.Options.{goodOptions};
 ghost use Rattle.part.specs.Part.{placeOf};
-ghost use Rattle.chip_core.specs.Effect.{flash, effect};
+ghost use Rattle.chip_core.specs.Effect.{effect, flash, memory};
 ghost use Rattle.chip_pages.specs.Pages.{isLastPage, footerOf, lengthOf, pageIn, pageStored, nextPage, programPage, verifyPage};
 ghost use Rattle.chip_pages.specs.Pages.{securityData, badData, goodData, dataDoes};
 use chip_core::Awaited;
@@ -115,13 +115,15 @@ fn program_page(
     bytes: &[u8],
     code: &mut [u8],
     data: &mut [u8],
+    sums: &mut [u16; 72],
 ) -> Done
-    ensures { λ r. ⌜ effect r (flash (now (code .exit)) (now («data» .exit)))
-        ≡ programPage core w (placeOf part (w .next)) (now (bytes .entry)) (flash (now (code .entry)) (now («data» .entry))) ⌝ }
+    ensures { λ r. ⌜ effect r (memory (now (code .exit)) (now («data» .exit)) (now (sums .exit)))
+        ≡ programPage part core w (placeOf part (w .next)) (now (bytes .entry)) (memory (now (code .entry)) (now («data» .entry)) (now (sums .entry))) ⌝ }
 {
     let place = part.place(w.next);
     if is_blank_page(place, code, data) {
         store_page(place, bytes, code, data);
+        chip_sums::resum(part, place, code, data, sums);
         let after = next_page(w, core);
         if is_last_page(w) {
             return Done {
@@ -230,15 +232,16 @@ fn good_data(
     bytes: &[u8],
     code: &mut [u8],
     data: &mut [u8],
+    sums: &mut [u16; 72],
 ) -> Done
-    ensures { λ r. ⌜ effect r (flash (now (code .exit)) (now («data» .exit)))
-        ≡ goodData part core w (now (bytes .entry)) (flash (now (code .entry)) (now («data» .entry))) ⌝ }
+    ensures { λ r. ⌜ effect r (memory (now (code .exit)) (now («data» .exit)) (now (sums .exit)))
+        ≡ goodData part core w (now (bytes .entry)) (memory (now (code .entry)) (now («data» .entry)) (now (sums .entry))) ⌝ }
 {
     if w.command == 0xA0 {
         return security_data(part, core, bytes);
     }
     if w.command == 0x40 {
-        return program_page(part, core, w, bytes, code, data);
+        return program_page(part, core, w, bytes, code, data, sums);
     }
     verify_page(part, core, w, bytes, code, data)
 }
@@ -251,14 +254,15 @@ pub fn page(
     bytes: &[u8],
     code: &mut [u8],
     data: &mut [u8],
+    sums: &mut [u16; 72],
 ) -> Done
-    ensures { λ r. ⌜ effect r (flash (now (code .exit)) (now («data» .exit)))
-        ≡ dataDoes part core w (now (bytes .entry)) (flash (now (code .entry)) (now («data» .entry))) ⌝ }
+    ensures { λ r. ⌜ effect r (memory (now (code .exit)) (now («data» .exit)) (now (sums .exit)))
+        ≡ dataDoes part core w (now (bytes .entry)) (memory (now (code .entry)) (now («data» .entry)) (now (sums .entry))) ⌝ }
 {
     let footer = footer_of(w);
     let j = judgement::judge_fit(footer, length_of(w), bytes);
     if j.is_good() {
-        return good_data(part, core, w, frame::payload(bytes), code, data);
+        return good_data(part, core, w, frame::payload(bytes), code, data, sums);
     }
     bad_data(core, w, j.status())
 }

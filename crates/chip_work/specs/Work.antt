@@ -1,14 +1,14 @@
 -- The work of each command: document 01, "Commands"; 000, chapter 3. Parameters before protection, then the work.
 use mathlib.Core.Bool.{Bool, false, not}
-use mathlib.Core.List.{List}
-use Prim.Native.Nat.{_%_, _*_, ℕ}
+use Prim.Native.Nat.{_%_, ℕ}
 use lib.Dec.{eqb, ltb}
-use lib.ListN.{drop, take}
-use Rattle.chip_core.specs.Effect.{Effect, Flash, acknowledge, awaiting, bytesIn, effect, notBlank, parameterError, protectError, says, told, withBytes}
+use Rattle.chip_core.specs.Effect.{Effect, Flash, Memory, awaiting, bytesIn, effect, says, told, withBytes, withFlash}
+use Rattle.chip_core.specs.Effect.{acknowledge, notBlank, parameterError, protectError}
 use Rattle.chip_core.specs.declared.Core.{Core}
 use Rattle.chip_core.specs.declared.Done.{Done}
 use Rattle.chip_core.specs.declared.Phase.the-variants.{Ready}
 use Rattle.chip_flash.specs.Flash.{blank, eraseOf, sumOfBytes}
+use Rattle.chip_sums.specs.Sums.{kept, rangeBytes, resummed}
 use Rattle.chip_options.specs.Options.{bootAllowed, eraseAllowed, isFresh, released, writeAllowed}
 use Rattle.part.specs.Part.{blockSize}
 use Rattle.part.specs.Rate.{acceptsRate, modeOf}
@@ -42,16 +42,13 @@ forbidden allowed boot bootFlag = not allowed or boot and not bootFlag
 unfoldable pub erasedIn : Area → ℕ → ℕ → Flash → Flash
 erasedIn a offset n m = withBytes a m (eraseOf (bytesIn a m) offset n .bytes)
 
-unfoldable pub blockErase : Part → Core → Place → Flash → Effect
+-- Its sum is worked out afresh (document 02, §1).
+unfoldable pub blockErase : Part → Core → Place → Memory → Effect
 blockErase p k Outside m = effect (says parameterError k) m
 blockErase p k (In a offset block page) m =
     if not (eqb (offset % blockSize p a) 0) then effect (says parameterError k) m
     else if forbidden (eraseAllowed p (k .options .flags)) (isBoot a block) (bootAllowed p (k .options .flags)) then effect (says protectError k) m
-    else effect (says acknowledge k) (erasedIn a offset (blockSize p a) m)
-
--- The bytes of a good range.
-unfoldable pub rangeBytes : Part → Area → ℕ → ℕ → Flash → List ℕ
-rangeBytes p a block count m = take (count * blockSize p a) (drop (block * blockSize p a) (bytesIn a m))
+    else effect (says acknowledge k) (resummed p (In a offset block page) (withFlash m (erasedIn a offset (blockSize p a) (m .flash))))
 
 -- 32h: "range and D01. 00h: 1Bh unless all FFh. 01h: also unless flags and window are fresh. Other D01: 05h"
 unfoldable pub blankCheck : Part → Core → Range → ℕ → Flash → Done
@@ -74,10 +71,12 @@ unfoldable pub verify : Core → Range → ℕ → ℕ → Done
 verify k Bad start end = says parameterError k
 verify k (Blocks a block count) start end = says acknowledge (awaiting 0x13 start end k)
 
--- B0h: "range; 06h, then a two-byte data frame, low first: 0000h less each byte, 16 bits"
-unfoldable pub checksum : Part → Core → Range → Flash → Done
+-- B0h: "range; 06h, then a two-byte data frame, low first: 0000h less each byte, 16 bits"; "over one block .. the kept sum, right or wrong" (document 02, §1)
+unfoldable pub checksum : Part → Core → Range → Memory → Done
 checksum p k Bad m = says parameterError k
-checksum p k (Blocks a block count) m = told (Sum (sumOfBytes (rangeBytes p a block count m))) k
+checksum p k (Blocks a block count) m =
+    if eqb count 1 then told (Sum (kept (m .sums) a block)) k
+    else told (Sum (sumOfBytes (rangeBytes p a block count (m .flash)))) k
 
 -- A2h: "fresh flags and window"; 10h "if bit 1 or bit 2 is 0. Then A2h answers 1Bh unless all flash is blank."
 unfoldable pub securityRelease : Part → Core → Flash → Done

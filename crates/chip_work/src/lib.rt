@@ -1,4 +1,4 @@
-// The work of each command of document 01, "Commands", on the chip's record and the two areas of flash: parameters before protection, then the work.
+// The work of each command of document 01, "Commands", on the chip's record, the two areas of flash and the kept sums: parameters before protection, then the work.
 // Decisions on numbers come first, flash is lent late.
 ghost use mathlib.Core.Path.{_≡_};
 ghost use Prim.Native.Nat.{_≤_, _+_};
@@ -7,8 +7,9 @@ ghost use lib.Dec.{eqb};
 ghost use Rattle.words.specs.Words.{_and_, _or_};
 ghost use Rattle.chip_flash.specs.Flash.{blank};
 ghost use Rattle.chip_options.specs.Options.{bootAllowed, eraseAllowed};
-ghost use Rattle.chip_core.specs.Effect.{flash, effect, says, awaiting};
-ghost use Rattle.chip_work.specs.Work.{rateSet, isBoot, forbidden, erasedIn, blockErase, rangeBytes, blankCheck, programming, verify, checksum, securityRelease};
+ghost use Rattle.chip_core.specs.Effect.{awaiting, effect, flash, memory, says};
+ghost use Rattle.chip_sums.specs.Sums.{rangeBytes};
+ghost use Rattle.chip_work.specs.Work.{rateSet, isBoot, forbidden, erasedIn, blockErase, blankCheck, programming, verify, checksum, securityRelease};
 use chip_core::Core;
 use chip_core::Done;
 use chip_core::Phase;
@@ -78,9 +79,16 @@ fn erase_in(area: Area, offset: usize, size: usize, code: &mut [u8], data: &mut 
     }
 }
 
-pub fn block_erase(part: Part, core: Core, start: usize, code: &mut [u8], data: &mut [u8]) -> Done
-    ensures { λ r. ⌜ effect r (flash (now (code .exit)) (now («data» .exit)))
-        ≡ blockErase part core (placeOf part start) (flash (now (code .entry)) (now («data» .entry))) ⌝ }
+pub fn block_erase(
+    part: Part,
+    core: Core,
+    start: usize,
+    code: &mut [u8],
+    data: &mut [u8],
+    sums: &mut [u16; 72],
+) -> Done
+    ensures { λ r. ⌜ effect r (memory (now (code .exit)) (now («data» .exit)) (now (sums .exit)))
+        ≡ blockErase part core (placeOf part start) (memory (now (code .entry)) (now («data» .entry)) (now (sums .entry))) ⌝ }
 {
     let place = part.place(start);
     match place {
@@ -105,6 +113,7 @@ pub fn block_erase(part: Part, core: Core, start: usize, code: &mut [u8], data: 
                     };
                 }
                 erase_in(area, offset, size, code, data);
+                chip_sums::resum(part, place, code, data, sums);
                 return Done {
                     reply: Reply::Status(0x06),
                     core,
@@ -222,12 +231,20 @@ pub fn checksum<'a>(
     end: usize,
     code: &'a [u8],
     data: &'a [u8],
+    sums: &[u16; 72],
 ) -> Done
-    ensures { λ r. ⌜ r ≡ checksum part core (rangeOf part start end) (flash (now (code .entry)) (now («data» .entry))) ⌝ }
+    ensures { λ r. ⌜ r ≡ checksum part core (rangeOf part start end) (memory (now (code .entry)) (now («data» .entry)) (now (sums .entry))) ⌝ }
 {
     let range = part.range(start, end);
     match range {
         Range::Blocks { area, block, count } => {
+            if count == 1 {
+                let kept = chip_sums::kept(sums, area, block);
+                return Done {
+                    reply: Reply::Sum(kept),
+                    core,
+                };
+            }
             let sum = chip_flash::sum(range_bytes(part, area, block, count, code, data));
             Done {
                 reply: Reply::Sum(sum),

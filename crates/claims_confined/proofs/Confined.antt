@@ -13,7 +13,7 @@ use Rattle.chip.specs.Step.{Outcome, Reaction, frameDoes, modeByte, silent}
 use Rattle.chip.specs.declared.Event.{Event}
 use Rattle.chip.specs.declared.Event.the-variants.{Byte, Gap, PowerOn}
 use Rattle.chip_commands.specs.Commands.{commandDoes, readingDoes, work}
-use Rattle.chip_core.specs.Effect.{Effect, Flash, bytesIn, effect, told}
+use Rattle.chip_core.specs.Effect.{Effect, Memory, bytesIn, effect, told}
 use Rattle.chip_core.specs.Hearing.{hearing}
 use Rattle.chip_core.specs.declared.Awaited.{Awaited}
 use Rattle.chip_core.specs.declared.Core.{Core}
@@ -35,6 +35,7 @@ use Rattle.claims_fed.specs.Awaits.{AwaitsCommand, aCommand, goodFor, inReady, 
 use Rattle.claims_fed.specs.Fed.{does, doesIn}
 use Rattle.claims_good.proofs.Awaited.{good-walk}
 use Rattle.claims_good.proofs.Core.{core-is}
+use Rattle.chip_sums.proofs.Laws.{resummed-flash}
 use Rattle.claims_good.proofs.Rooms.{leaves, reactionOf}
 use Rattle.claims_good.proofs.Stays.{stays}
 use Rattle.claims_good.specs.Good.{Stands, andEvent}
@@ -61,13 +62,13 @@ use Rattle.part.specs.declared.Range.{Range}
 use Rattle.part.specs.declared.Range.the-variants.{Bad, Blocks}
 use Rattle.words.proofs.Laws.{and-right, if-all}
 
--- What a frame did, from the record k and the flash m, stays with the job.
-record Keeps (j : Job) (k : Core) (m : Flash) (x : Effect) : Type 0 where
-  outside : OutsideSame j m (x .memory)
+-- What a frame did, from the record k and the memory m, stays with the job.
+record Keeps (j : Job) (k : Core) (m : Memory) (x : Effect) : Type 0 where
+  outside : OutsideSame j (m .flash) (x .memory .flash)
   options : x .core .options ≡ k .options
   within : Within j (x .core .phase)
 
-module _ (j : Job) (k : Core) (m : Flash) (d : described (j .part) ≡ true) (now : Within j (k .phase)) where
+module _ (j : Job) (k : Core) (m : Memory) (d : described (j .part) ≡ true) (now : Within j (k .phase)) where
   p : Part
   p = j .part
 
@@ -82,7 +83,7 @@ module _ (j : Job) (k : Core) (m : Flash) (d : described (j .part) ≡ true) (no
   unfolding rateSet
   rate-set rate supply = if-all (λ x. Keeps j k m (effect x m)) _ (λ t. as-was _) (λ t. moved _ _ refl atReady)
 
-  checks : (r : Range) (d01 : ℕ) → Keeps j k m (effect (blankCheck p k r d01 m) m)
+  checks : (r : Range) (d01 : ℕ) → Keeps j k m (effect (blankCheck p k r d01 (m .flash)) m)
   unfolding blankCheck
   checks Bad d01 = as-was _
   checks (Blocks a block count) d01 =
@@ -100,8 +101,8 @@ module _ (j : Job) (k : Core) (m : Flash) (d : described (j .part) ≡ true) (no
         (if-all (Keeps j k m) _ (λ t. as-was _)
         (λ t. if-all (Keeps j k m) _ (λ u. as-was _)
         (λ u. record {
-          outside = put-outside j (areaOf j) (firstOfBlock j b) (firstOfBlock j b - first (areaOf j)) (replicate (sizeOf j) erased) m (omega (arith, i .lies .low)) (i .begins)
-              (omega (arith, n, i .ends, i .long));
+          outside = rw (resummed-flash p) (put-outside j (areaOf j) (firstOfBlock j b) (firstOfBlock j b - first (areaOf j)) (replicate (sizeOf j) erased) (m .flash)
+              (omega (arith, i .lies .low)) (i .begins) (omega (arith, n, i .ends, i .long)));
           options = refl;
           within = now;
         })))
@@ -172,10 +173,10 @@ module _ (j : Job) (k : Core) (m : Flash) (d : described (j .part) ≡ true) (no
         let e : (w .last - first (t .area) + 1) % pageSize ≡ 0 = block-page p (t .area) (w .last - first (t .area) + 1) (g .end) in
         omega (arith, e, g .page, g .order, g .here .low, g .there .low)
 
-    stored : (x : Place) → placeOf p (w .next) ≡ x → (ds : List ℕ) → length ds ≡ 256 → OutsideSame j m (pageStored x ds m)
+    stored : (x : Place) → placeOf p (w .next) ≡ x → (ds : List ℕ) → length ds ≡ 256 → OutsideSame j (m .flash) (pageStored x ds (m .flash))
     unfolding pageStored
     stored Outside e ds l = λ a i o. refl
-    stored (In a offset block page) e ds l = put-outside j a (w .next) offset ds m (place-lies p (w .next) a offset block page e .is) low (omega (arith, page-ends))
+    stored (In a offset block page) e ds l = put-outside j a (w .next) offset ds (m .flash) (place-lies p (w .next) a offset block page e .is) low (omega (arith, page-ends))
 
     data-does : (f : List ℕ) → Keeps j k m (dataDoes p k w f m)
     unfolding dataDoes goodData badData programPage verifyPage
@@ -184,7 +185,7 @@ module _ (j : Job) (k : Core) (m : Flash) (d : described (j .part) ≡ true) (no
         (λ t. if-all (Keeps j k m) _ (λ u. absurd (other (eqb-true _ _ u)))
         (λ u. if-all (Keeps j k m) _
         (λ v. if-all (Keeps j k m) _ (λ x. moved _ _ refl atReady)
-        (λ x. record { outside = stored _ refl (payload f) (page-long w f u (not-false _ t)); options = same-options; within = goes-on }))
+        (λ x. record { outside = rw (resummed-flash p) (stored _ refl (payload f) (page-long w f u (not-false _ t))); options = same-options; within = goes-on }))
         (λ v. if-all (λ x. Keeps j k m (effect x m)) _ (λ x. moved _ _ refl atReady) (λ x. moved _ _ same-options goes-on))))
 
   -- A frame in its phase.
@@ -221,7 +222,7 @@ module _ (j : Job) (o : Outcome) (v : Event) (s : Stands (j .part) o) (w : Withi
   kept x e h =
       let l = leaves (j .part) o v s in
       record {
-        outside = λ a i out. ap (λ (n : Flash). getD (bytesIn a n) i 0) (l .memory ∙ ap (λ (y : Effect). y .memory) e) ∙ h .outside a i out;
+        outside = λ a i out. ap (λ (n : Memory). getD (bytesIn a (n .flash)) i 0) (l .memory ∙ ap (λ (y : Effect). y .memory) e) ∙ h .outside a i out;
         options = ap (λ (c : Core). c .options) (l .core ∙ ap (λ (y : Effect). y .core) e) ∙ h .options;
         within = rw (l .core ∙ ap (λ (y : Effect). y .core) e) (h .within);
       }

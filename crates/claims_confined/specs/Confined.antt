@@ -57,7 +57,7 @@ abbrev pub OutsideSame : Job → Flash → Flash → Type 0
 OutsideSame j m n = (a : Area) (i : ℕ) → inJob j (first a + i) ≡ false → getD (bytesIn a n) i 0 ≡ getD (bytesIn a m) i 0
 
 pub record Confined (j : Job) (o u : Outcome) : Type 0 where
-  pub outside : OutsideSame j (o .memory) (u .memory)
+  pub outside : OutsideSame j (o .memory .flash) (u .memory .flash)
   pub options : u .chip .core .options ≡ o .chip .core .options
   pub within : Within j (u .chip .core .phase)
 

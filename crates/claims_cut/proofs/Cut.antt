@@ -18,12 +18,13 @@ use Rattle.claims_cut.proofs.Put.{put-becomes}
 use Rattle.claims_cut.specs.Cut.{Change, OneEvent, PowerOnKeeps, nothing, oneBlock, onePage}
 use Rattle.claims_good.proofs.Awaited.{Pages, good-walk}
 use Rattle.claims_good.proofs.Core.{core-is}
+use Rattle.chip_sums.proofs.Laws.{resummed-flash}
 use Rattle.claims_good.proofs.Rooms.{leaves, reactionOf}
 use Rattle.chip_state.proofs.Laws.{Accepts, accepts}
 use Rattle.chip_work.specs.Work.{blockErase, erasedIn}
 use Rattle.chip_commands.specs.Commands.{commandDoes, readingDoes, work}
 use Rattle.chip_core.specs.Hearing.{hearing}
-use Rattle.chip_core.specs.Effect.{Effect, Flash, bytesIn, effect}
+use Rattle.chip_core.specs.Effect.{Effect, Memory, bytesIn, effect}
 use Rattle.chip_pages.specs.Pages.{dataDoes, footerOf, goodData, lengthOf, pageIn, pageStored, programPage}
 use Rattle.commands.specs.declared.Command.{Command}
 use Rattle.commands.specs.declared.Command.the-variants.{BlankCheck, BlockErase, Checksum, Programming, RateSet, Reset, Verify}
@@ -52,10 +53,10 @@ use Rattle.part.specs.declared.Place.the-variants.{In, Outside}
 use Rattle.words.proofs.Laws.{and-right, if-all}
 use Rattle.words.specs.Words.{if_then_else_}
 
-record Does (p : Part) (m : Flash) (x : Effect) : Type 0 where
+record Does (p : Part) (m : Memory) (x : Effect) : Type 0 where
   change : Change p m (x .memory)
 
-stays-so : {p : Part} (m : Flash) (d : Done) → Does p m (effect d m)
+stays-so : {p : Part} (m : Memory) (d : Done) → Does p m (effect d m)
 stays-so m d = record { change = nothing refl }
 
 -- A block that begins in its area ends in it.
@@ -88,7 +89,7 @@ page-long w f n g =
     let e : length f ≡ lengthOf w + 4 = fitting-long (lengthOf w) f (judgeOf (footerOf w) f) g in
     omega (arith, payload-long f)
 
-module _ (p : Part) (k : Core) (m : Flash) (long : (a : Area) → length (bytesIn a m) ≡ size p a) where
+module _ (p : Part) (k : Core) (m : Memory) (long : (a : Area) → length (bytesIn a (m .flash)) ≡ size p a) where
   erases : (at : ℕ) (x : Place) → placeOf p at ≡ x → Does p m (blockErase p k x m)
   unfolding blockErase erasedIn eraseOf
   erases at Outside e = stays-so m _
@@ -99,7 +100,7 @@ module _ (p : Part) (k : Core) (m : Flash) (long : (a : Area) → length (bytesI
       let z : offset % blockSize p a ≡ 0 = eqb-true _ _ (not-false _ t) in
       let n : length (replicate (blockSize p a) erased) ≡ blockSize p a = length-replicate {A = ℕ} (blockSize p a) erased in
       let i = block-inside p at a offset block page (place-lies p at a offset block page e) z in
-      record { change = oneBlock a offset z (put-becomes a offset (replicate (blockSize p a) erased) m (omega (arith, long a))) }))
+      record { change = oneBlock a offset z (rw (resummed-flash p) (put-becomes a offset (replicate (blockSize p a) erased) (m .flash) (omega (arith, long a)))) }))
 
   works : (c : Command) → Does p m (work c p k m)
   unfolding work
@@ -127,11 +128,11 @@ module _ (p : Part) (k : Core) (m : Flash) (long : (a : Area) → length (bytesI
 
   -- The page is stored where all was FFh, or nothing is.
   programs : (w : Awaited) (a : Area) (offset block page : ℕ) (ds : List ℕ) → offset % pageSize ≡ 0 → offset + 256 ≤ size p a → length ds ≡ 256
-      → Does p m (programPage k w (In a offset block page) ds m)
+      → Does p m (programPage p k w (In a offset block page) ds m)
   unfolding programPage pageIn pageStored
   programs w a offset block page ds z i n =
       if-all (Does p m) _ (λ t. stays-so m _)
-      (λ t. record { change = onePage a offset ds z n (not-false _ t) (put-becomes a offset ds m (omega (arith, long a))) })
+      (λ t. record { change = onePage a offset ds z n (not-false _ t) (rw (resummed-flash p) (put-becomes a offset ds (m .flash) (omega (arith, long a)))) })
 
   module _ (part : described p ≡ true) (w : Awaited) (awaited : goodAwaited p w ≡ true) where
     -- A page that is awaited lies in its area.
@@ -142,7 +143,7 @@ module _ (p : Part) (k : Core) (m : Flash) (long : (a : Area) → length (bytesI
         let e : (w .last - first a + 1) % pageSize ≡ 0 = block-page p a (w .last - first a + 1) (g .end) in
         omega (arith, e, g .page, g .order, g .here .low, g .there .low, g .there .high)
 
-    page-does : eqb (w .command) 0xA0 ≡ false → (ds : List ℕ) → length ds ≡ 256 → Does p m (programPage k w (placeOf p (w .next)) ds m)
+    page-does : eqb (w .command) 0xA0 ≡ false → (ds : List ℕ) → length ds ≡ 256 → Does p m (programPage p k w (placeOf p (w .next)) ds m)
     unfolding placeIn
     page-does n ds e =
         let s = good-walk p w awaited n in
@@ -164,14 +165,14 @@ module _ (p : Part) (k : Core) (m : Flash) (long : (a : Area) → length (bytesI
   frame-does (Awaiting w) d e g = data-does d w e g
 
 -- The same of a reaction.
-record DoesSo (p : Part) (m : Flash) (x : Reaction) : Type 0 where
+record DoesSo (p : Part) (m : Memory) (x : Reaction) : Type 0 where
   change : Change p m (x .does .memory)
 
-heard-does : (p : Part) (k : Core) (m : Flash) (hs : List ℕ) (x : Effect) → Does p m x → DoesSo p m (heardByte hs x k m)
+heard-does : (p : Part) (k : Core) (m : Memory) (hs : List ℕ) (x : Effect) → Does p m x → DoesSo p m (heardByte hs x k m)
 unfolding heardByte
 heard-does p k m hs x d = if-all (DoesSo p m) _ (λ t. record { change = d .change }) (λ t. record { change = nothing refl })
 
-byte-does : (p : Part) (k : Core) (m : Flash) (f : Phase) (hs : List ℕ) (b : ℕ) → ((a : Area) → length (bytesIn a m) ≡ size p a) → described p ≡ true
+byte-does : (p : Part) (k : Core) (m : Memory) (f : Phase) (hs : List ℕ) (b : ℕ) → ((a : Area) → length (bytesIn a (m .flash)) ≡ size p a) → described p ≡ true
     → goodPhase p f ≡ true → DoesSo p m (byteIn (hearing f) p k hs b m)
 unfolding byteIn hearing
 byte-does p k m ModeByte hs b l d g = record { change = nothing refl }
@@ -179,7 +180,7 @@ byte-does p k m Setup hs b l d g = heard-does p k m _ _ (frame-does p k m l Setu
 byte-does p k m Ready hs b l d g = heard-does p k m _ _ (frame-does p k m l Ready d g _)
 byte-does p k m (Awaiting w) hs b l d g = heard-does p k m _ _ (frame-does p k m l (Awaiting w) d g _)
 
-reaction-does : (p : Part) (k : Core) (m : Flash) (hs : List ℕ) (v : Event) → ((a : Area) → length (bytesIn a m) ≡ size p a) → described p ≡ true
+reaction-does : (p : Part) (k : Core) (m : Memory) (hs : List ℕ) (v : Event) → ((a : Area) → length (bytesIn a (m .flash)) ≡ size p a) → described p ≡ true
     → goodPhase p (k .phase) ≡ true → DoesSo p m (reactTo v p k hs m)
 unfolding reactTo
 reaction-does p k m hs (Byte b) l d g = byte-does p k m (k .phase) hs b l d g
@@ -193,8 +194,8 @@ one-event p o v s q =
     let g = core-is p (o .chip .core) (and-right _ _ (a .state)) in
     rw (leaves p o v s .memory) (reaction-does p (o .chip .core) (o .memory) (heard (o .chip .collector)) v (lengths a) (a .part) (g .phase) .change)
   where
-    lengths : Accepts p (o .chip .core) (handedWith (o .chip .collector) (length (o .memory .codeFlash)) (length (o .memory .dataFlash)) (length (o .room)))
-        → (a : Area) → length (bytesIn a (o .memory)) ≡ size p a
+    lengths : Accepts p (o .chip .core) (handedWith (o .chip .collector) (length (o .memory .flash .codeFlash)) (length (o .memory .flash .dataFlash)) (length (o .room)))
+        → (a : Area) → length (bytesIn a (o .memory .flash)) ≡ size p a
     lengths c CodeFlash = c .codeLong
     lengths c DataFlash = c .dataLong
 

@@ -9,7 +9,7 @@ use Rattle.chip.specs.Step.{Outcome, poweredOn}
 use Rattle.chip.specs.declared.Event.{Event}
 use Rattle.chip.specs.declared.Event.the-variants.{PowerOn}
 use Rattle.claims_good.specs.Good.{Proper, Stands}
-use Rattle.chip_core.specs.Effect.{Flash, bytesIn}
+use Rattle.chip_core.specs.Effect.{Flash, Memory, bytesIn}
 use Rattle.chip_flash.specs.Flash.{blank, erased}
 use Rattle.part.specs.Part.{blockSize, pageSize}
 use Rattle.part.specs.declared.Area.{Area}
@@ -28,18 +28,18 @@ pub record Becomes (a : Area) (at : ℕ) (ds : List ℕ) (m n : Flash) : Type 0 
   pub past : (i : ℕ) → at + length ds ≤ i → getD (bytesIn a n) i 0 ≡ getD (bytesIn a m) i 0
   pub other : bytesIn (otherArea a) n ≡ bytesIn (otherArea a) m
 
--- Nothing; or one whole block, from its first byte, is FFh now; or one whole page, from its first byte, holds 256 bytes where all were FFh.
-pub data Change (p : Part) (m n : Flash) : Type 0 where
+-- Nothing, of the kept sums neither; or one whole block, from its first byte, is FFh now; or one whole page, from its first byte, holds 256 bytes where all were FFh.
+pub data Change (p : Part) (m n : Memory) : Type 0 where
   nothing : n ≡ m → Change p m n
-  oneBlock : (a : Area) (at : ℕ) → at % blockSize p a ≡ 0 → Becomes a at (replicate (blockSize p a) erased) m n → Change p m n
-  onePage : (a : Area) (at : ℕ) (ds : List ℕ) → at % pageSize ≡ 0 → length ds ≡ pageSize → blank (take pageSize (drop at (bytesIn a m))) ≡ true
-      → Becomes a at ds m n → Change p m n
+  oneBlock : (a : Area) (at : ℕ) → at % blockSize p a ≡ 0 → Becomes a at (replicate (blockSize p a) erased) (m .flash) (n .flash) → Change p m n
+  onePage : (a : Area) (at : ℕ) (ds : List ℕ) → at % pageSize ≡ 0 → length ds ≡ pageSize → blank (take pageSize (drop at (bytesIn a (m .flash)))) ≡ true
+      → Becomes a at ds (m .flash) (n .flash) → Change p m n
 
--- No event does more to flash.
+-- No event does more.
 abbrev pub OneEvent : Type 0
 OneEvent = (p : Part) (o : Outcome) (v : Event) → Stands p o → Proper v → Change p (o .memory) (onward p o v .memory)
 
--- "Power-on .. keeps flash and options, and returns to the first phase." The rate is 00h then.
+-- "Power-on .. keeps flash and options, and returns to the first phase." The kept sums stay, and the rate is 00h then.
 pub record Kept (o u : Outcome) : Type 0 where
   pub memory : u .memory ≡ o .memory
   pub core : u .chip .core ≡ poweredOn (o .chip .core)

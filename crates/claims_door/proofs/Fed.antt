@@ -27,7 +27,7 @@ use Rattle.chip_layout.proofs.Laws.{chip-accepts, chip-in-is}
 use Rattle.chip_layout.specs.Admission.{chipAcceptance}
 use Rattle.replay_door.specs.Calls.{replayTold, replayedBy, replayedThrough}
 use Rattle.chip_layout.specs.Layout.{chipIn, collectorIn, stateSize}
-use Rattle.chip_core.specs.Effect.{Flash}
+use Rattle.chip_core.specs.Effect.{Memory}
 use Rattle.frame.proofs.Laws.Sum.{Below, below-drop, below-take, more}
 use Rattle.frame.specs.Collector.{heard}
 use Rattle.frame.specs.Framing.{frames}
@@ -41,7 +41,7 @@ use Rattle.part.specs.declared.refusal.Verdict.the-variants.{Accepted}
 use Rattle.part.specs.declared.refusal.Verdict.the-variants as Verdict
 use Rattle.words.proofs.Laws.{if-all}
 
-replied-not-refused : (u : Verdict) (p : Part) (x : Reaction) (c : Chip) (m : Flash) (room : List ℕ) → u ≡ Accepted → replies (settled u p x c m room .answer) ≡ true
+replied-not-refused : (u : Verdict) (p : Part) (x : Reaction) (c : Chip) (m : Memory) (room : List ℕ) → u ≡ Accepted → replies (settled u p x c m room .answer) ≡ true
 unfolding settled replies
 replied-not-refused Accepted p x c m room e = refl
 replied-not-refused (Verdict.Refused r) p x c m room e = absurd (let z : _≡_ {A = ℕ} 0 1 = cc in omega arith)
@@ -72,7 +72,7 @@ unfolding feedOf replies
 feed-fine p bs o s b e = feed-unrefused p 0 bs o s b (ap replies e)
 
 -- What is lent as bytes makes a state that stands, where it is accepted.
-stands : (part state : List ℕ) (m : Flash) (room : List ℕ) → Below 256 state → length state ≡ stateSize
+stands : (part state : List ℕ) (m : Memory) (room : List ℕ) → Below 256 state → length state ≡ stateSize
     → verdictIn (partIn part) (before (chipIn state) m room) ≡ Accepted → Stands (partIn part) (before (chipIn state) m room)
 unfolding collectorIn
 stands part state m room b l e =
@@ -84,25 +84,25 @@ stands part state m room b l e =
     }
 
 -- An event that is accepted is answered by a reply.
-pub accepted-replies : (p : Part) (v : Event) (state : List ℕ) (m : Flash) (room : List ℕ)
-    → chipAcceptance p state (length (m .codeFlash)) (length (m .dataFlash)) (length room) ≡ Accepted → replies (stepOf p (chipIn state) v m room .answer) ≡ true
+pub accepted-replies : (p : Part) (v : Event) (state : List ℕ) (m : Memory) (room : List ℕ)
+    → chipAcceptance p state (length (m .flash .codeFlash)) (length (m .flash .dataFlash)) (length room) ≡ Accepted → replies (stepOf p (chipIn state) v m room .answer) ≡ true
 unfolding stepOf
 accepted-replies p v state m room e =
     let c = chipIn state in
-    replied-not-refused (verdictOn p c (length (m .codeFlash)) (length (m .dataFlash)) (length room)) p (reactTo v p (c .core) (heard (c .collector)) m) c m room
-    (chip-accepts p state (length (m .codeFlash)) (length (m .dataFlash)) (length room) e)
+    replied-not-refused (verdictOn p c (length (m .flash .codeFlash)) (length (m .flash .dataFlash)) (length room)) p (reactTo v p (c .core) (heard (c .collector)) m) c m room
+    (chip-accepts p state (length (m .flash .codeFlash)) (length (m .flash .dataFlash)) (length room) e)
 
 -- So is every byte of a stretch.
-pub accepted-feed-replies : (part bs state : List ℕ) (m : Flash) (room : List ℕ) → Below 256 state → Below 256 bs → length state ≡ stateSize
-    → chipAcceptance (partIn part) state (length (m .codeFlash)) (length (m .dataFlash)) (length room) ≡ Accepted
+pub accepted-feed-replies : (part bs state : List ℕ) (m : Memory) (room : List ℕ) → Below 256 state → Below 256 bs → length state ≡ stateSize
+    → chipAcceptance (partIn part) state (length (m .flash .codeFlash)) (length (m .flash .dataFlash)) (length room) ≡ Accepted
     → replies (feedOf (partIn part) bs (before (chipIn state) m room) .left .answer) ≡ true
 accepted-feed-replies part bs state m room b c l e =
     feed-fine (partIn part) bs (before (chipIn state) m room)
-    (stands part state m room b l (chip-accepts (partIn part) state (length (m .codeFlash)) (length (m .dataFlash)) (length room) e)) c refl
+    (stands part state m room b l (chip-accepts (partIn part) state (length (m .flash .codeFlash)) (length (m .flash .dataFlash)) (length room) e)) c refl
 
 -- A replay that is refused before its first record plays none and keeps everything.
-pub refused-replay-keeps : (p : Part) (capture told state : List ℕ) (m : Flash) (room output : List ℕ) (r : Refusal)
-    → chipAcceptance p state (length (m .codeFlash)) (length (m .dataFlash)) (length room) ≡ Verdict.Refused r
+pub refused-replay-keeps : (p : Part) (capture told state : List ℕ) (m : Memory) (room output : List ℕ) (r : Refusal)
+    → chipAcceptance p state (length (m .flash .codeFlash)) (length (m .flash .dataFlash)) (length room) ≡ Verdict.Refused r
     → replayedThrough p capture told state m room output ≡ replayTold (number r) told state m room output
 unfolding replayedThrough replayedBy
 refused-replay-keeps p capture told state m room output r e = rw e

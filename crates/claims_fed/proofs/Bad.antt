@@ -1,4 +1,4 @@
--- What a frame does that is not good: it is blamed, flash stays, and a command that awaited data is over.
+-- What a frame does that is not good: it is blamed, flash and sums stay, and a command that awaited data is over.
 -- Assumes nothing.
 use mathlib.Core.Bool.{Bool, false, false≢true, not, true}
 use mathlib.Core.List.{List, [], _∷_, append-nil}
@@ -13,7 +13,7 @@ use Rattle.claims_fed.specs.Awaits.{AwaitsFrame, aCommand, aPage, awaits
 use Rattle.chip_commands.specs.Commands.{allowedIn, commandDoes, readingDoes}
 use Rattle.commands.specs.Commands.{readCommand}
 use Rattle.chip_core.specs.Hearing.{hearing}
-use Rattle.chip_core.specs.Effect.{Flash, commandError, effect, says}
+use Rattle.chip_core.specs.Effect.{Memory, commandError, effect, says}
 use Rattle.chip_pages.specs.Pages.{badData, dataDoes, footerOf, goodData, lengthOf, pair, ready}
 use Rattle.chip_core.specs.declared.Awaited.{Awaited}
 use Rattle.chip_core.specs.declared.Core.{Core}
@@ -34,22 +34,22 @@ blamed WrongFooter e = is15h
 blamed WrongSum e = is07h
 blamed UnfitLength e = is15h
 
-says-one : (p : Part) (k : Core) (m : Flash) (s : ℕ) → utteranceOf p (reaction [] (effect (says s k) m)) ≡ saysFrame (s ∷ [])
+says-one : (p : Part) (k : Core) (m : Memory) (s : ℕ) → utteranceOf p (reaction [] (effect (says s k) m)) ≡ saysFrame (s ∷ [])
 unfolding utteranceOf payloads framesOf
 says-one p k m s = rw append-nil
 
-says-pair : (p : Part) (k : Core) (m : Flash) (s : ℕ) → utteranceOf p (reaction [] (effect (pair s s k) m)) ≡ saysFrame (s ∷ s ∷ [])
+says-pair : (p : Part) (k : Core) (m : Memory) (s : ℕ) → utteranceOf p (reaction [] (effect (pair s s k) m)) ≡ saysFrame (s ∷ s ∷ [])
 unfolding utteranceOf payloads framesOf
 says-pair p k m s = rw append-nil
 
-bad-command : (f : Phase) (p : Part) (k : Core) (m : Flash) (g : List ℕ) → goodFor aCommand g ≡ false
+bad-command : (f : Phase) (p : Part) (k : Core) (m : Memory) (g : List ℕ) → goodFor aCommand g ≡ false
     → commandDoes p k g m ≡ effect (says (statusOf (judgeOf Last g)) k) m
 unfolding commandDoes goodFor if_then_else_
 bad-command f p k m g e =
     let rest = if not (allowedIn (k .phase) (getD (payload g) 0 0)) then effect (says commandError k) m else readingDoes (readCommand (payload g)) p k m in
     ap (λ (t : Bool). if not t then effect (says (statusOf (judgeOf Last g)) k) m else rest) e
 
-bad-data : (p : Part) (k : Core) (w : Awaited) (m : Flash) (g : List ℕ) → goodFor (aPage (footerOf w) (lengthOf w)) g ≡ false
+bad-data : (p : Part) (k : Core) (w : Awaited) (m : Memory) (g : List ℕ) → goodFor (aPage (footerOf w) (lengthOf w)) g ≡ false
     → dataDoes p k w g m ≡ effect (badData w (statusOf (fitting (lengthOf w) g (judgeOf (footerOf w) g))) k) m
 unfolding dataDoes goodFor if_then_else_
 bad-data p k w m g e =
@@ -57,7 +57,7 @@ bad-data p k w m g e =
     let b : isGood j ≡ false = e in
     ap (λ (t : Bool). if not t then effect (badData w (statusOf j) k) m else goodData p k w (payload g) m) b
 
-data-blamed : (p : Part) (k : Core) (w : Awaited) (m : Flash) (s : ℕ) → Blame s → BadDoes (Awaiting w) p k m (effect (badData w s k) m)
+data-blamed : (p : Part) (k : Core) (w : Awaited) (m : Memory) (s : ℕ) → Blame s → BadDoes (Awaiting w) p k m (effect (badData w s k) m)
 unfolding badData badCore if_then_else_
 data-blamed p k w m s b = go (eqb (w .command) 0xA0)
   where
@@ -79,7 +79,7 @@ data-blamed p k w m s b = go (eqb (w .command) 0xA0)
           utters = says-so (eqb (w .command) 0xA0);
         }
 
-pub bad-frame-does : (f : Phase) (p : Part) (k : Core) (m : Flash) (g : List ℕ) → AwaitsFrame f → goodFor (awaitsIn f) g ≡ false → BadDoes f p k m (does f p k m g)
+pub bad-frame-does : (f : Phase) (p : Part) (k : Core) (m : Memory) (g : List ℕ) → AwaitsFrame f → goodFor (awaitsIn f) g ≡ false → BadDoes f p k m (does f p k m g)
 unfolding does frameDoes hearing badCore goodFor
 bad-frame-does f p k m g (command inSetup) e =
     rw (bad-command Setup p k m g e)

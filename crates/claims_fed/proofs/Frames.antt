@@ -18,7 +18,7 @@ use Rattle.claims_good.specs.Good.{AllProper, Stands, Utterance, aByte, andEven
 use Rattle.claims_fed.proofs.Steps.{Stepped, frameDone, onlyHeard, stepped}
 use Rattle.claims_fed.specs.Fed.{FedIsDone, does, doesIn, silence}
 use Rattle.claims_fed.specs.Awaits.{AwaitsFrame, eventOf, headerIn}
-use Rattle.chip_core.specs.Effect.{Effect, Flash}
+use Rattle.chip_core.specs.Effect.{Effect, Memory}
 use Rattle.chip_core.specs.declared.Core.{Core}
 use Rattle.frame.proofs.Laws.Collector.{heard-none}
 use Rattle.frame.proofs.Laws.Frame.{counted-some}
@@ -67,14 +67,14 @@ same-idle e nothing = refl
 same-idle e (header x) = absurd (let z : _≡_ {A = ℕ} 0 1 = cc in omega arith)
 same-idle e (some x l rest n k m) = absurd (let z : _≡_ {A = ℕ} 0 1 = cc in omega arith)
 
-silent-says : (p : Part) (k : Core) (m : Flash) → utteranceOf p (reaction [] (silent k m)) ≡ silence
+silent-says : (p : Part) (k : Core) (m : Memory) → utteranceOf p (reaction [] (silent k m)) ≡ silence
 unfolding utteranceOf payloads framesOf
 silent-says p k m = refl
 
 pub no-frame : (f : List ℕ) (fs : List (List ℕ)) → _≡_ {A = List (List ℕ)} [] (f ∷ fs) → ⊥
 no-frame f fs e = let z : _≡_ {A = ℕ} 0 1 = cc in omega arith
 
-pub does-same : (p : Part) (f : List ℕ) {k l : Core} {m n : Flash} → k ≡ l → m ≡ n → doesIn p f k m ≡ doesIn p f l n
+pub does-same : (p : Part) (f : List ℕ) {k l : Core} {m n : Memory} → k ≡ l → m ≡ n → doesIn p f k m ≡ doesIn p f l n
 does-same p f e g = rw (e, g)
 
 -- A sound that completes the frame f.

@@ -15,7 +15,7 @@ use Rattle.claims_good.proofs.Rooms.{leaves, reactionOf, says-reaction, utteran
 use Rattle.claims_good.specs.Good.{Stands, uttered}
 use Rattle.claims_fed.specs.Awaits.{AwaitsFrame, command, eventOf, headerIn, inReady, inSetup, page}
 use Rattle.chip_core.specs.Hearing.{hearing}
-use Rattle.chip_core.specs.Effect.{Effect, Flash}
+use Rattle.chip_core.specs.Effect.{Effect, Memory}
 use Rattle.chip_core.specs.declared.Core.{Core}
 use Rattle.chip_core.specs.declared.Phase.{Phase}
 use Rattle.chip_core.specs.declared.Phase.the-variants.{Awaiting, Ready, Setup}
@@ -27,14 +27,14 @@ use Rattle.part.specs.declared.Part.{Part}
 use Rattle.words.specs.Words.{if_then_else_}
 
 -- What a chip makes of what its collector has: x is what a complete frame does.
-byTaken : List (List ℕ) → (List ℕ → Effect) → Core → Flash → List ℕ → Reaction
+byTaken : List (List ℕ) → (List ℕ → Effect) → Core → Memory → List ℕ → Reaction
 byTaken [] x k m hs = reaction hs (silent k m)
 byTaken (f ∷ fs) x k m hs = reaction hs (x f)
 
-collectedBy : (List ℕ → Effect) → Core → Flash → Collected → Reaction
+collectedBy : (List ℕ → Effect) → Core → Memory → Collected → Reaction
 collectedBy x k m c = byTaken (c .taken) x k m (c .holds)
 
-heard-collects : (hs : List ℕ) (x : List ℕ → Effect) (k : Core) (m : Flash) → heardByte hs (x hs) k m ≡ collectedBy x k m (take-up hs)
+heard-collects : (hs : List ℕ) (x : List ℕ → Effect) (k : Core) (m : Memory) → heardByte hs (x hs) k m ≡ collectedBy x k m (take-up hs)
 unfolding heardByte take-up if_then_else_ collectedBy byTaken
 heard-collects hs x k m = go (complete hs)
   where
@@ -43,14 +43,14 @@ heard-collects hs x k m = go (complete hs)
     go true = refl
     go false = refl
 
-byte-collects : (f : Phase) (p : Part) (k : Core) (hs : List ℕ) (m : Flash) (b : ℕ) → AwaitsFrame f
+byte-collects : (f : Phase) (p : Part) (k : Core) (hs : List ℕ) (m : Memory) (b : ℕ) → AwaitsFrame f
     → byteIn (hearing f) p k hs b m ≡ collectedBy (does f p k m) k m (collectsOn (headerIn f) hs (byte b))
 unfolding byteIn hearing collectsOn does
 byte-collects f p k hs m b (command inSetup) = heard-collects (hear Command hs b) (does Setup p k m) k m
 byte-collects f p k hs m b (command inReady) = heard-collects (hear Command hs b) (does Ready p k m) k m
 byte-collects f p k hs m b (page w) = heard-collects (hear Data hs b) (does (Awaiting w) p k m) k m
 
-react-collects : (p : Part) (k : Core) (hs : List ℕ) (m : Flash) (v : Sound) → AwaitsFrame (k .phase)
+react-collects : (p : Part) (k : Core) (hs : List ℕ) (m : Memory) (v : Sound) → AwaitsFrame (k .phase)
     → reactTo (eventOf v) p k hs m ≡ collectedBy (does (k .phase) p k m) k m (collectsOn (headerIn (k .phase)) hs v)
 unfolding reactTo collectsOn collectedBy byTaken
 react-collects p k hs m gap a = refl

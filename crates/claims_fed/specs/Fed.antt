@@ -9,7 +9,7 @@ use Rattle.chip.specs.Step.{Outcome, frameDoes, reaction}
 use Rattle.chip.specs.declared.Answer.the-variants.{Replied}
 use Rattle.chip.specs.declared.Event.the-variants.{Byte}
 use Rattle.chip_core.specs.Hearing.{hearing}
-use Rattle.chip_core.specs.Effect.{Effect, Flash}
+use Rattle.chip_core.specs.Effect.{Effect, Memory}
 use Rattle.chip_core.specs.declared.Core.{Core}
 use Rattle.chip_core.specs.declared.Phase.{Phase}
 use Rattle.chip_core.specs.declared.Phase.the-variants.{Awaiting, ModeByte, Ready, Setup}
@@ -22,11 +22,11 @@ use Rattle.part.specs.declared.Part.{Part}
 use Rattle.words.specs.Words.{if_then_else_}
 
 -- A frame does its work in its phase.
-unfoldable pub does : Phase → Part → Core → Flash → List ℕ → Effect
+unfoldable pub does : Phase → Part → Core → Memory → List ℕ → Effect
 does f p k m g = frameDoes (hearing f) p k g m
 
 -- What a frame does in a state.
-unfoldable pub doesIn : Part → List ℕ → Core → Flash → Effect
+unfoldable pub doesIn : Part → List ℕ → Core → Memory → Effect
 doesIn p f k m = does (k .phase) p k m f
 
 -- A byte that is only heard is answered by nothing.
@@ -64,7 +64,7 @@ badCore Setup k = k
 badCore Ready k = k
 badCore (Awaiting w) k = ready k
 
-pub record BadDoes (f : Phase) (p : Part) (k : Core) (m : Flash) (x : Effect) : Type 0 where
+pub record BadDoes (f : Phase) (p : Part) (k : Core) (m : Memory) (x : Effect) : Type 0 where
   pub core : x .core ≡ badCore f k
   pub memory : x .memory ≡ m
   pub status : ℕ

@@ -12,7 +12,9 @@ use Rattle.claims_good.proofs.Awaited.{next-awaited, pagesOf, range-awa
 use Rattle.claims_good.proofs.Core.{GoodCore, enters, made-ready}
 use Rattle.chip_work.specs.Work.{blankCheck, blockErase, checksum, erasedIn, programming, rateSet, securityRelease, verify}
 use Rattle.chip_commands.specs.Commands.{commandDoes, readingDoes, work}
-use Rattle.chip_core.specs.Effect.{Effect, Flash, bytesIn, effect, entered, withBytes}
+use Rattle.chip_core.specs.Effect.{Effect, Flash, Memory, bytesIn, effect, entered, withBytes, withFlash}
+use Rattle.chip_sums.proofs.Laws.{resummed-flash}
+use Rattle.chip_sums.specs.Sums.{resummed}
 use Rattle.chip_pages.specs.Pages.{badData, dataDoes, goodData, nextPage, pageStored, programPage, securityData, verifyPage}
 use Rattle.commands.specs.declared.Command.{Command}
 use Rattle.commands.specs.declared.Command.the-variants.{BlankCheck, BlockErase, Checksum, Programming, RateSet, Reset, SecurityGet, SecurityRelease, SecuritySet, SignatureGet, Verify}
@@ -37,13 +39,13 @@ use Rattle.part.specs.declared.Range.the-variants.{Bad, Blocks}
 use Rattle.words.proofs.Laws.{and-left, if-all}
 use Rattle.words.specs.Words.{_or_}
 
-pub record Keeps (p : Part) (m : Flash) (x : Effect) : Type 0 where
+pub record Keeps (p : Part) (m : Memory) (x : Effect) : Type 0 where
   pub good : GoodCore p (x .core)
-  pub code : length (x .memory .codeFlash) ≡ length (m .codeFlash)
-  pub extra : length (x .memory .dataFlash) ≡ length (m .dataFlash)
+  pub code : length (x .memory .flash .codeFlash) ≡ length (m .flash .codeFlash)
+  pub extra : length (x .memory .flash .dataFlash) ≡ length (m .flash .dataFlash)
 
 -- Flash stays, and the record is good.
-pub stays-so : {p : Part} (m : Flash) {d : Done} → GoodCore p (d .core) → Keeps p m (effect d m)
+pub stays-so : {p : Part} (m : Memory) {d : Done} → GoodCore p (d .core) → Keeps p m (effect d m)
 stays-so m g = record { good = g; code = refl; extra = refl }
 
 record GoodDone (p : Part) (d : Done) : Type 0 where
@@ -52,13 +54,16 @@ record GoodDone (p : Part) (d : Done) : Type 0 where
 done-so : {p : Part} {d : Done} → GoodCore p (d .core) → GoodDone p d
 done-so g = record { good = g }
 
-done-keeps : {p : Part} (m : Flash) {d : Done} → GoodDone p d → Keeps p m (effect d m)
+done-keeps : {p : Part} (m : Memory) {d : Done} → GoodDone p d → Keeps p m (effect d m)
 done-keeps m g = stays-so m (g .good)
 
-with-bytes : {p : Part} {d : Done} (a : Area) (m : Flash) (l : List ℕ) → GoodCore p (d .core) → length l ≡ length (bytesIn a m)
-    → Keeps p m (effect d (withBytes a m l))
+with-bytes : {p : Part} {d : Done} (a : Area) (m : Memory) (l : List ℕ) → GoodCore p (d .core) → length l ≡ length (bytesIn a (m .flash))
+    → Keeps p m (effect d (withFlash m (withBytes a (m .flash) l)))
 with-bytes CodeFlash m l g e = record { good = g; code = e; extra = refl }
 with-bytes DataFlash m l g e = record { good = g; code = refl; extra = e }
+
+sum-keeps : {p : Part} {m n : Memory} {d : Done} (at : Place) → Keeps p m (effect d n) → Keeps p m (effect d (resummed p at n))
+sum-keeps {p} {m} {n} at g = record { good = g .good; code = rw (resummed-flash p at n) (g .code); extra = rw (resummed-flash p at n) (g .extra) }
 
 module _ (p : Part) (k : Core) (part : described p ≡ true) (good : GoodCore p k) where
   rate-set : (rate supply : ℕ) → GoodDone p (rateSet p k rate supply)
@@ -67,12 +72,13 @@ module _ (p : Part) (k : Core) (part : described p ≡ true) (good : GoodCore p 
       if-all (GoodDone p) _ (λ t. done-so good)
       (λ t. done-so (record { rate = leb-true _ _ (and-left _ _ (not-false _ t)); options = good .options; phase = refl }))
 
-  erase : (at : Place) (m : Flash) → Keeps p m (blockErase p k at m)
+  erase : (at : Place) (m : Memory) → Keeps p m (blockErase p k at m)
   unfolding blockErase erasedIn
   erase Outside m = stays-so m good
   erase (In a offset block page) m =
       if-all (Keeps p m) _ (λ t. stays-so m good)
-      (λ t. if-all (Keeps p m) _ (λ u. stays-so m good) (λ u. with-bytes a m _ good (erase-of-long (bytesIn a m) offset (blockSize p a))))
+      (λ t. if-all (Keeps p m) _ (λ u. stays-so m good)
+      (λ u. sum-keeps (In a offset block page) (with-bytes a m _ good (erase-of-long (bytesIn a (m .flash)) offset (blockSize p a)))))
 
   check : (r : Range) (d01 : ℕ) (m : Flash) → GoodDone p (blankCheck p k r d01 m)
   unfolding blankCheck
@@ -95,10 +101,10 @@ module _ (p : Part) (k : Core) (part : described p ≡ true) (good : GoodCore p 
   verifies Bad start end e = done-so good
   verifies (Blocks a block count) start end e = done-so (awaits (pagesOf 0x13 start end) (range-awaited p 0x13 start end a block count part refl e))
 
-  sums : (r : Range) (m : Flash) → GoodDone p (checksum p k r m)
+  sums : (r : Range) (m : Memory) → GoodDone p (checksum p k r m)
   unfolding checksum
   sums Bad m = done-so good
-  sums (Blocks a block count) m = done-so good
+  sums (Blocks a block count) m = if-all (GoodDone p) _ (λ t. done-so good) (λ t. done-so good)
 
   releases : (m : Flash) → GoodDone p (securityRelease p k m)
   unfolding securityRelease
@@ -107,27 +113,27 @@ module _ (p : Part) (k : Core) (part : described p ≡ true) (good : GoodCore p 
       (λ t. if-all (GoodDone p) _ (λ u. done-so good)
       (λ u. done-so (record { rate = good .rate; options = released-good p (k .options) part (good .options); phase = good .phase })))
 
-  works : (c : Command) (m : Flash) → Keeps p m (work c p k m)
+  works : (c : Command) (m : Memory) → Keeps p m (work c p k m)
   unfolding work
   works (RateSet rate supply) m = done-keeps m (rate-set _ _)
   works Reset m = stays-so m good
   works (BlockErase start) m = erase _ m
-  works (BlankCheck start end d01) m = done-keeps m (check _ _ m)
+  works (BlankCheck start end d01) m = done-keeps m (check _ _ (m .flash))
   works (Programming start end) m = done-keeps m (program _ _ _ refl)
   works (Verify start end) m = done-keeps m (verifies _ _ _ refl)
   works (Checksum start end) m = done-keeps m (sums _ m)
   works SignatureGet m = stays-so m good
   works SecurityGet m = stays-so m good
   works SecuritySet m = stays-so m (awaits (pagesOf 0xA0 0 0) (security-awaited p))
-  works SecurityRelease m = done-keeps m (releases m)
+  works SecurityRelease m = done-keeps m (releases (m .flash))
 
-  reading-keeps : (r : Reading) (m : Flash) → Keeps p m (readingDoes r p k m)
+  reading-keeps : (r : Reading) (m : Memory) → Keeps p m (readingDoes r p k m)
   unfolding readingDoes
   reading-keeps Unknown m = stays-so m good
   reading-keeps UnfitLen m = stays-so m good
   reading-keeps (Meant c) m = works c m
 
-  pub command-keeps : (f : List ℕ) (m : Flash) → Keeps p m (commandDoes p k f m)
+  pub command-keeps : (f : List ℕ) (m : Memory) → Keeps p m (commandDoes p k f m)
   unfolding commandDoes
   command-keeps f m = if-all (Keeps p m) _ (λ t. stays-so m good) (λ t. if-all (Keeps p m) _ (λ u. stays-so m good) (λ u. reading-keeps _ m))
 
@@ -137,14 +143,14 @@ module _ (p : Part) (k : Core) (part : described p ≡ true) (good : GoodCore p 
     unfolding nextPage
     goes-on n = if-all (GoodCore p) _ (λ t. made-ready good) (λ t. awaits _ (next-awaited p w part awaited n t))
 
-    put-page : (at : Place) (ds : List ℕ) (m : Flash) {d : Done} → GoodCore p (d .core) → Keeps p m (effect d (pageStored at ds m))
+    put-page : (at : Place) (ds : List ℕ) (m : Memory) {d : Done} → GoodCore p (d .core) → Keeps p m (effect d (withFlash m (pageStored at ds (m .flash))))
     unfolding pageStored
-    put-page Outside ds m g = stays-so m g
-    put-page (In a offset block page) ds m g = with-bytes a m _ g (put-long (bytesIn a m) offset ds refl)
+    put-page Outside ds m g = record { good = g; code = refl; extra = refl }
+    put-page (In a offset block page) ds m g = with-bytes a m _ g (put-long (bytesIn a (m .flash)) offset ds refl)
 
-    programs : eqb (w .command) 0xA0 ≡ false → (at : Place) (ds : List ℕ) (m : Flash) → Keeps p m (programPage k w at ds m)
+    programs : eqb (w .command) 0xA0 ≡ false → (at : Place) (ds : List ℕ) (m : Memory) → Keeps p m (programPage p k w at ds m)
     unfolding programPage
-    programs n at ds m = if-all (Keeps p m) _ (λ t. stays-so m (made-ready good)) (λ t. put-page at ds m (goes-on n))
+    programs n at ds m = if-all (Keeps p m) _ (λ t. stays-so m (made-ready good)) (λ t. sum-keeps at (put-page at ds m (goes-on n)))
 
     compares : eqb (w .command) 0xA0 ≡ false → (at : Place) (ds : List ℕ) (m : Flash) → GoodDone p (verifyPage k w at ds m)
     unfolding verifyPage
@@ -161,9 +167,9 @@ module _ (p : Part) (k : Core) (part : described p ≡ true) (good : GoodCore p 
     unfolding badData
     bad-keeps s = if-all (GoodDone p) _ (λ t. done-so (made-ready good)) (λ t. done-so (made-ready good))
 
-    pub data-keeps : (f : List ℕ) (m : Flash) → Keeps p m (dataDoes p k w f m)
+    pub data-keeps : (f : List ℕ) (m : Memory) → Keeps p m (dataDoes p k w f m)
     unfolding dataDoes goodData
     data-keeps f m =
         if-all (Keeps p m) _ (λ t. done-keeps m (bad-keeps _))
         (λ t. if-all (Keeps p m) _ (λ u. done-keeps m (secures _))
-        (λ u. if-all (Keeps p m) _ (λ v. programs u _ _ m) (λ v. done-keeps m (compares u _ _ m))))
+        (λ u. if-all (Keeps p m) _ (λ v. programs u _ _ m) (λ v. done-keeps m (compares u _ _ (m .flash)))))

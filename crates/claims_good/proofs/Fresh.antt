@@ -14,8 +14,8 @@ use Rattle.claims_good.proofs.Core.{GoodCore, is-core}
 use Rattle.chip_state.proofs.Laws.{accepted}
 use Rattle.part.specs.Part.{Arrays, blockSize, described, size}
 use Rattle.claims_good.specs.Good.{Stands}
-use Rattle.claims_stars.specs.Table.{thePart}
-use Rattle.chip_core.specs.Effect.{Flash, flash}
+use Rattle.claims_stars.specs.Table.{freshMemory, thePart}
+use Rattle.chip_core.specs.Effect.{Memory}
 use Rattle.chip_core.specs.Hearing.{hearing}
 use Rattle.chip_core.specs.declared.Core.{Core}
 use Rattle.frame.proofs.Laws.Sum.{Below, more, none}
@@ -31,8 +31,8 @@ below-zeros zero = none
 below-zeros (suc n) = more {b = 0} (omega arith) (below-zeros n)
 
 -- Nothing collected, and a good record.
-pub new-stands : (p : Part) (k : Core) (m : Flash) (room : List ℕ) → described p ≡ true → Arrays p → GoodCore p k → length (m .codeFlash) ≡ size p CodeFlash
-    → length (m .dataFlash) ≡ size p DataFlash → 32 ≤ length room → Stands p (before (record { core = k; collector = fresh }) m room)
+pub new-stands : (p : Part) (k : Core) (m : Memory) (room : List ℕ) → described p ≡ true → Arrays p → GoodCore p k → length (m .flash .codeFlash) ≡ size p CodeFlash
+    → length (m .flash .dataFlash) ≡ size p DataFlash → 32 ≤ length room → Stands p (before (record { core = k; collector = fresh }) m room)
 unfolding fresh goodState
 new-stands p k m room d n g c e r =
     record {
@@ -49,21 +49,18 @@ new-stands p k m room d n g c e r =
       arrays = n;
     }
 
-pub fresh-stands : (p : Part) (m : Flash) (room : List ℕ) → described p ≡ true → Arrays p → length (m .codeFlash) ≡ size p CodeFlash
-    → length (m .dataFlash) ≡ size p DataFlash → 32 ≤ length room → Stands p (before (freshChip p) m room)
+pub fresh-stands : (p : Part) (m : Memory) (room : List ℕ) → described p ≡ true → Arrays p → length (m .flash .codeFlash) ≡ size p CodeFlash
+    → length (m .flash .dataFlash) ≡ size p DataFlash → 32 ≤ length room → Stands p (before (freshChip p) m room)
 unfolding freshChip goodPhase
 fresh-stands p m room d n c e r = new-stands p _ m room d n (record { rate = omega arith; options = fresh-good p d; phase = refl }) c e r
 
--- The part of the examples, erased.
-pub erasedFlash : Flash
-erasedFlash = flash (replicate 16384 0xFF) (replicate 4096 0xFF)
-
+-- The part of the examples.
 pub the-part-is : described thePart ≡ true
 unfolding described _from_to_ _and_
 the-part-is = refl
 
-pub the-part-stands : Stands thePart (before (freshChip thePart) erasedFlash (replicate 32 0x00))
-unfolding blockSize erasedFlash
+pub the-part-stands : Stands thePart (before (freshChip thePart) freshMemory (replicate 32 0x00))
+unfolding blockSize
 the-part-stands =
-    fresh-stands thePart erasedFlash (replicate 32 0x00) the-part-is (record { deviceLong = refl; nameLong = refl; versionLong = refl }) (length-replicate {A = ℕ} 16384 0xFF)
+    fresh-stands thePart freshMemory (replicate 32 0x00) the-part-is (record { deviceLong = refl; nameLong = refl; versionLong = refl }) (length-replicate {A = ℕ} 16384 0xFF)
     (length-replicate {A = ℕ} 4096 0xFF) (omega (arith, length-replicate {A = ℕ} 32 0x00))

@@ -13,7 +13,7 @@ use Rattle.chip.specs.declared.Event.{Event}
 use Rattle.claims_good.proofs.Stays.{onward-is, stays}
 use Rattle.chip_state.proofs.Laws.{accepted, accepts}
 use Rattle.claims_good.specs.Good.{Alike, AllAnswered, AllProper, Answered, SameChip, SameStep, Stands, Utterance, andAnswer, andEvent, noAnswer, noEvent, uttered}
-use Rattle.chip_core.specs.Effect.{Flash}
+use Rattle.chip_core.specs.Effect.{Memory}
 use Rattle.chip_core.specs.declared.Core.{Core}
 use Rattle.frame.proofs.Laws.Collector.{heard-holding}
 use Rattle.frame.specs.Collector.{heard, holding}
@@ -29,7 +29,7 @@ utteranceOf p x =
     let rs = payloads p (x .does .core .options) (x .does .reply) in
     record { answer = Replied (length (framesOf rs)) (length rs); bytes = framesOf rs }
 
-settled-utters : (p : Part) (x : Reaction) (c : Chip) (m : Flash) (room : List ℕ) → 32 ≤ length room
+settled-utters : (p : Part) (x : Reaction) (c : Chip) (m : Memory) (room : List ℕ) → 32 ≤ length room
     → uttered (spokenIn (settled Accepted p x c m room)) ≡ utteranceOf p x
 unfolding settled utteranceOf
 settled-utters p x c m room h =
@@ -57,7 +57,7 @@ pub record Leaves (p : Part) (o : Outcome) (v : Event) : Type 0 where
   pub hears : heard (onward p o v .chip .collector) ≡ reactionOf p o v .hears
   pub count : onward p o v .chip .collector .len ≡ length (reactionOf p o v .hears)
 
-settled-leaves : (p : Part) (x : Reaction) (c : Chip) (m : Flash) (r : List ℕ)
+settled-leaves : (p : Part) (x : Reaction) (c : Chip) (m : Memory) (r : List ℕ)
     → let u = settled Accepted p x c m r in
     (u .chip .core ≡ x .does .core) × (u .memory ≡ x .does .memory) × (heard (u .chip .collector) ≡ x .hears) × (u .chip .collector .len ≡ length (x .hears))
 unfolding settled holding
@@ -93,10 +93,10 @@ unfolding answers
 never-refused p [] o s noEvent = noAnswer
 never-refused p (v ∷ vs) o s (andEvent h q) = andAnswer (answered p o v s) (never-refused p vs (onward p o v) (stays p o v s h) q)
 
-react-same : {k l : Core} {hs is : List ℕ} {m n : Flash} (v : Event) (p : Part) → k ≡ l → hs ≡ is → m ≡ n → reactTo v p k hs m ≡ reactTo v p l is n
+react-same : {k l : Core} {hs is : List ℕ} {m n : Memory} (v : Event) (p : Part) → k ≡ l → hs ≡ is → m ≡ n → reactTo v p k hs m ≡ reactTo v p l is n
 react-same v p e f g = rw (e, f, g)
 
-settled-alike : (p : Part) (x : Reaction) (c d : Chip) (m n : Flash) (r s : List ℕ) → Alike (settled Accepted p x c m r) (settled Accepted p x d n s)
+settled-alike : (p : Part) (x : Reaction) (c d : Chip) (m n : Memory) (r s : List ℕ) → Alike (settled Accepted p x c m r) (settled Accepted p x d n s)
 unfolding settled holding
 settled-alike p x c d m n r s =
     record { core = refl; count = refl; hears = heard-holding (c .collector) (x .hears) ∙ sym (heard-holding (d .collector) (x .hears)); memory = refl }
@@ -134,7 +134,7 @@ stands-anywhere p o u s e r =
       arrays = s .arrays;
     }
 
-settled-same : (p : Part) (x y : Reaction) (c d : Chip) (m n : Flash) (r s : List ℕ) → c ≡ d → x ≡ y
+settled-same : (p : Part) (x y : Reaction) (c d : Chip) (m n : Memory) (r s : List ℕ) → c ≡ d → x ≡ y
     → SameChip (settled Accepted p x c m r) (settled Accepted p y d n s)
 unfolding settled
 settled-same p x y c d m n r s e f = record { chip = rw (e, f); memory = rw f }

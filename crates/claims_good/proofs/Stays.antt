@@ -18,7 +18,7 @@ use Rattle.claims_good.proofs.Effects.{Keeps, command-keeps, data-keeps
 use Rattle.chip_state.proofs.Laws.{accepted, accepts, begun}
 use Rattle.claims_good.specs.Good.{AllProper, Proper, Stands, aByte, aGap, aPowerOn, andEvent, verdictIn}
 use Rattle.chip_core.specs.Hearing.{hearing}
-use Rattle.chip_core.specs.Effect.{Effect, Flash}
+use Rattle.chip_core.specs.Effect.{Effect, Memory}
 use Rattle.chip_core.specs.declared.Core.{Core}
 use Rattle.chip_core.specs.declared.Phase.{Phase}
 use Rattle.chip_core.specs.declared.Phase.the-variants.{Awaiting, ModeByte, Ready, Setup}
@@ -38,13 +38,13 @@ use Rattle.chip_reply.specs.Reply.{payloads, saidOf}
 use Rattle.words.proofs.Laws.{and-both, and-left, and-right, if-all}
 
 -- What a reaction leaves makes a good state again.
-record Reacts (p : Part) (c : Collector) (m : Flash) (x : Reaction) : Type 0 where
+record Reacts (p : Part) (c : Collector) (m : Memory) (x : Reaction) : Type 0 where
   keeps : Keeps p m (x .does)
   holds : Holds c (x .hears)
   collected :
       goodCollected (hearing (x .does .core .phase)) (holding c (x .hears) .len) (getD (holding c (x .hears) .bytes) 0 0) (getD (holding c (x .hears) .bytes) 1 0) ≡ true
 
-module _ (p : Part) (c : Collector) (m : Flash) (k : Core) (places : length (c .bytes) ≡ 260) (bytes : Below 256 (c .bytes)) (part : described p ≡ true)
+module _ (p : Part) (c : Collector) (m : Memory) (k : Core) (places : length (c .bytes) ≡ 260) (bytes : Below 256 (c .bytes)) (part : described p ≡ true)
     (good : GoodCore p k)
     (now : goodCollected (hearing (k .phase)) (c .len) (getD (c .bytes) 0 0) (getD (c .bytes) 1 0) ≡ true) where
   -- Nothing is collected.

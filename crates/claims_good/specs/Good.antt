@@ -19,7 +19,7 @@ use Rattle.part.specs.declared.refusal.Verdict.the-variants.{Accepted}
 
 -- The verdict on a call with what an outcome left: its chip, its flash and its room.
 abbrev pub verdictIn : Part → Outcome → Verdict
-verdictIn p o = verdictOn p (o .chip) (length (o .memory .codeFlash)) (length (o .memory .dataFlash)) (length (o .room))
+verdictIn p o = verdictOn p (o .chip) (length (o .memory .flash .codeFlash)) (length (o .memory .flash .dataFlash)) (length (o .room))
 
 -- None of the refusals 1, 2, 3, 9 and 4 is given. The rest holds of all that the language can hand in: the collector's array has 260 places, each a
 -- byte, and the description's arrays have their lengths.

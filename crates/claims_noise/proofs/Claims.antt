@@ -24,7 +24,7 @@ use Rattle.claims_fed.specs.Awaits.{AwaitsCommand, AwaitsFrame, command, eventO
 use Rattle.claims_noise.specs.Noise.{dataCompleted, empty, thenGap, thenPowerOn}
 use Rattle.chip_core.specs.Hearing.{hearing}
 use Rattle.chip_core.specs.declared.Hearing.the-variants.{HearsCommands}
-use Rattle.chip_core.specs.Effect.{Flash}
+use Rattle.chip_core.specs.Effect.{Memory}
 use Rattle.chip_pages.specs.Pages.{ready}
 use Rattle.chip_core.specs.declared.Awaited.{Awaited}
 use Rattle.chip_core.specs.declared.Core.{Core}
@@ -45,7 +45,7 @@ command-left k vs a = go (k .phase) a
     go f inSetup = refl
     go f inReady = refl
 
--- Where a command is over, flash is as it was, the pages stored earlier included.
+-- Where a command is over, flash is as it was, the pages stored earlier included, and so are the sums.
 over-memory : (o : Outcome) → commandOver o .memory ≡ o .memory
 unfolding commandOver
 over-memory o = refl
@@ -59,8 +59,8 @@ over-stands p o s n =
       accepted =
           accepted (record {
             part = a .part;
-            codeLong = ap (λ (m : Flash). length (m .codeFlash)) (over-memory o) ∙ a .codeLong;
-            dataLong = ap (λ (m : Flash). length (m .dataFlash)) (over-memory o) ∙ a .dataLong;
+            codeLong = ap (λ (m : Memory). length (m .flash .codeFlash)) (over-memory o) ∙ a .codeLong;
+            dataLong = ap (λ (m : Memory). length (m .flash .dataFlash)) (over-memory o) ∙ a .dataLong;
             state = and-both (rw n (none-good HearsCommands _ _)) (is-core (made-ready (core-is p (o .chip .core) (and-right _ _ (a .state)))));
             roomy = a .roomy;
           });

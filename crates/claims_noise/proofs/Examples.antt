@@ -27,10 +27,11 @@ use Rattle.claims_noise.specs.Noise.{allows, completesOnly, dataComplete
 use Rattle.claims_stars.specs.Table.{readyChip, thePart}
 use Rattle.chip_commands.specs.Commands.{commandDoes}
 use Rattle.chip_core.specs.Hearing.{hearing}
-use Rattle.chip_core.specs.Effect.{Flash}
+use Rattle.chip_core.specs.Effect.{Memory}
 use Rattle.chip_core.specs.declared.Phase.{Phase}
 use Rattle.chip_core.specs.declared.Phase.the-variants.{Awaiting, Ready}
 use Rattle.chip_pages.specs.Pages.{badData, dataDoes, footerOf, goodData, isLastPage, lengthOf, nextPage, pageIn, pageStored, programPage, storedReply}
+use Rattle.chip_sums.specs.Sums.{resummed}
 use Rattle.chip_flash.specs.Flash.{blank}
 use Rattle.frame.proofs.Laws.Sum.{Below, more, none}
 use Rattle.frame.specs.Collector.{fresh, hear, heard, holding}
@@ -184,8 +185,8 @@ page-changed =
     }
 
 -- So the one changed byte keeps the page out: unchanged it is stored at 0500h, changed it is not, and it is blamed.
-pub page-stored : getD (runBy stepOf thePart (map Byte pageFrame) writingChip .memory .codeFlash) 0x0500 0 ≡ 0xAA
-unfolding runBy pageFrame dataDoes goodData payload programPage pageIn pageStored blank allAre putOf putAt nextPage storedReply badData fitting footerOf
+pub page-stored : getD (runBy stepOf thePart (map Byte pageFrame) writingChip .memory .flash .codeFlash) 0x0500 0 ≡ 0xAA
+unfolding runBy pageFrame dataDoes goodData payload programPage pageIn pageStored resummed blank allAre putOf putAt nextPage storedReply badData fitting footerOf
     lengthOf isLastPage goodAwaited goodPlaces stepOf settled verdictOf firstOf described _from_to_ _and_ _or_ if_then_else_ goodState goodCollected goodBegun
     goodCore goodOptions fixedBits goodPhase lastBlock freshOptions fresh heard holding hear complete full counted isFrame reactTo byteIn hearing heardByte
     frameDoes commandDoes judgeOf summed sumOf lessAll less placeOf liesIn placeIn blockOf pageOf blockSize saidOf framesOf framed payloads
@@ -194,9 +195,9 @@ page-stored = refl
 pub page-changed-is-bad : IsBad stepOf thePart writingChip (set pageFrame 259 0x03)
 page-changed-is-bad = one-byte-changed thePart writingChip pageFrame 259 0x03 (page secondPage) page-changed
 
-pub page-changed-not-stored : getD (runBy stepOf thePart (map Byte (set pageFrame 259 0x03)) writingChip .memory .codeFlash) 0x0500 0 ≡ 0xFF
+pub page-changed-not-stored : getD (runBy stepOf thePart (map Byte (set pageFrame 259 0x03)) writingChip .memory .flash .codeFlash) 0x0500 0 ≡ 0xFF
 unfolding commandOver
-page-changed-not-stored = ap (λ (m : Flash). getD (m .codeFlash) 0x0500 0) (sym (page-changed-is-bad .leaves .now .memory))
+page-changed-not-stored = ap (λ (m : Memory). getD (m .flash .codeFlash) 0x0500 0) (sym (page-changed-is-bad .leaves .now .memory))
 
 -- Something was collected: three bytes of a frame, half of a page.
 record Begun (o : Outcome) (f : Phase) (bs : List ℕ) : Type 0 where

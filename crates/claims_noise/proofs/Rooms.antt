@@ -12,7 +12,7 @@ use Rattle.chip.specs.Run.{Spoken, answers, onward, run, spokenIn}
 use Rattle.chip.specs.Step.{Outcome, Reaction, reactTo, settled, stepOf}
 use Rattle.chip.specs.declared.Answer.the-variants.{Refused}
 use Rattle.chip.specs.declared.Event.{Event}
-use Rattle.chip_core.specs.Effect.{Flash}
+use Rattle.chip_core.specs.Effect.{Memory}
 use Rattle.chip_core.specs.declared.Core.{Core}
 use Rattle.chip_state.proofs.Laws.{Accepts, accepts}
 use Rattle.chip_state.specs.Refusals.{verdictOf}
@@ -76,7 +76,7 @@ unfolding Lives
 lives p o u s c m = with-room p o u s c m (replicate 32 0) (omega (arith, length-replicate {A = ℕ} 32 0))
 
 -- The answer and the room are those of the reaction, whatever chip it was.
-settled-spoken : (p : Part) (x y : Reaction) (c d : Chip) (m n : Flash) (room : List ℕ) → x ≡ y
+settled-spoken : (p : Part) (x y : Reaction) (c d : Chip) (m n : Memory) (room : List ℕ) → x ≡ y
     → spokenIn (settled Accepted p x c m room) ≡ spokenIn (settled Accepted p y d n room)
 unfolding settled
 settled-spoken p x y c d m n room e = rw e

@@ -16,7 +16,7 @@ use Rattle.chip.specs.declared.Event.the-variants.{Byte, Gap, PowerOn}
 use Rattle.claims_good.specs.Good.{Alike, AllProper, Stands, Utterance, uttered}
 use Rattle.claims_noise.specs.Noise.{Allowed, completesOnly, dataCompleted, noFrame, only, thenAwaits, thenGap, thenPowerOn}
 use Rattle.claims_fed.specs.Awaits.{Awaits, AwaitsCommand, AwaitsFrame, awaitsIn, eventOf, goodFor, headerOf}
-use Rattle.chip_core.specs.Effect.{Flash, flash}
+use Rattle.chip_core.specs.Effect.{Memory, memory}
 use Rattle.chip_pages.specs.Pages.{ready}
 use Rattle.chip_core.specs.declared.Awaited.{Awaited}
 use Rattle.chip_core.specs.declared.Phase.{Phase}
@@ -31,7 +31,7 @@ use Rattle.words.specs.Words.{if_then_else_}
 
 -- A chip, its runs, and what it says to each event.
 abbrev pub Machine : Type 0
-Machine = Part → Chip → Event → Flash → List ℕ → Outcome
+Machine = Part → Chip → Event → Memory → List ℕ → Outcome
 
 abbrev pub onwardBy : Machine → Part → Outcome → Event → Outcome
 onwardBy M p o v = M p (o .chip) v (o .memory) (o .room)
@@ -64,8 +64,9 @@ answersBy M p (c ∷ cs) o = spokenIn (calledBy M p o c) ∷ answersBy M p cs (c
 abbrev pub eventsIn : List ChipCall → List Event
 eventsIn cs = map (λ c. c .event) cs
 
--- u is as if it were o: flash, options, rate and phase are the same, and nothing more or else is collected; "every later event gets the answer" that o
--- would give, whatever room is lent for each, and every byte of each room is the same; after any later events flash, options, rate and phase are those of o.
+-- u is as if it were o: flash, the kept sums (right or wrong), options, rate and phase are the same, and nothing more or else is collected; "every later event
+-- gets the answer" that o would give, whatever room is lent for each, and every byte of each room is the same; after any later events flash, sums, options, rate
+-- and phase are those of o.
 pub record AsIf (M : Machine) (p : Part) (o u : Outcome) : Type 0 where
   pub now : Alike o u
   pub answers : (cs : List ChipCall) → AllProper (eventsIn cs) → answersBy M p cs o ≡ answersBy M p cs u
@@ -102,13 +103,13 @@ abbrev pub NoiseAtCommand : Machine → Type 0
 NoiseAtCommand M =
     (p : Part) (o : Outcome) (vs : List Sound) → AwaitsCommand (o .chip .core .phase) → Noise noFrame p o vs → AsIf M p o (runBy M p (thenGap vs) o)
 
--- "the command is over, and the chip awaits a command": flash (pages stored earlier included), options and rate are as before.
+-- "the command is over, and the chip awaits a command": flash (pages stored earlier included), sums, options and rate are as before.
 unfoldable pub commandOver : Outcome → Outcome
 commandOver o =
     record {
       answer = o .answer;
       chip = record { core = ready (o .chip .core); collector = o .chip .collector };
-      memory = flash (o .memory .codeFlash) (o .memory .dataFlash);
+      memory = memory (o .memory .flash .codeFlash) (o .memory .flash .dataFlash) (o .memory .sums);
       room = o .room;
     }
 

@@ -6,8 +6,7 @@ use Rattle.chip.specs.Run.{before, run}
 use Rattle.chip.specs.Step.{Outcome}
 use Rattle.chip.specs.declared.Event.the-variants.{Byte}
 use Rattle.claims_good.specs.Good.{Utterance}
-use Rattle.claims_stars.specs.Table.{readyChip, thePart}
-use Rattle.chip_core.specs.Effect.{flash}
+use Rattle.claims_stars.specs.Table.{freshMemory, readyChip, thePart}
 use Rattle.chip_core.specs.declared.Awaited.{Awaited}
 use Rattle.chip_core.specs.declared.Phase.the-variants.{Awaiting}
 use Rattle.frame.specs.Collector.{fresh}
@@ -28,8 +27,7 @@ secondPage = record { command = 0x40; next = 0x0500; last = 0x07FF }
 
 abbrev pub writingChip : Outcome
 writingChip =
-    before (record { core = record { options = freshOptions thePart; rate = 0x00; phase = Awaiting secondPage }; collector = fresh })
-    (flash (replicate 16384 0xFF) (replicate 4096 0xFF)) (replicate 32 0x00)
+    before (record { core = record { options = freshOptions thePart; rate = 0x00; phase = Awaiting secondPage }; collector = fresh }) freshMemory (replicate 32 0x00)
 
 -- A page cut short: header, LEN 00h and half of the 256 bytes.
 unfoldable pub cutPage : List Sound

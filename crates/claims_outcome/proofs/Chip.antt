@@ -3,7 +3,7 @@
 use mathlib.Core.Path.{_∙_, sym}
 use denote.Ref.{now}
 use Rattle.chip.specs.Step.{outcome}
-use Rattle.chip_core.specs.Effect.{flash}
+use Rattle.chip_core.specs.Effect.{memory}
 use Rattle.claims_outcome.proofs.Outcome.{Once}
 use Rattle.chip.proofs.events.fresh.Reads as events-fresh
 use Rattle.chip.proofs.events.fresh.Kinds as events-fresh-kinds
@@ -13,5 +13,5 @@ use Rattle.chip.proofs.events.step.Kinds as events-step-kinds
 pub events-fresh-once : Once events-fresh-kinds.ps events-fresh-kinds.r events-fresh.Post (λ κs r x. r)
 events-fresh-once κs a r s x y p q = p ∙ sym q
 
-pub events-step-once : Once events-step-kinds.ps events-step-kinds.r events-step.Post (λ κs r x. outcome r (flash (now (x .1 .1 .1 .0)) (now (x .1 .1 .1 .1 .0))) (now (x .1 .1 .1 .1 .1 .0)))
+pub events-step-once : Once events-step-kinds.ps events-step-kinds.r events-step.Post (λ κs r x. outcome r (memory (now (x .1 .1 .1 .0)) (now (x .1 .1 .1 .1 .0)) (now (x .1 .1 .1 .1 .1 .0))) (now (x .1 .1 .1 .1 .1 .1 .0)))
 events-step-once κs a r s x y p q = p ∙ sym q

@@ -2,7 +2,7 @@
 -- Assumes nothing.
 use mathlib.Core.Path.{_∙_, sym}
 use denote.Ref.{now}
-use Rattle.chip_core.specs.Effect.{effect, flash}
+use Rattle.chip_core.specs.Effect.{effect, memory}
 use Rattle.claims_outcome.proofs.Outcome.{Once}
 use Rattle.chip_work.proofs.rate_set.Reads as rate-set
 use Rattle.chip_work.proofs.rate_set.Kinds as rate-set-kinds
@@ -22,7 +22,7 @@ use Rattle.chip_work.proofs.release.Kinds as release-kinds
 pub rate-set-once : Once rate-set-kinds.ps rate-set-kinds.r rate-set.Post (λ κs r x. r)
 rate-set-once κs a r s x y p q = p ∙ sym q
 
-pub block-erase-once : Once block-erase-kinds.ps block-erase-kinds.r block-erase.Post (λ κs r x. effect r (flash (now (x .1 .1 .1 .0)) (now (x .1 .1 .1 .1 .0))))
+pub block-erase-once : Once block-erase-kinds.ps block-erase-kinds.r block-erase.Post (λ κs r x. effect r (memory (now (x .1 .1 .1 .0)) (now (x .1 .1 .1 .1 .0)) (now (x .1 .1 .1 .1 .1 .0))))
 block-erase-once κs a r s x y p q = p ∙ sym q
 
 pub blank-check-once : Once blank-check-kinds.ps blank-check-kinds.r blank-check.Post (λ κs r x. r)

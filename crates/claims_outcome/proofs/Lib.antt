@@ -11,6 +11,7 @@ pub mod ChipPace
 pub mod ChipPages
 pub mod ChipReply
 pub mod ChipState
+pub mod ChipSums
 pub mod ChipWork
 pub mod Commands
 pub mod Dock

@@ -2,13 +2,13 @@
 -- Assumes nothing.
 use mathlib.Core.Path.{_∙_, sym}
 use denote.Ref.{now}
-use Rattle.chip_core.specs.Effect.{flash}
+use Rattle.chip_core.specs.Effect.{memory}
 use Rattle.replay_door.specs.Calls.{replayTold}
 use Rattle.claims_outcome.proofs.Outcome.{Once}
 use Rattle.replay_door.proofs.zc_replay.Reads as zc-replay
 use Rattle.replay_door.proofs.zc_replay.Kinds as zc-replay-kinds
 
 pub zc-replay-once : Once zc-replay-kinds.ps zc-replay-kinds.r zc-replay.Post
-    (λ κs r x. replayTold r (now (x .1 .1 .1 .1 .1 .1 .1 .0)) (now (x .1 .0)) (flash (now (x .1 .1 .1 .0)) (now (x .1 .1 .1 .1 .0))) (now (x .1 .1 .1 .1 .1 .0))
-    (now (x .1 .1 .1 .1 .1 .1 .0)))
+    (λ κs r x. replayTold r (now (x .1 .1 .1 .1 .1 .1 .1 .1 .0)) (now (x .1 .0)) (memory (now (x .1 .1 .1 .0)) (now (x .1 .1 .1 .1 .0)) (now (x .1 .1 .1 .1 .1 .0))) (now (x .1 .1 .1 .1 .1 .1 .0))
+    (now (x .1 .1 .1 .1 .1 .1 .1 .0)))
 zc-replay-once κs a r s x y p q = p ∙ sym q

@@ -1,5 +1,5 @@
 -- The rehearsal, by plain computation on the definitions: the dock's frames, fed to the chip byte by byte after a gap, and the chip's replies, handed to
--- the dock, finish the job; the image is in place, all other flash as it was, and the frames are counted.
+-- the dock, finish the job; the image is in place, all other flash as it was, the kept sums are those of flash, and the frames are counted.
 -- Assumes nothing.
 use mathlib.Core.Bool.{true}
 use mathlib.Core.List.{_++_}
@@ -9,11 +9,12 @@ use Rattle.dock_answer.specs.Answer.{carriedBy, deciding, exactly, matching, ra
 use Rattle.chip.specs.Step.{byteIn, frameDoes, heardByte, modeByte, reactTo, settled, stepOf}
 use Rattle.chip_state.specs.Refusals.{goodAwaited, goodBegun, goodCollected, goodCore, goodPhase, goodPlaces, goodState, verdictOf}
 use Rattle.claims_rehearsal.specs.Cable.{cable, exchange, speaks}
-use Rattle.claims_rehearsal.specs.Rehearsal.{finishedAfter, holds, Remains, remains, remainsOf, mixed, oldCode, oldData, readyAt, rehearsalImage, rehearsed, rehearsedData, theChip, theDataImage}
+use Rattle.claims_rehearsal.specs.Rehearsal.{OldSums, finishedAfter, holds, isSummed, Remains, remains, remainsOf, mixed, oldCode, oldData, readyAt, rehearsalImage, rehearsed, rehearsedData, theChip, theDataImage}
 use Rattle.dock.specs.Calls.{askOf, asked, beginOf, freshDock, hearOf, standing, starting, turning}
 use Rattle.chip_commands.specs.Commands.{allowedIn, commandDoes, readingDoes, work}
 use Rattle.commands.specs.Commands.{comOf, commandTable, fitted, informationOf, payloadOf, readCommand, readIn}
-use Rattle.chip_work.specs.Work.{blankCheck, blockErase, checksum, erasedIn, forbidden, programming, rangeBytes, rateSet, securityRelease, verify}
+use Rattle.chip_work.specs.Work.{blankCheck, blockErase, checksum, erasedIn, forbidden, programming, rateSet, securityRelease, verify}
+use Rattle.chip_sums.specs.Sums.{allSummed, blockSum, flashVerdict, rangeBytes, resummed, slot, summedBy, summedTo, workedOut}
 use Rattle.chip_pages.specs.Pages.{badData, dataDoes, footerOf, goodData, isLastPage, lengthOf, nextPage, pageIn, pageStored, programPage, securityData, storedReply, verifyPage}
 use Rattle.chip_flash.specs.Flash.{blank, eraseOf, sumOfBytes}
 use Rattle.dock_flow.specs.Flow.{afterAnswer, afterHeard, afterSetup, afterStatus, afterWork, blockFrom, inBlock, next, retried, saysNotBlank, setupFrom}
@@ -37,14 +38,19 @@ use Rattle.words.specs.Words.{_and_, _from_to_, _or_, if_then_else_}
 use Rattle.frame.specs.Framing.{frames, framing}
 use Rattle.chip_core.specs.Hearing.{hearing}
 
+pub old-sums : OldSums
+unfolding sumOfBytes allSummed blockSum flashVerdict rangeBytes slot summedBy summedTo workedOut less lessAll blockSize described firstOf _and_ _from_to_
+    if_then_else_
+old-sums = refl
+
 -- Each rehearsal is computed once. Two blocks that were not blank: 3 + 2 * 12 frames. The chip is ready at the job's rate, the image in place, and all other flash
 -- as it was.
 rehearsal : remainsOf rehearsed (replicate 2048 0x42 ++ rehearsalImage ++ replicate 4096 0x42) oldData ≡ remains (finishedAfter 27) (readyAt 0x03)
 unfolding byteIn frameDoes heardByte modeByte reactTo settled stepOf allowedIn commandDoes readingDoes work hearing blank eraseOf sumOfBytes fixedBits
     freshOptions goodOptions isFresh lastBlock optionBytes optionsIn raises released rises security badData dataDoes footerOf goodData isLastPage lengthOf
     nextPage pageIn pageStored programPage securityData storedReply verifyPage framesOf payloads saidOf goodAwaited goodBegun goodCollected goodCore goodPhase
-    goodPlaces goodState verdictOf blankCheck blockErase checksum erasedIn forbidden programming rangeBytes rateSet securityRelease verify cable exchange
-    speaks holds remainsOf mixed rehearsalImage rehearsed theChip comOf commandTable fitted informationOf payloadOf readCommand readIn askOf asked beginOf freshDock
+    goodPlaces goodState verdictOf blankCheck blockErase checksum erasedIn forbidden programming allSummed blockSum rangeBytes resummed slot summedTo rateSet securityRelease verify cable exchange
+    speaks holds isSummed remainsOf mixed rehearsalImage rehearsed theChip comOf commandTable fitted informationOf payloadOf readCommand readIn askOf asked beginOf freshDock
     hearOf standing starting turning carriedBy deciding exactly matching rateMatches readAnswer readable shape signatureMatches statuses afterAnswer
     afterHeard afterSetup afterStatus afterWork blockFrom inBlock next retried saysNotBlank setupFrom firstOfBlock frameAt handOf handed lastOfBlock lastPage
     pageFooter queryWith storedForm workFrame areaIn blocksIn bound isOver setup badJob badState callVerdict due goodBlock goodDock goodEnding goodFailure
@@ -65,13 +71,17 @@ pub rehearsal-flash : holds (rehearsed .chip .memory) (replicate 2048 0x42 ++ re
 unfolding remainsOf
 rehearsal-flash = ap (λ (x : Remains). x .flash) rehearsal
 
+pub rehearsal-sums : isSummed (rehearsed .chip .memory) ≡ true
+unfolding remainsOf
+rehearsal-sums = ap (λ (x : Remains). x .sums) rehearsal
+
 -- One block of data flash: 3 + 12 frames, and no byte of code flash changed.
 data-rehearsal : remainsOf rehearsedData oldCode theDataImage ≡ remains (finishedAfter 15) (readyAt 0x00)
 unfolding byteIn frameDoes heardByte modeByte reactTo settled stepOf allowedIn commandDoes readingDoes work hearing blank eraseOf sumOfBytes fixedBits
     freshOptions goodOptions isFresh lastBlock optionBytes optionsIn raises released rises security badData dataDoes footerOf goodData isLastPage lengthOf
     nextPage pageIn pageStored programPage securityData storedReply verifyPage framesOf payloads saidOf goodAwaited goodBegun goodCollected goodCore goodPhase
-    goodPlaces goodState verdictOf blankCheck blockErase checksum erasedIn forbidden programming rangeBytes rateSet securityRelease verify cable exchange
-    speaks holds remainsOf mixed rehearsedData theChip theDataImage comOf commandTable fitted informationOf payloadOf readCommand readIn askOf asked beginOf freshDock
+    goodPlaces goodState verdictOf blankCheck blockErase checksum erasedIn forbidden programming allSummed blockSum rangeBytes resummed slot summedTo rateSet securityRelease verify cable exchange
+    speaks holds isSummed remainsOf mixed rehearsedData theChip theDataImage comOf commandTable fitted informationOf payloadOf readCommand readIn askOf asked beginOf freshDock
     hearOf standing starting turning carriedBy deciding exactly matching rateMatches readAnswer readable shape signatureMatches statuses afterAnswer
     afterHeard afterSetup afterStatus afterWork blockFrom inBlock next retried saysNotBlank setupFrom firstOfBlock frameAt handOf handed lastOfBlock lastPage
     pageFooter queryWith storedForm workFrame areaIn blocksIn bound isOver setup badJob badState callVerdict due goodBlock goodDock goodEnding goodFailure
@@ -87,3 +97,7 @@ rehearsal-data = ap (λ (x : Remains). x .dock) data-rehearsal
 pub rehearsal-data-flash : holds (rehearsedData .chip .memory) oldCode theDataImage ≡ true
 unfolding remainsOf
 rehearsal-data-flash = ap (λ (x : Remains). x .flash) data-rehearsal
+
+pub rehearsal-data-sums : isSummed (rehearsedData .chip .memory) ≡ true
+unfolding remainsOf
+rehearsal-data-sums = ap (λ (x : Remains). x .sums) data-rehearsal

@@ -23,7 +23,7 @@ use Rattle.claims_good.proofs.Rooms.{never-refused}
 use Rattle.claims_good.proofs.Stays.{stays}
 use Rattle.chip_state.proofs.Laws.{accepted}
 use Rattle.claims_good.specs.Good.{AllAnswered, AllProper, Answered, Proper, Stands, aByte, aGap, andAnswer, andEvent, noEvent}
-use Rattle.chip_core.specs.Effect.{Flash}
+use Rattle.chip_core.specs.Effect.{Memory}
 use Rattle.frame.proofs.Laws.Sum.{Below, below-drop, below-take, more, none}
 use Rattle.part.specs.declared.Part.{Part}
 use Rattle.part.specs.declared.refusal.Refusal.{Refusal}
@@ -102,14 +102,14 @@ kept-turns : (p : Part) (x : Playing) (output : List ℕ) → Plays p x → Turn
 unfolding playedInto
 kept-turns p x output w = record { goes = λ r e. by-goes (x .left .answer) (w .bytes) (w .frames) x (w .replied) r e; fits = λ e. by-fits (x .left .answer) x e; stands = again (w .stands) }
 
-with-turns : (p : Part) (vs : List Event) (c : Chip) (m : Flash) (room output : List ℕ) → Stands p (before c m room) → AllProper vs → outputLeast ≤ length output
+with-turns : (p : Part) (vs : List Event) (c : Chip) (m : Memory) (room output : List ℕ) → Stands p (before c m room) → AllProper vs → outputLeast ≤ length output
     → Turns p (playWith vs p c m room output)
 unfolding playWith if_then_else_
 with-turns p vs c m room output s e h =
     rw (le-ltb (length output) 192 h)
     (kept-turns p (played p vs (beforePlaying c m room)) output (plays p vs (beforePlaying c m room) (record { bytes = 0; frames = 0; replied = refl; stands = s }) e))
 
-pub turn-plays : (p : Part) (bs : List ℕ) (c : Chip) (m : Flash) (room output : List ℕ) → Stands p (before c m room) → Below 256 bs → outputLeast ≤ length output
+pub turn-plays : (p : Part) (bs : List ℕ) (c : Chip) (m : Memory) (room output : List ℕ) → Stands p (before c m room) → Below 256 bs → outputLeast ≤ length output
     → Turns p (playOf p bs c m room output)
 unfolding playOf playBy eventsOf
 turn-plays p bs c m room output s b h = go (recordOf recordSize bs)
@@ -188,7 +188,7 @@ records-below zero bs b = noRecord
 records-below (suc most) [] b = noRecord
 records-below (suc most) (x ∷ bs) b = andRecord (below-take 256 recordSize b) (records-below most (drop recordSize (x ∷ bs)) (below-drop 256 recordSize b))
 
-pub replay-unhalted : (p : Part) (capture : List ℕ) (c : Chip) (m : Flash) (room output : List ℕ) → Stands p (before c m room) → Below 256 capture
+pub replay-unhalted : (p : Part) (capture : List ℕ) (c : Chip) (m : Memory) (room output : List ℕ) → Stands p (before c m room) → Below 256 capture
     → outputLeast * length (recordsOf recordSize capture) ≤ length output → Unhalted p (replayOf p capture c m room output)
 unfolding replayOf recordsOf
 replay-unhalted p capture c m room output s b h =
@@ -197,11 +197,11 @@ replay-unhalted p capture c m room output s b h =
     (records-below (length capture) capture b)
     (record { stands = s; whole = refl; within = omega arith; enough = omega (arith, h) })
 
-pub never-halted : (p : Part) (capture : List ℕ) (c : Chip) (m : Flash) (room output : List ℕ) → Stands p (before c m room) → Below 256 capture
+pub never-halted : (p : Part) (capture : List ℕ) (c : Chip) (m : Memory) (room output : List ℕ) → Stands p (before c m room) → Below 256 capture
     → outputLeast * length (recordsOf recordSize capture) ≤ length output → (q : Refusal) → replayOf p capture c m room output .ended ≡ Ended.Refused q → ⊥
 never-halted p capture c m room output s b h q e = replay-unhalted p capture c m room output s b h .unrefused q e
 
 -- And never for want of output.
-pub never-filled : (p : Part) (capture : List ℕ) (c : Chip) (m : Flash) (room output : List ℕ) → Stands p (before c m room) → Below 256 capture
+pub never-filled : (p : Part) (capture : List ℕ) (c : Chip) (m : Memory) (room output : List ℕ) → Stands p (before c m room) → Below 256 capture
     → outputLeast * length (recordsOf recordSize capture) ≤ length output → replayOf p capture c m room output .ended ≡ OutputFull → ⊥
 never-filled p capture c m room output s b h e = replay-unhalted p capture c m room output s b h .unfilled e

@@ -19,13 +19,14 @@ use Rattle.chip.specs.declared.Answer.the-variants as Answer
 use Rattle.chip.specs.declared.Event.{Event}
 use Rattle.chip.specs.declared.Event.the-variants.{Byte, Gap}
 use Rattle.chip_state.specs.declared.Chip.{Chip}
-use Rattle.chip_core.specs.Effect.{Flash}
+use Rattle.chip_core.specs.Effect.{Memory}
+use Rattle.claims_stars.specs.Table.{freshMemory}
 use Rattle.claims_good.proofs.Fresh.{fresh-stands, the-part-is}
 use Rattle.claims_good.specs.Good.{AllProper, Stands, aGap, andEvent, noEvent}
 use Rattle.claims_replay.proofs.Lines.{FramesIn, frames-append, lines-append, noFrame, played-frames}
 use Rattle.claims_replay.proofs.NeverRefused.{AllBelow, again, all-bytes, andRecord, noRecord, plays, records-below, replay-unhalted}
 use Rattle.claims_replay.specs.Cases.{firstPiece, secondPiece}
-use Rattle.claims_replay.specs.Printed.{Upshot, freshFlash, lastLine, lines, linesIn, printed, upshotOf}
+use Rattle.claims_replay.specs.Printed.{Upshot, lastLine, lines, linesIn, printed, upshotOf}
 use Rattle.claims_replay.specs.Pieces.{InPieces, Piece, Pieces, PiecesStand, PrintedInPieces, andPiece, andThen, freshStart, inPieces, joined, lastPiece, linesInPieces, noPiece, ofPiece, onlyOn, printedInPieces, beginning, whileOn, withPiece}
 use Rattle.frame.proofs.Laws.Sum.{Below, below-drop, below-take}
 use Rattle.part.specs.Part.{Arrays, blockSize}
@@ -89,7 +90,7 @@ upshotFrom p [] g = g
 upshotFrom p (r ∷ rs) g = whileOn (nextUpshot p r g .ended) (upshotFrom p rs (nextUpshot p r g)) (nextUpshot p r g)
 
 -- Two upshots that agree in what they count and say.
-same-upshot : (e : Ended) (c : Chip) (m : Flash) (room : List ℕ) {i j k l : ℕ} {s t : List ℕ} → i ≡ j → k ≡ l → s ≡ t
+same-upshot : (e : Ended) (c : Chip) (m : Memory) (room : List ℕ) {i j k l : ℕ} {s t : List ℕ} → i ≡ j → k ≡ l → s ≡ t
     → _≡_ {A = Upshot} (record { ended = e; records = i; frames = k; said = s; chip = c; memory = m; room = room })
     (record { ended = e; records = j; frames = l; said = t; chip = c; memory = m; room = room })
 same-upshot e c m room p q r = rw (p, q, r)
@@ -172,7 +173,7 @@ replayed-upshot p (r ∷ rs) x a g =
     go OutputShort e rest = refl
     go (RecordEnded.Refused s) e rest = refl
 
-replay-upshot : (p : Part) (capture : List ℕ) (c : Chip) (m : Flash) (room output : List ℕ) → Arrays p → outputLeast * length (recordsOf recordSize capture) ≤ length output
+replay-upshot : (p : Part) (capture : List ℕ) (c : Chip) (m : Memory) (room output : List ℕ) → Arrays p → outputLeast * length (recordsOf recordSize capture) ≤ length output
     → upshotOf (replayOf p capture c m room output) ≡ upshotFrom p (recordsOf recordSize capture) (beginning c m room)
 unfolding replayOf
 replay-upshot p capture c m room output a h =
@@ -420,7 +421,7 @@ unfolding blockSize
 fresh-kept =
     record {
       stands =
-          fresh-stands replayPart freshFlash (replicate 32 0x00) the-part-is (record { deviceLong = refl; nameLong = refl; versionLong = refl })
+          fresh-stands replayPart freshMemory (replicate 32 0x00) the-part-is (record { deviceLong = refl; nameLong = refl; versionLong = refl })
           (length-replicate {A = ℕ} 16384 0xFF) (length-replicate {A = ℕ} 4096 0xFF) (omega (arith, length-replicate {A = ℕ} 32 0x00));
       frames = noFrame;
     }
@@ -431,7 +432,7 @@ printed-in-pieces qs b r =
     let g = inPieces replayPart qs freshStart in
     ap (λ (t : List ℕ). t ++ lastLine g (g .ended)) (pieces-lines replayPart qs freshStart r b fresh-kept refl)
     ∙ ap (λ (z : Upshot). lines (z .said) ++ lastLine z (z .ended))
-    (in-pieces replayPart qs (freshChip replayPart) freshFlash (replicate 32 0x00) (replicate (outputLeast * length (joined qs)) 0x00) (fresh-kept .stands .arrays) r
+    (in-pieces replayPart qs (freshChip replayPart) freshMemory (replicate 32 0x00) (replicate (outputLeast * length (joined qs)) 0x00) (fresh-kept .stands .arrays) r
     (fresh-output (joined qs)))
 
 -- The whole case, cut in the middle of a frame, meets the premise.

@@ -9,7 +9,7 @@ use Rattle.claims_replay.specs.Cases.{badFirst, endNone, shortCase, stop
 use Rattle.claims_replay.specs.Printed.{digitsIn, lastLine, linesIn, printed}
 use Rattle.chip_commands.specs.Commands.{allowedIn, commandDoes, readingDoes, work}
 use Rattle.commands.specs.Commands.{commandTable, fitted, readCommand, readIn}
-use Rattle.chip_work.specs.Work.{blankCheck, blockErase, checksum, erasedIn, forbidden, programming, rangeBytes, rateSet, securityRelease, verify}
+use Rattle.chip_work.specs.Work.{blankCheck, blockErase, checksum, erasedIn, forbidden, programming, rateSet, securityRelease, verify}
 use Rattle.frame.specs.Collector.{fresh, hear, heard, holding}
 use Rattle.frame.specs.Frame.{complete, counted, framed, full, isFrame, payload}
 use Rattle.frame.specs.Judgement.{fitting, judgeOf, summed}
@@ -42,7 +42,7 @@ computed : Computed
 unfolding byteIn frameDoes freshChip heardByte modeByte reactTo settled stepOf allowedIn commandDoes readingDoes work hearing blank eraseOf sumOfBytes
     fixedBits freshOptions goodOptions isFresh lastBlock optionBytes optionsIn raises released rises security badData dataDoes footerOf goodData isLastPage
     lengthOf nextPage pageIn pageStored programPage securityData storedReply verifyPage framesOf payloads saidOf goodAwaited goodBegun goodCollected goodCore
-    goodPhase goodPlaces goodState verdictOf blankCheck blockErase checksum erasedIn forbidden programming rangeBytes rateSet securityRelease verify digitsIn
+    goodPhase goodPlaces goodState verdictOf blankCheck blockErase checksum erasedIn forbidden programming rateSet securityRelease verify digitsIn
     lastLine linesIn printed commandTable fitted readCommand readIn fresh hear heard holding complete counted framed full isFrame payload frames framing
     fitting judgeOf summed less lessAll sumOf allAre putAt putOf same lowFirst numberAt blockOf blockSize described endsBlock lastOf liesIn pageOf placeIn
     placeOf rangeOf startsBlock stretch wholeBlocks acceptsRate modeOf firstOf signature bytesRecord gapRecord recordOf recordsIn recordsOf unused digitOf

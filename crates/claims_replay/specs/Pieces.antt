@@ -9,8 +9,9 @@ use Rattle.chip.specs.Run.{before}
 use Rattle.chip.specs.Step.{freshChip}
 use Rattle.chip_state.specs.declared.Chip.{Chip}
 use Rattle.claims_good.specs.Good.{Stands}
-use Rattle.chip_core.specs.Effect.{Flash}
-use Rattle.claims_replay.specs.Printed.{Upshot, freshFlash, lastLine, lines, printed, upshotOf}
+use Rattle.chip_core.specs.Effect.{Memory}
+use Rattle.claims_stars.specs.Table.{freshMemory}
+use Rattle.claims_replay.specs.Printed.{Upshot, lastLine, lines, printed, upshotOf}
 use Rattle.frame.proofs.Laws.Sum.{Below}
 use Rattle.part.specs.Part.{Arrays}
 use Rattle.part.specs.declared.Part.{Part}
@@ -20,7 +21,7 @@ use Rattle.replay_play.specs.Play.{outputLeast}
 use Rattle.replay_records.specs.declared.Ended.{Ended}
 use Rattle.replay_records.specs.declared.Ended.the-variants.{AtBadRecord, OutputFull, Refused, Whole}
 
-abbrev pub beginning : Chip → Flash → List ℕ → Upshot
+abbrev pub beginning : Chip → Memory → List ℕ → Upshot
 beginning c m room = record { ended = Whole; records = 0; frames = 0; said = []; chip = c; memory = m; room = room }
 
 -- One upshot after another: the numbers add up, the frames follow each other, and the last one says how it ended and what is left.
@@ -75,7 +76,7 @@ pub data Pieces : List Piece → Type 0 where
 -- The pieces together have the upshot of the whole, its record numbers included: a bad record's number is that in the whole capture.
 abbrev pub InPieces : Type 0
 InPieces =
-    (p : Part) (qs : List Piece) (c : Chip) (m : Flash) (room output : List ℕ) → Arrays p → Pieces qs → Suffices (joined qs) output
+    (p : Part) (qs : List Piece) (c : Chip) (m : Memory) (room output : List ℕ) → Arrays p → Pieces qs → Suffices (joined qs) output
     → inPieces p qs (beginning c m room) ≡ upshotOf (replayOf p (joined qs) c m room output)
 
 -- From a chip that stands, no piece is refused, and the chip stands after each.
@@ -85,7 +86,7 @@ pub record Standing (p : Part) (g : Upshot) : Type 0 where
 
 abbrev pub PiecesStand : Type 0
 PiecesStand =
-    (p : Part) (qs : List Piece) (c : Chip) (m : Flash) (room : List ℕ) → Stands p (before c m room) → Below 256 (joined qs) → Pieces qs
+    (p : Part) (qs : List Piece) (c : Chip) (m : Memory) (room : List ℕ) → Stands p (before c m room) → Below 256 (joined qs) → Pieces qs
     → Standing p (inPieces p qs (beginning c m room))
 
 -- What is printed of the pieces: the lines of each one's reply frames as it is replayed, and the last line, of the numbers added up.
@@ -100,7 +101,7 @@ linesInPieces p [] g = []
 linesInPieces p (q ∷ qs) g = lines (ofPiece p g q .said) ++ onlyOn (withPiece p g q .ended) (linesInPieces p qs (withPiece p g q))
 
 abbrev pub freshStart : Upshot
-freshStart = beginning (freshChip replayPart) freshFlash (replicate 32 0x00)
+freshStart = beginning (freshChip replayPart) freshMemory (replicate 32 0x00)
 
 unfoldable pub printedInPieces : List Piece → List ℕ
 printedInPieces qs = let g = inPieces replayPart qs freshStart in linesInPieces replayPart qs freshStart ++ lastLine g (g .ended)

@@ -5,7 +5,8 @@ use lib.Dec.{ltb}
 use lib.ListN.{drop, getD, length, replicate, take}
 use Rattle.chip.specs.Step.{freshChip}
 use Rattle.chip_state.specs.declared.Chip.{Chip}
-use Rattle.chip_core.specs.Effect.{Flash, flash}
+use Rattle.chip_core.specs.Effect.{Memory}
+use Rattle.claims_stars.specs.Table.{freshMemory}
 use Rattle.frame.specs.Frame.{counted}
 use Rattle.replay_hex.specs.Hex.{lineOf}
 use Rattle.replay_records.specs.Records.{Replaying, replayOf, replayPart}
@@ -40,7 +41,7 @@ pub record Upshot : Type 0 where
   pub frames : ℕ
   pub said : List ℕ
   pub chip : Chip
-  pub memory : Flash
+  pub memory : Memory
   pub room : List ℕ
 
 abbrev pub upshotOf : Replaying → Upshot
@@ -62,13 +63,11 @@ lastLine x AtBadRecord = 0x42 ∷ 0x41 ∷ 0x44 ∷ 0x20 ∷ decimal (x .records
 lastLine x OutputFull = []
 lastLine x (Refused r) = []
 
--- "The chip has 16 code and 4 data blocks, clock 32, all fresh." The output has room for every record's replies.
-abbrev pub freshFlash : Flash
-freshFlash = flash (replicate 16384 0xFF) (replicate 4096 0xFF)
-
+-- "The chip has 16 code and 4 data blocks, clock 32, all fresh." Its sums are worked out once, before the first record (`FreshSums`, claims_stars). The output has
+-- room for every record's replies.
 abbrev pub freshReplay : List ℕ → Replaying
 freshReplay capture =
-    replayOf replayPart capture (freshChip replayPart) freshFlash (replicate 32 0x00) (replicate (outputLeast * length capture) 0x00)
+    replayOf replayPart capture (freshChip replayPart) freshMemory (replicate 32 0x00) (replicate (outputLeast * length capture) 0x00)
 
 unfoldable pub printed : List ℕ → List ℕ
 printed capture = let g = upshotOf (freshReplay capture) in lines (g .said) ++ lastLine g (g .ended)

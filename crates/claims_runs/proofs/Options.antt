@@ -13,7 +13,7 @@ use Rattle.chip.specs.declared.Answer.the-variants.{Replied}
 use Rattle.chip.specs.declared.Event.{Event}
 use Rattle.chip.specs.declared.Event.the-variants.{Byte, Gap, PowerOn}
 use Rattle.chip_commands.specs.Commands.{allowedIn, commandDoes, readingDoes, work}
-use Rattle.chip_core.specs.Effect.{Effect, Flash, effect, says}
+use Rattle.chip_core.specs.Effect.{Effect, Memory, effect, says}
 use Rattle.chip_core.specs.Hearing.{hearing}
 use Rattle.chip_core.specs.declared.Awaited.{Awaited}
 use Rattle.chip_core.specs.declared.Core.{Core}
@@ -57,7 +57,7 @@ data Sets (p : Part) (k : Core) (ph : Phase) (f : List ℕ) (x : Effect) : Type 
       → raises p (k .options .flags) (x .core .options .flags) ≡ false → Sets p k ph f x
   releases-them : ph ≡ Ready → readCommand (payload f) ≡ Meant SecurityRelease → x .reply ≡ Status 0x06 → x .core .options ≡ released p (k .options) → Sets p k ph f x
 
-module _ (p : Part) (k : Core) (m : Flash) (f : List ℕ) where
+module _ (p : Part) (k : Core) (m : Memory) (f : List ℕ) where
   -- Of a command: ph is the phase that allows it.
   rate-set : (ph : Phase) (rate supply : ℕ) → Sets p k ph f (effect (rateSet p k rate supply) m)
   unfolding rateSet
@@ -69,7 +69,7 @@ module _ (p : Part) (k : Core) (m : Flash) (f : List ℕ) where
   erases ph (In a offset block page) =
       if-all (Sets p k ph f) _ (λ t. leaves-them refl) (λ t. if-all (Sets p k ph f) _ (λ u. leaves-them refl) (λ u. leaves-them refl))
 
-  checks : (ph : Phase) (r : Range) (d01 : ℕ) → Sets p k ph f (effect (blankCheck p k r d01 m) m)
+  checks : (ph : Phase) (r : Range) (d01 : ℕ) → Sets p k ph f (effect (blankCheck p k r d01 (m .flash)) m)
   unfolding blankCheck
   checks ph Bad d01 = leaves-them refl
   checks ph (Blocks a block count) d01 =
@@ -90,9 +90,9 @@ module _ (p : Part) (k : Core) (m : Flash) (f : List ℕ) where
   sums : (ph : Phase) (r : Range) → Sets p k ph f (effect (checksum p k r m) m)
   unfolding checksum
   sums ph Bad = leaves-them refl
-  sums ph (Blocks a block count) = leaves-them refl
+  sums ph (Blocks a block count) = if-all (λ d. Sets p k ph f (effect d m)) _ (λ t. leaves-them refl) (λ t. leaves-them refl)
 
-  frees : (ph : Phase) → ph ≡ Ready → readCommand (payload f) ≡ Meant SecurityRelease → Sets p k ph f (effect (securityRelease p k m) m)
+  frees : (ph : Phase) → ph ≡ Ready → readCommand (payload f) ≡ Meant SecurityRelease → Sets p k ph f (effect (securityRelease p k (m .flash)) m)
   unfolding securityRelease
   frees ph e r =
       if-all (λ d. Sets p k ph f (effect d m)) _ (λ t. leaves-them refl)

@@ -9,7 +9,7 @@ use lib.ListN.{length}
 use Rattle.chip.specs.Run.{onward}
 use Rattle.chip.specs.Step.{Reaction, frameDoes, reaction, silent}
 use Rattle.chip_commands.specs.Commands.{commandDoes, readingDoes, work}
-use Rattle.chip_core.specs.Effect.{Effect, Flash, effect, told}
+use Rattle.chip_core.specs.Effect.{Effect, Memory, effect, told}
 use Rattle.chip_core.specs.Hearing.{hearing}
 use Rattle.chip_core.specs.declared.Awaited.{Awaited}
 use Rattle.chip_core.specs.declared.Core.{Core}
@@ -66,18 +66,18 @@ refuses-denies : (p : Part) (x : Reaction) → refuses (utteranceOf p x) ≡ den
 unfolding refuses utteranceOf
 refuses-denies p x = said-denies p (x .does .core .options) (x .does .reply)
 
--- What a frame did is no refusal, or it left the record k and the flash m.
-record Same (k : Core) (m : Flash) (x : Effect) : Type 0 where
+-- What a frame did is no refusal, or it left the record k and the memory m.
+record Same (k : Core) (m : Memory) (x : Effect) : Type 0 where
   so : denies (x .reply) ≡ true → SameRecord k (x .core) m (x .memory)
 
-stays : (k : Core) (m : Flash) (r : Reply) → Same k m (effect (told r k) m)
+stays : (k : Core) (m : Memory) (r : Reply) → Same k m (effect (told r k) m)
 stays k m r = record { so = λ e. record { core = refl; memory = refl } }
 
 -- What is answered 06h alone is no refusal.
-allows : {k : Core} {m : Flash} {x : Effect} → denies (x .reply) ≡ false → Same k m x
+allows : {k : Core} {m : Memory} {x : Effect} → denies (x .reply) ≡ false → Same k m x
 allows e = record { so = λ d. absurd (false≢true (sym e ∙ d)) }
 
-module _ (p : Part) (k : Core) (m : Flash) where
+module _ (p : Part) (k : Core) (m : Memory) where
   -- What is left of k and m after a refusal in a phase.
   record Over (f : Phase) (x : Effect) : Type 0 where
     memory : x .memory ≡ m
@@ -94,7 +94,7 @@ module _ (p : Part) (k : Core) (m : Flash) where
   erases Outside = stays k m _
   erases (In a offset block page) = if-all (Same k m) _ (λ t. stays k m _) (λ t. if-all (Same k m) _ (λ u. stays k m _) (λ u. allows refl))
 
-  checks : (r : Range) (d01 : ℕ) → Same k m (effect (blankCheck p k r d01 m) m)
+  checks : (r : Range) (d01 : ℕ) → Same k m (effect (blankCheck p k r d01 (m .flash)) m)
   unfolding blankCheck
   checks Bad d01 = stays k m _
   checks (Blocks a block count) d01 =
@@ -114,9 +114,9 @@ module _ (p : Part) (k : Core) (m : Flash) where
   sums : (r : Range) → Same k m (effect (checksum p k r m) m)
   unfolding checksum
   sums Bad = stays k m _
-  sums (Blocks a block count) = stays k m _
+  sums (Blocks a block count) = if-all (λ d. Same k m (effect d m)) _ (λ t. stays k m _) (λ t. stays k m _)
 
-  releases : Same k m (effect (securityRelease p k m) m)
+  releases : Same k m (effect (securityRelease p k (m .flash)) m)
   unfolding securityRelease denies
   releases = if-all (λ d. Same k m (effect d m)) _ (λ t. stays k m _) (λ t. if-all (λ d. Same k m (effect d m)) _ (λ u. stays k m _) (λ u. allows refl))
 

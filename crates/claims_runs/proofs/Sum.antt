@@ -7,13 +7,16 @@ use Prim.Native.Nat.{_%_, _*_, _+_, _-_, _/_, _<_, _≤_, suc, zero, ℕ}
 use native.Mathlib.Nat.{add-mul, mul-le-mul-right}
 use native.Mathlib.Omega.{arith}
 use lib.ListN.{drop, getD, length, length-drop, set, take}
+use borrow.Author.Tests.{eqb-true}
 use lib.Seq.{drop-set-add, getD-drop, getD-take, length-take-le, take-set-lt}
 use Rattle.chip_commands.specs.Commands.{work}
-use Rattle.chip_core.specs.Effect.{Flash, bytesIn}
+use Rattle.chip_core.specs.Effect.{Flash, Memory, bytesIn}
 use Rattle.chip_core.specs.declared.Core.{Core}
+use Rattle.chip_core.specs.declared.Done.{Done}
 use Rattle.chip_flash.specs.Flash.{sumOfBytes}
 use Rattle.chip_reply.specs.Reply.{framesOf, payloads}
-use Rattle.chip_work.specs.Work.{checksum, rangeBytes}
+use Rattle.chip_sums.specs.Sums.{Right, blockSum, rangeBytes}
+use Rattle.chip_work.specs.Work.{checksum}
 use Rattle.claims_runs.specs.Sum.{InRange, OneByteSummed, byteChanged, sumSaid}
 use Rattle.frame.proofs.Laws.Sum.{Below, below-drop, below-take, more, none, one-byte, sum-is}
 use Rattle.frame.specs.Frame.{framed}
@@ -25,12 +28,21 @@ use Rattle.part.specs.declared.Area.the-variants.{CodeFlash, DataFlash}
 use Rattle.part.specs.declared.Part.{Part}
 use Rattle.part.specs.declared.Range.{Range}
 use Rattle.part.specs.declared.Range.the-variants.{Blocks}
+use Rattle.words.proofs.Laws.{if-all}
 
--- What is said to B0h is the sum of the range's bytes.
-told-sum : (p : Part) (k : Core) (m : Flash) (start end : ℕ) (a : Area) (block count : ℕ) → rangeOf p start end ≡ Blocks a block count
-    → sumSaid p k start end m ≡ framesOf ((0x06 ∷ []) ∷ lowFirst 2 (sumOfBytes (rangeBytes p a block count m)) ∷ [])
-unfolding work checksum payloads
-told-sum p k m start end a block count e = ap (λ (r : Range). framesOf (payloads p (k .options) (checksum p k r m .reply))) e
+-- What is said to B0h is the sum of the range's bytes, where the kept sums are right.
+told-sum : (p : Part) (k : Core) (m : Memory) (start end : ℕ) (a : Area) (block count : ℕ) → rangeOf p start end ≡ Blocks a block count → Right p m
+    → sumSaid p k start end m ≡ framesOf ((0x06 ∷ []) ∷ lowFirst 2 (sumOfBytes (rangeBytes p a block count (m .flash))) ∷ [])
+unfolding work checksum payloads blockSum
+told-sum p k m start end a block count e r =
+    let tells : ℕ → List ℕ = λ n. framesOf ((0x06 ∷ []) ∷ lowFirst 2 n ∷ []) in
+    ap (λ (r : Range). framesOf (payloads p (k .options) (checksum p k r m .reply))) e
+    ∙ if-all (λ (d : Done). framesOf (payloads p (k .options) (d .reply)) ≡ tells (sumOfBytes (rangeBytes p a block count (m .flash)))) _
+    (λ t.
+    let one : count ≡ 1 = eqb-true _ _ t in
+    let l : block < blocks p a = omega (arith, range-good p start end a block count e .inside) in
+    ap tells (r .each a block l ∙ ap (λ (c : ℕ). sumOfBytes (rangeBytes p a block c (m .flash))) (sym one)))
+    (λ t. refl)
 
 -- Two sums of 16 bits that are told alike are equal.
 same-sum : (x y : ℕ) → x < 65536 → y < 65536 → framesOf ((0x06 ∷ []) ∷ lowFirst 2 x ∷ []) ≡ framesOf ((0x06 ∷ []) ∷ lowFirst 2 y ∷ []) → x ≡ y
@@ -117,12 +129,14 @@ below-set (suc i) v h (more k r) = more k (below-set i v h r)
 
 pub one-byte-summed : OneByteSummed
 unfolding bs
-one-byte-summed p k m start end a i v r e =
-    let x = bs p m start end a i v r in
-    let y : List ℕ = set x (i - at p m start end a i v r) v in
-    let b = below p m start end a i v r in
-    sums-differ p m start end a i v r
-    (same-sum (sumOfBytes y) (sumOfBytes x) (sum-small y (below-set (i - at p m start end a i v r) v (omega (arith, r .small)) b)) (sum-small x b)
-    (ap (λ (l : List ℕ). framesOf ((0x06 ∷ []) ∷ lowFirst 2 (sumOfBytes l) ∷ [])) (sym (bytes-changed p m start end a i v r))
-    ∙ sym (told-sum p k (byteChanged a m i v) start end a (r .block) (r .count) (r .range)) ∙ e
-    ∙ told-sum p k m start end a (r .block) (r .count) (r .range)))
+one-byte-summed p k m n start end a i v r f g h e =
+    let c = m .flash in
+    let x = bs p c start end a i v r in
+    let y : List ℕ = set x (i - at p c start end a i v r) v in
+    let b = below p c start end a i v r in
+    sums-differ p c start end a i v r
+    (same-sum (sumOfBytes y) (sumOfBytes x) (sum-small y (below-set (i - at p c start end a i v r) v (omega (arith, r .small)) b)) (sum-small x b)
+    (ap (λ (l : List ℕ). framesOf ((0x06 ∷ []) ∷ lowFirst 2 (sumOfBytes l) ∷ []))
+    (sym (ap (λ (d : Flash). rangeBytes p a (r .block) (r .count) d) f ∙ bytes-changed p c start end a i v r))
+    ∙ sym (told-sum p k n start end a (r .block) (r .count) (r .range) h) ∙ e
+    ∙ told-sum p k m start end a (r .block) (r .count) (r .range) g))

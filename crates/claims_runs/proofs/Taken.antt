@@ -7,7 +7,7 @@ use Prim.Native.Nat.{ℕ}
 use Rattle.chip.specs.Step.{Outcome, Reaction, byteIn, frameDoes, heardByte, modeByte, poweredOn, reactTo, reaction, silent}
 use Rattle.chip.specs.declared.Event.{Event}
 use Rattle.chip.specs.declared.Event.the-variants.{Byte, Gap, PowerOn}
-use Rattle.chip_core.specs.Effect.{Effect, Flash}
+use Rattle.chip_core.specs.Effect.{Effect, Memory}
 use Rattle.chip_core.specs.Hearing.{hearing}
 use Rattle.chip_core.specs.declared.Core.{Core}
 use Rattle.chip_core.specs.declared.Hearing.{Hearing}
@@ -38,7 +38,7 @@ pub data Went (ts : List (List ℕ)) (x : List ℕ → Effect) (s : Effect) (r :
   onlyHeard : ts ≡ [] → r .does ≡ s → Went ts x s r
   frameDone : (f : List ℕ) → ts ≡ f ∷ [] → r ≡ reaction [] (x f) → Went ts x s r
 
-heard-went : (hs : List ℕ) (x : List ℕ → Effect) (k : Core) (m : Flash) → Went (take-up hs .taken) x (silent k m) (heardByte hs (x hs) k m)
+heard-went : (hs : List ℕ) (x : List ℕ → Effect) (k : Core) (m : Memory) → Went (take-up hs .taken) x (silent k m) (heardByte hs (x hs) k m)
 unfolding heardByte take-up if_then_else_
 heard-went hs x k m = go (complete hs)
   where
@@ -47,7 +47,7 @@ heard-went hs x k m = go (complete hs)
     go true = frameDone hs refl refl
     go false = onlyHeard refl refl
 
-byte-went : (h : Hearing) (p : Part) (k : Core) (hs : List ℕ) (b : ℕ) (m : Flash)
+byte-went : (h : Hearing) (p : Part) (k : Core) (hs : List ℕ) (b : ℕ) (m : Memory)
     → Went (takenIn h hs (Byte b)) (λ f. frameDoes h p k f m) (silent (quietIn h b k) m) (byteIn h p k hs b m)
 unfolding byteIn takenIn takenAs collectsOn quietIn
 byte-went HearsNothing p k hs b m = onlyHeard refl refl

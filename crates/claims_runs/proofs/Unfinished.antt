@@ -12,7 +12,7 @@ use Rattle.chip.specs.Run.{answers, onward, run, spokenIn}
 use Rattle.chip.specs.Step.{Outcome, Reaction, byteIn, heardByte, poweredOn, reactTo, reaction, silent, stepOf}
 use Rattle.chip.specs.declared.Event.{Event}
 use Rattle.chip.specs.declared.Event.the-variants.{Byte, Gap, PowerOn}
-use Rattle.chip_core.specs.Effect.{Effect, Flash}
+use Rattle.chip_core.specs.Effect.{Effect, Memory}
 use Rattle.chip_core.specs.Hearing.{hearing}
 use Rattle.chip_core.specs.declared.Core.{Core}
 use Rattle.chip_core.specs.declared.Hearing.{Hearing}
@@ -45,16 +45,16 @@ hears h [] b = if-all (Hears [] b) _ (λ t. added refl) (λ t. skipped refl)
 hears h (x ∷ xs) b = added refl
 
 -- After an event nothing is collected; or it was a byte, which is one more, and nothing else happened.
-data Gathers (v : Event) (k : Core) (hs : List ℕ) (m : Flash) (r : Reaction) : Type 0 where
+data Gathers (v : Event) (k : Core) (hs : List ℕ) (m : Memory) (r : Reaction) : Type 0 where
   none : r .hears ≡ [] → Gathers v k hs m r
   oneMore : (b : ℕ) → v ≡ Byte b → r ≡ reaction (hs ++ b ∷ []) (silent k m) → Gathers v k hs m r
 
-byte-gathers : (k : Core) (hs : List ℕ) (b : ℕ) (m : Flash) (l : List ℕ) (x : Effect) → Hears hs b l → Gathers (Byte b) k hs m (heardByte l x k m)
+byte-gathers : (k : Core) (hs : List ℕ) (b : ℕ) (m : Memory) (l : List ℕ) (x : Effect) → Hears hs b l → Gathers (Byte b) k hs m (heardByte l x k m)
 unfolding heardByte
 byte-gathers k hs b m l x (skipped e) = if-all (Gathers (Byte b) k hs m) _ (λ t. none refl) (λ t. none e)
 byte-gathers k hs b m l x (added e) = if-all (Gathers (Byte b) k hs m) _ (λ t. none refl) (λ t. oneMore b refl (rw e))
 
-gathers : (v : Event) (p : Part) (k : Core) (hs : List ℕ) (m : Flash) → (hearing (k .phase) ≡ HearsNothing → hs ≡ []) → Gathers v k hs m (reactTo v p k hs m)
+gathers : (v : Event) (p : Part) (k : Core) (hs : List ℕ) (m : Memory) → (hearing (k .phase) ≡ HearsNothing → hs ≡ []) → Gathers v k hs m (reactTo v p k hs m)
 unfolding reactTo byteIn
 gathers Gap p k hs m z = none refl
 gathers PowerOn p k hs m z = none refl
@@ -74,7 +74,7 @@ nothing-heard p o s e =
     (eqb-true _ _
     (ap (λ (h : Hearing). goodCollected h (c .len) (getD (c .bytes) 0 0) (getD (c .bytes) 1 0)) (sym e) ∙ and-left _ _ (accepts (s .accepted) .state)))
 
-silent-says : (p : Part) (hs : List ℕ) (k : Core) (m : Flash) → utteranceOf p (reaction hs (silent k m)) ≡ silence
+silent-says : (p : Part) (hs : List ℕ) (k : Core) (m : Memory) → utteranceOf p (reaction hs (silent k m)) ≡ silence
 unfolding utteranceOf payloads framesOf
 silent-says p hs k m = refl
 

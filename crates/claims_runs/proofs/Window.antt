@@ -13,7 +13,7 @@ use Rattle.chip.specs.declared.Answer.the-variants.{Replied}
 use Rattle.chip.specs.declared.Event.{Event}
 use Rattle.chip.specs.declared.Event.the-variants.{Byte, Gap, PowerOn}
 use Rattle.chip_commands.specs.Commands.{allowedIn, commandDoes, readingDoes, work}
-use Rattle.chip_core.specs.Effect.{Effect, Flash, acknowledge, effect, notBlank, says, told}
+use Rattle.chip_core.specs.Effect.{Effect, Memory, acknowledge, effect, notBlank, says, told}
 use Rattle.chip_core.specs.Hearing.{hearing}
 use Rattle.chip_core.specs.declared.Awaited.{Awaited}
 use Rattle.chip_core.specs.declared.Core.{Core}
@@ -100,9 +100,9 @@ same-told p o n (Sum n′) e = refl
 same-told p o n Signature e = refl
 same-told p o n Security e = absurd (true≢false e)
 
-module _ (p : Part) (L : Type 0) (f : List ℕ) (k : Core) (m : Flash) (s e : ℕ) where
-  -- The same reply, the same record but for the window, the same flash.
-  so : (l : Core) (r : Reply) (n : Flash) → reads r ≡ false → Beside p L (effect (told r l) n) (effect (told r (withWindow s e l)) n)
+module _ (p : Part) (L : Type 0) (f : List ℕ) (k : Core) (m : Memory) (s e : ℕ) where
+  -- The same reply, the same record but for the window, the same memory.
+  so : (l : Core) (r : Reply) (n : Memory) → reads r ≡ false → Beside p L (effect (told r l) n) (effect (told r (withWindow s e l)) n)
   so l r n q = record { start = s; end = e; core = refl; memory = refl; tells = alike (same-told p _ _ r q) }
 
   -- The same record, whatever the window was.
@@ -139,7 +139,7 @@ module _ (p : Part) (L : Type 0) (f : List ℕ) (k : Core) (m : Flash) (s e : �
   fresh look start end d01 c false q = so k _ m refl
 
   checks : (Looks f → L) → (start end : ℕ) (r : Range) (d01 : ℕ) → readCommand (payload f) ≡ Meant (BlankCheck start end d01)
-      → Beside p L (effect (blankCheck p k r d01 m) m) (effect (blankCheck p (withWindow s e k) r d01 m) m)
+      → Beside p L (effect (blankCheck p k r d01 (m .flash)) m) (effect (blankCheck p (withWindow s e k) r d01 (m .flash)) m)
   unfolding blankCheck reads
   checks look start end Bad d01 c = so k _ m refl
   checks look start end (Blocks a block count) d01 c =
@@ -159,9 +159,9 @@ module _ (p : Part) (L : Type 0) (f : List ℕ) (k : Core) (m : Flash) (s e : �
   sums : (r : Range) → Beside p L (effect (checksum p k r m) m) (effect (checksum p (withWindow s e k) r m) m)
   unfolding checksum reads
   sums Bad = so k _ m refl
-  sums (Blocks a block count) = so k _ m refl
+  sums (Blocks a block count) = if-two (λ x y. Beside p L (effect x m) (effect y m)) _ (λ t. so k _ m refl) (λ t. so k _ m refl)
 
-  releases : Beside p L (effect (securityRelease p k m) m) (effect (securityRelease p (withWindow s e k) m) m)
+  releases : Beside p L (effect (securityRelease p k (m .flash)) m) (effect (securityRelease p (withWindow s e k) (m .flash)) m)
   unfolding securityRelease reads released
   releases =
       if-two (λ x y. Beside p L (effect x m) (effect y m)) _ (λ t. so k _ m refl)
@@ -188,7 +188,7 @@ module _ (p : Part) (L : Type 0) (f : List ℕ) (k : Core) (m : Flash) (s e : �
   reading-does look (Meant c) r = works look c r
 
   -- Of a data frame.
-  next-page : (w : Awaited) (r : Reply) (n : Flash) → reads r ≡ false → Beside p L (effect (told r (nextPage w k)) n) (effect (told r (nextPage w (withWindow s e k))) n)
+  next-page : (w : Awaited) (r : Reply) (n : Memory) → reads r ≡ false → Beside p L (effect (told r (nextPage w k)) n) (effect (told r (nextPage w (withWindow s e k))) n)
   unfolding nextPage
   next-page w r n q = if-two (λ x y. Beside p L (effect (told r x) n) (effect (told r y) n)) _ (λ t. so _ r n q) (λ t. so _ r n q)
 
@@ -220,7 +220,7 @@ allowed f Setup t (atFresh start end r) = absurd (false≢true (ap (λ (c : ℕ)
 allowed f Ready t l = refl
 allowed f (Awaiting w) t l = absurd (false≢true t)
 
-command-does : (p : Part) (f : List ℕ) (k : Core) (m : Flash) (s e : ℕ) → Beside p (Opens f k) (commandDoes p k f m) (commandDoes p (withWindow s e k) f m)
+command-does : (p : Part) (f : List ℕ) (k : Core) (m : Memory) (s e : ℕ) → Beside p (Opens f k) (commandDoes p k f m) (commandDoes p (withWindow s e k) f m)
 unfolding commandDoes reads
 command-does p f k m s e =
     if-two (Beside p (Opens f k)) _ (λ t. so p _ f k m s e k _ m refl)
@@ -254,7 +254,7 @@ record Both (L : Type 0) (p : Part) (x y : Reaction) : Type 0 where
   memory : y .does .memory ≡ x .does .memory
   tells : Told L (payloads p (x .does .core .options) (x .does .reply)) (payloads p (y .does .core .options) (y .does .reply))
 
-quiet-both : (L : Type 0) (p : Part) (hs : List ℕ) (k l : Core) (m : Flash) (s e : ℕ) → l ≡ withWindow s e k
+quiet-both : (L : Type 0) (p : Part) (hs : List ℕ) (k l : Core) (m : Memory) (s e : ℕ) → l ≡ withWindow s e k
     → Both L p (reaction hs (silent k m)) (reaction hs (silent l m))
 unfolding payloads
 quiet-both L p hs k l m s e q = record { hears = refl; start = s; end = e; core = q; memory = refl; tells = alike refl }
@@ -263,7 +263,7 @@ taken-whole : (hs : List ℕ) → complete hs ≡ true → take-up hs .taken ≡
 unfolding take-up if_then_else_
 taken-whole hs e = rw e
 
-heard-both : (p : Part) (L K : Type 0) (k : Core) (m : Flash) (s e : ℕ) (hs : List ℕ) (x y : Effect) → (complete hs ≡ true → L → K) → Beside p L x y
+heard-both : (p : Part) (L K : Type 0) (k : Core) (m : Memory) (s e : ℕ) (hs : List ℕ) (x y : Effect) → (complete hs ≡ true → L → K) → Beside p L x y
     → Both K p (heardByte hs x k m) (heardByte hs y (withWindow s e k) m)
 unfolding heardByte
 heard-both p L K k m s e hs x y at b =
@@ -274,7 +274,7 @@ heard-both p L K k m s e hs x y at b =
     go at (alike q) = alike q
     go at (looks l) = looks (at l)
 
-byte-both : (h : Hearing) (p : Part) (k : Core) (hs : List ℕ) (b : ℕ) (m : Flash) (s e : ℕ) → quietIn h b (withWindow s e k) ≡ withWindow s e (quietIn h b k)
+byte-both : (h : Hearing) (p : Part) (k : Core) (hs : List ℕ) (b : ℕ) (m : Memory) (s e : ℕ) → quietIn h b (withWindow s e k) ≡ withWindow s e (quietIn h b k)
     → Both (Looking (takenIn h hs (Byte b)) k) p (byteIn h p k hs b m) (byteIn h p (withWindow s e k) hs b m)
 unfolding byteIn takenIn takenAs collectsOn quietIn frameDoes
 byte-both HearsNothing p k hs b m s e q = quiet-both _ p hs _ _ m s e q
@@ -283,7 +283,7 @@ byte-both HearsCommands p k hs b m s e q =
     (command-does p (hear Command hs b) k m s e)
 byte-both (HearsData w) p k hs b m s e q = heard-both p ⊥ _ k m s e (hear Data hs b) _ _ (λ t l. absurd l) (data-does p ⊥ (hear Data hs b) k m s e w)
 
-react-both : (v : Event) (p : Part) (k : Core) (hs : List ℕ) (m : Flash) (s e : ℕ)
+react-both : (v : Event) (p : Part) (k : Core) (hs : List ℕ) (m : Memory) (s e : ℕ)
     → Both (Looking (takenIn (hearing (k .phase)) hs v) k) p (reactTo v p k hs m) (reactTo v p (withWindow s e k) hs m)
 unfolding reactTo quietCore
 react-both (Byte b) p k hs m s e = byte-both (hearing (k .phase)) p k hs b m s e (quiet-beside (Byte b) k s e)

@@ -9,7 +9,7 @@ use Rattle.chip.specs.Run.{onward, spokenIn}
 use Rattle.chip.specs.Step.{Outcome, reaction}
 use Rattle.chip.specs.declared.Event.{Event}
 use Rattle.chip_commands.specs.Commands.{work}
-use Rattle.chip_core.specs.Effect.{Flash}
+use Rattle.chip_core.specs.Effect.{Memory}
 use Rattle.chip_core.specs.declared.Core.{Core}
 use Rattle.chip_core.specs.declared.Phase.{Phase}
 use Rattle.chip_core.specs.declared.Phase.the-variants.{Awaiting, ModeByte, Ready, Setup}
@@ -46,12 +46,12 @@ abbrev pub RefusedChangesNothing : Type 0
 RefusedChangesNothing =
     (p : Part) (o : Outcome) (v : Event) → Stands p o → refuses (uttered (spokenIn (onward p o v))) ≡ true → NothingChanged o (onward p o v)
 
--- Of each of the eleven commands alone: where its work is answered by another status, record and flash are as they were.
-pub record SameRecord (k l : Core) (m n : Flash) : Type 0 where
+-- Of each of the eleven commands alone: where its work is answered by another status, record, flash and sums are as they were.
+pub record SameRecord (k l : Core) (m n : Memory) : Type 0 where
   pub core : l ≡ k
   pub memory : n ≡ m
 
 abbrev pub RefusedWork : Type 0
 RefusedWork =
-    (c : Command) (p : Part) (k : Core) (m : Flash) → refuses (utteranceOf p (reaction [] (work c p k m))) ≡ true
+    (c : Command) (p : Part) (k : Core) (m : Memory) → refuses (utteranceOf p (reaction [] (work c p k m))) ≡ true
     → SameRecord k (work c p k m .core) m (work c p k m .memory)

@@ -47,7 +47,7 @@ pub data SaysSame (p : Part) : List Event → Outcome → Outcome → Type 0 whe
       → SaysSame p vs (onward p o v) (onward p u v) → SaysSame p (v ∷ vs) o u
   looking : {v : Event} {vs : List Event} {o u : Outcome} → LooksAtWindow o v → SaysSame p vs (onward p o v) (onward p u v) → SaysSame p (v ∷ vs) o u
 
--- Whatever comes, flash, flags, rate and phase are the same, and what is said.
+-- Whatever comes, flash, sums, flags, rate and phase are the same, and what is said.
 pub record NotRestricted (p : Part) (vs : List Event) (o u : Outcome) : Type 0 where
   pub says : SaysSame p vs o u
   pub after : OtherWindow (run p vs o) (run p vs u)

@@ -5,10 +5,11 @@ use mathlib.Core.Path.{_≡_, refl}
 use Rattle.chip.specs.Run.{answers, heardBack}
 use Rattle.chip.specs.Step.{byteIn, frameDoes, heardByte, modeByte, reactTo, settled, stepOf}
 use Rattle.chip_state.specs.Refusals.{goodAwaited, goodBegun, goodCollected, goodCore, goodPhase, goodPlaces, goodState, verdictOf}
-use Rattle.claims_stars.specs.Table.{Example, order, replyBy, table}
+use Rattle.claims_stars.specs.Table.{Example, FreshSums, order, replyBy, table}
 use Rattle.chip_commands.specs.Commands.{allowedIn, commandDoes, readingDoes, work}
 use Rattle.commands.specs.Commands.{commandTable, fitted, readCommand, readIn}
-use Rattle.chip_work.specs.Work.{blankCheck, blockErase, checksum, erasedIn, forbidden, programming, rangeBytes, rateSet, securityRelease, verify}
+use Rattle.chip_work.specs.Work.{blankCheck, blockErase, checksum, erasedIn, forbidden, programming, rateSet, securityRelease, verify}
+use Rattle.chip_sums.specs.Sums.{allSummed, blockSum, flashVerdict, kept, rangeBytes, slot, summedBy, summedTo, workedOut}
 use Rattle.chip_flash.specs.Flash.{blank, eraseOf, sumOfBytes}
 use Rattle.frame.specs.Collector.{fresh, hear, heard, holding}
 use Rattle.frame.specs.Frame.{complete, counted, framed, full, isFrame, payload}
@@ -34,7 +35,7 @@ unfolding answers heardBack byteIn frameDoes heardByte modeByte reactTo settled 
     goodPhase goodPlaces goodState verdictOf blankCheck blockErase checksum erasedIn forbidden programming rangeBytes rateSet securityRelease verify replyBy
     table commandTable fitted readCommand readIn fresh hear heard holding complete counted framed full isFrame payload frames framing fitting judgeOf summed
     less lessAll sumOf allAre putAt putOf same lowFirst numberAt blockOf blockSize described endsBlock lastOf liesIn pageOf placeIn placeOf rangeOf
-    startsBlock stretch wholeBlocks acceptsRate modeOf firstOf signature _and_ _from_to_ _or_ if_then_else_
+    startsBlock stretch wholeBlocks acceptsRate modeOf firstOf signature _and_ _from_to_ _or_ if_then_else_ kept slot
 stars = refl
 
 pub in-order : map (λ (x : Example). x .gives) order ≡ map (λ (x : Example). x .printed) order
@@ -46,3 +47,9 @@ unfolding answers heardBack byteIn frameDoes heardByte modeByte reactTo settled 
     lessAll sumOf allAre putAt putOf same lowFirst numberAt blockOf blockSize described endsBlock lastOf liesIn pageOf placeIn placeOf rangeOf startsBlock
     stretch wholeBlocks acceptsRate modeOf firstOf signature _and_ _from_to_ _or_ if_then_else_
 in-order = refl
+
+-- The sums of fresh flash are those of the examples.
+pub fresh-sums : FreshSums
+unfolding sumOfBytes allSummed blockSum flashVerdict rangeBytes slot summedBy summedTo workedOut less lessAll blockSize described firstOf _and_ _from_to_
+    if_then_else_
+fresh-sums = refl

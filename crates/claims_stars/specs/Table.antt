@@ -1,11 +1,12 @@
 -- The ★ examples of document 01, "Examples, on that part": what the definitions give, and what the document prints, in the document's order.
-use mathlib.Core.List.{List, [], _∷_, map}
+use mathlib.Core.List.{List, [], _++_, _∷_, map}
+use mathlib.Core.Path.{_≡_}
 use Prim.Native.Nat.{ℕ}
 use lib.ListN.{replicate}
 use Rattle.chip.specs.Run.{answers, before, heardBack}
 use Rattle.chip.specs.Step.{Outcome}
 use Rattle.chip.specs.declared.Event.the-variants.{Byte}
-use Rattle.chip_core.specs.Effect.{flash}
+use Rattle.chip_core.specs.Effect.{Memory, memory}
 use Rattle.chip_core.specs.declared.Phase.the-variants.{Ready}
 use Rattle.frame.specs.Collector.{fresh}
 use Rattle.frame.specs.Judgement.{judgeOf, statusOf}
@@ -13,18 +14,31 @@ use Rattle.frame.specs.Sum.{sumOf}
 use Rattle.frame.specs.declared.Footer.the-variants.{Last}
 use Rattle.chip_options.specs.Options.{freshOptions}
 use Rattle.chip_options.specs.declared.Options.{Options}
+use Rattle.chip_sums.specs.Sums.{slots, summing, workedOut}
 use Rattle.part.specs.declared.Part.{Part}
+use Rattle.part.specs.declared.refusal.Verdict.the-variants.{Accepted}
 use Rattle.replay_records.specs.Records.{replayPart}
 
 -- "Examples, on that part": the part of the replay.
 abbrev pub thePart : Part
 thePart = replayPart
 
+-- The sums of fresh flash: 0400h for each of its 16 code blocks and 4 data blocks; the slots of blocks that the part has not are 0.
+abbrev pub freshSums : List ℕ
+freshSums = replicate 16 0x0400 ++ (replicate 48 0 ++ (replicate 4 0x0400 ++ replicate 4 0))
+
+-- Fresh flash, and its sums.
+abbrev pub freshMemory : Memory
+freshMemory = memory (replicate 16384 0xFF) (replicate 4096 0xFF) freshSums
+
+-- They are what the call that works all sums out gives.
+abbrev pub FreshSums : Type 0
+FreshSums = workedOut thePart (freshMemory .flash) (replicate slots 0) ≡ summing Accepted freshSums
+
 -- Ready, flash fresh, nothing collected; the room is the least that is accepted.
 abbrev pub chipWith : Options → Outcome
 chipWith o =
-    before (record { core = record { options = o; rate = 0x00; phase = Ready }; collector = fresh })
-    (flash (replicate 16384 0xFF) (replicate 4096 0xFF)) (replicate 32 0x00)
+    before (record { core = record { options = o; rate = 0x00; phase = Ready }; collector = fresh }) freshMemory (replicate 32 0x00)
 
 abbrev pub readyChip : Outcome
 readyChip = chipWith (freshOptions thePart)

@@ -33,10 +33,11 @@ use Rattle.commands.specs.Commands.{commandTable, fitted, readCommand, readIn}
 use Rattle.chip_work.specs.Work.{blockErase, forbidden, programming}
 use Rattle.chip_core.specs.Hearing.{hearing}
 use Rattle.chip_pages.specs.Pages.{badData, dataDoes, footerOf, goodData, isLastPage, lengthOf, nextPage, pageIn, pageStored, programPage, storedReply}
-use Rattle.chip_core.specs.Effect.{Flash}
+use Rattle.chip_core.specs.Effect.{Memory}
 use Rattle.chip_core.specs.declared.Awaited.{Awaited}
 use Rattle.chip_core.specs.declared.Core.{Core}
 use Rattle.chip_core.specs.declared.Phase.the-variants.{Awaiting, Ready}
+use Rattle.chip_sums.specs.Sums.{resummed}
 use Rattle.chip_flash.specs.Flash.{blank}
 use Rattle.frame.specs.Collector.{fresh, hear, heard, holding}
 use Rattle.frame.specs.Frame.{complete, counted, framed, full, isFrame, payload}
@@ -139,13 +140,13 @@ other-status s t M bs h d n k e = go (says-at-most s M h thePart (map Byte bs) r
 record Computed : Type 0 where
   reset-says : firstStatus (saysBy stepOf thePart (map Byte reset) readyChip) ≡ 0x06
   erase-says : firstStatus (saysBy stepOf thePart (map Byte eraseWithin) readyChip) ≡ 0x05
-  first-page : getD (runBy stepOf thePart (map Byte twoPages) readyChip .memory .codeFlash) 0x0400 0 ≡ 0xAA
-  second-page : getD (runBy stepOf thePart (map Byte twoPages) readyChip .memory .codeFlash) 0x0500 0 ≡ 0xAA
+  first-page : getD (runBy stepOf thePart (map Byte twoPages) readyChip .memory .flash .codeFlash) 0x0400 0 ≡ 0xAA
+  second-page : getD (runBy stepOf thePart (map Byte twoPages) readyChip .memory .flash .codeFlash) 0x0500 0 ≡ 0xAA
 
 computed : Computed
 unfolding firstStatus orElse saysBy runBy byteIn frameDoes heardByte reactTo settled stepOf allowedIn commandDoes readingDoes work hearing blank fixedBits
     freshOptions goodOptions lastBlock badData dataDoes footerOf goodData isLastPage lengthOf
-    nextPage pageIn pageStored programPage storedReply framesOf payloads saidOf goodAwaited goodBegun goodCollected goodCore goodPhase
+    nextPage pageIn pageStored programPage resummed storedReply framesOf payloads saidOf goodAwaited goodBegun goodCollected goodCore goodPhase
     goodPlaces goodState verdictOf blockErase forbidden programming
     commandTable fitted readCommand readIn fresh hear heard holding complete counted framed full isFrame payload fitting judgeOf summed less
     lessAll sumOf allAre putAt putOf lowFirst numberAt blockOf blockSize described endsBlock liesIn pageOf placeIn placeOf rangeOf startsBlock
@@ -159,21 +160,21 @@ pub always-acknowledges-differs : AcknowledgesDiffers
 always-acknowledges-differs M h = other-status 0x06 0x05 M eraseWithin h (computed .erase-says) (λ e. omega arith) (omega arith)
 
 -- Where nothing is stored, a blank byte stays blank.
-stays-blank : (t : ℕ → Bool) (M : Machine) (i : ℕ) → StoresOnly t M → t i ≡ false → (p : Part) (vs : List Event) (o : Outcome) → getD (o .memory .codeFlash) i 0 ≡ 0xFF
-    → getD (runBy M p vs o .memory .codeFlash) i 0 ≡ 0xFF
+stays-blank : (t : ℕ → Bool) (M : Machine) (i : ℕ) → StoresOnly t M → t i ≡ false → (p : Part) (vs : List Event) (o : Outcome) → getD (o .memory .flash .codeFlash) i 0 ≡ 0xFF
+    → getD (runBy M p vs o .memory .flash .codeFlash) i 0 ≡ 0xFF
 unfolding runBy
 stays-blank t M i h n p [] o e = e
 stays-blank t M i h n p (v ∷ vs) o e = stays-blank t M i h n p vs (onwardBy M p o v) (go (h p (o .chip) v (o .memory) (o .room) i n))
   where
-    go : Unstored (getD (o .memory .codeFlash) i 0) (getD (onwardBy M p o v .memory .codeFlash) i 0) → getD (onwardBy M p o v .memory .codeFlash) i 0 ≡ 0xFF
+    go : Unstored (getD (o .memory .flash .codeFlash) i 0) (getD (onwardBy M p o v .memory .flash .codeFlash) i 0) → getD (onwardBy M p o v .memory .flash .codeFlash) i 0 ≡ 0xFF
     go (stayed q) = q ∙ e
     go (blanked q) = q
 
-other-flash : (t : ℕ → Bool) (M : Machine) (i : ℕ) → StoresOnly t M → t i ≡ false → getD (readyChip .memory .codeFlash) i 0 ≡ 0xFF
-    → getD (runBy stepOf thePart (map Byte twoPages) readyChip .memory .codeFlash) i 0 ≡ 0xAA → LeavesElse M twoPages
+other-flash : (t : ℕ → Bool) (M : Machine) (i : ℕ) → StoresOnly t M → t i ≡ false → getD (readyChip .memory .flash .codeFlash) i 0 ≡ 0xFF
+    → getD (runBy stepOf thePart (map Byte twoPages) readyChip .memory .flash .codeFlash) i 0 ≡ 0xAA → LeavesElse M twoPages
 other-flash t M i h n b d e =
     let z : _≡_ {A = ℕ} 0xFF 0xAA =
-    sym (stays-blank t M i h n thePart (map Byte twoPages) readyChip b) ∙ ap (λ (m : Flash). getD (m .codeFlash) i 0) e ∙ d in
+    sym (stays-blank t M i h n thePart (map Byte twoPages) readyChip b) ∙ ap (λ (m : Memory). getD (m .flash .codeFlash) i 0) e ∙ d in
     omega arith
 
 pub stores-nothing-differs : StoresNothingDiffers
@@ -201,7 +202,7 @@ taken-up t (b ∷ bs) new (suc i) n = taken-up (λ j. t (suc j)) bs (drop 1 new)
 
 pub stores-where : (t : ℕ → Bool) → StoresOnly t (stores t)
 unfolding stores
-stores-where t p c v m room i n = taken-up t (m .codeFlash) (stepOf p c v m room .memory .codeFlash) i n
+stores-where t p c v m room i n = taken-up t (m .flash .codeFlash) (stepOf p c v m room .memory .flash .codeFlash) i n
 
 -- .. and not demand 2: it says nothing to a Reset, as little as a chip that says 15h or nothing.
 pub deaf-differs : SaysElse deaf reset

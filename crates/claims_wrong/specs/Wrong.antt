@@ -19,7 +19,7 @@ use Rattle.claims_good.specs.Good.{uttered}
 use Rattle.claims_noise.specs.Claims.{Machine, runBy, saysBy}
 use Rattle.claims_noise.specs.Examples.{reset}
 use Rattle.claims_stars.specs.Table.{readyChip, thePart}
-use Rattle.chip_core.specs.Effect.{Flash}
+use Rattle.chip_core.specs.Effect.{Memory, memory}
 use Rattle.frame.specs.Frame.{dataFrame}
 use Rattle.frame.specs.declared.Footer.the-variants.{Last, More}
 use Rattle.part.specs.declared.Part.{Part}
@@ -27,13 +27,13 @@ use Rattle.words.specs.Words.{_or_, if_then_else_}
 
 -- A chip meets demand 2 where it does with every event what the definition does.
 abbrev pub MeetsDemand2 : Machine → Type 0
-MeetsDemand2 M = (p : Part) (c : Chip) (v : Event) (m : Flash) (room : List ℕ) → M p c v m room ≡ stepOf p c v m room
+MeetsDemand2 M = (p : Part) (c : Chip) (v : Event) (m : Memory) (room : List ℕ) → M p c v m room ≡ stepOf p c v m room
 
 -- A chip differs from the definition on these bytes, sent to the chip of the examples (ready, flash fresh, nothing collected): it says something else, ..
 abbrev pub SaysElse : Machine → List ℕ → Type 0
 SaysElse M bs = saysBy M thePart (map Byte bs) readyChip ≢ saysBy stepOf thePart (map Byte bs) readyChip
 
--- .. or it leaves other flash.
+-- .. or it leaves other flash or sums.
 abbrev pub LeavesElse : Machine → List ℕ → Type 0
 LeavesElse M bs = runBy M thePart (map Byte bs) readyChip .memory ≢ runBy stepOf thePart (map Byte bs) readyChip .memory
 
@@ -43,7 +43,7 @@ pub data FirstIs (s : ℕ) : List ℕ → Type 0 where
   begins : (bs : List ℕ) → getD bs 2 0 ≡ s → FirstIs s bs
 
 abbrev pub SaysOnly : ℕ → Machine → Type 0
-SaysOnly s M = (p : Part) (c : Chip) (v : Event) (m : Flash) (room : List ℕ) → FirstIs s (uttered (spokenIn (M p c v m room)) .bytes)
+SaysOnly s M = (p : Part) (c : Chip) (v : Event) (m : Memory) (room : List ℕ) → FirstIs s (uttered (spokenIn (M p c v m room)) .bytes)
 
 -- The definition says 06h to a Reset, and 05h to "Erase .. 0401h".
 abbrev pub Says15hDiffers : Type 0
@@ -62,8 +62,8 @@ pub data Unstored (old new : ℕ) : Type 0 where
 
 abbrev pub StoresOnly : (ℕ → Bool) → Machine → Type 0
 StoresOnly t M =
-    (p : Part) (c : Chip) (v : Event) (m : Flash) (room : List ℕ) (i : ℕ) → t i ≡ false
-    → Unstored (getD (m .codeFlash) i 0) (getD (M p c v m room .memory .codeFlash) i 0)
+    (p : Part) (c : Chip) (v : Event) (m : Memory) (room : List ℕ) (i : ℕ) → t i ≡ false
+    → Unstored (getD (m .flash .codeFlash) i 0) (getD (M p c v m room .memory .flash .codeFlash) i 0)
 
 abbrev pub nowhere : ℕ → Bool
 nowhere i = false
@@ -107,6 +107,6 @@ stores t p c v m room =
     record {
       answer = o .answer;
       chip = o .chip;
-      memory = record { codeFlash = takenUp t (m .codeFlash) (o .memory .codeFlash); dataFlash = o .memory .dataFlash };
+      memory = memory (takenUp t (m .flash .codeFlash) (o .memory .flash .codeFlash)) (o .memory .flash .dataFlash) (o .memory .sums);
       room = o .room;
     }

@@ -135,13 +135,14 @@ fn turn(
     capture: &[u8],
     code: &mut [u8],
     data: &mut [u8],
+    sums: &mut [u16; 72],
     room: &mut [u8],
     output: &mut [u8],
     text: &mut [u8],
 ) -> Went
     requires { ⌜ 1024 ≤ length (now text) ⌝ }
 {
-    let played = replay_records::replay(part, chip, capture, code, data, room, output);
+    let played = replay_records::replay(part, chip, capture, code, data, sums, room, output);
     let n = played.bytes;
     let after = played.chip;
     if output.len() < n {
@@ -183,14 +184,16 @@ fn fail_at(name: &[u8]) {
     os::fail(name);
 }
 
-// A buffer of 2,048 bytes is 256 records, for whose replies the output has room. A proved loop has to end, and nothing says that the input does: so it counts
-// its turns down, from a number that no run uses up.
+// The sums are worked out once, on the fresh flash. A buffer of 2,048 bytes is 256 records, for whose replies the output has room. A proved loop has to end, and
+// nothing says that the input does: so it counts its turns down, from a number that no run uses up.
 fn replay(fd: i32, name: &[u8]) {
     let part = replay_records::replay_part();
     let fresh = events::fresh(part);
     let mut chip = fresh.chip;
     let mut code = [0xFFu8; 16384];
     let mut data = [0xFFu8; 4096];
+    let mut sums = [0u16; 72];
+    chip_sums::work_out(part, &code, &data, &mut sums);
     let mut room = [0u8; 32];
     let mut capture = [0u8; 2048];
     let mut output = io::large_buffer();
@@ -212,6 +215,7 @@ fn replay(fd: i32, name: &[u8]) {
             &capture[0..n],
             &mut code,
             &mut data,
+            &mut sums,
             &mut room,
             &mut output,
             &mut text,

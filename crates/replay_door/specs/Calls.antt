@@ -4,7 +4,7 @@ use Prim.Native.Nat.{ℕ}
 use lib.ListN.{length}
 use Rattle.chip_layout.specs.Layout.{chipBytes, chipIn}
 use Rattle.chip_layout.specs.Admission.{chipAcceptance}
-use Rattle.chip_core.specs.Effect.{Flash}
+use Rattle.chip_core.specs.Effect.{Memory}
 use Rattle.part.specs.Refusal.{number}
 use Rattle.part.specs.declared.Part.{Part}
 use Rattle.part.specs.declared.refusal.Verdict.{Verdict}
@@ -28,20 +28,20 @@ pub record ReplayTold : Type 0 where
   pub ending : ℕ
   pub told : List ℕ
   pub state : List ℕ
-  pub memory : Flash
+  pub memory : Memory
   pub room : List ℕ
   pub output : List ℕ
 
-abbrev pub replayTold : ℕ → List ℕ → List ℕ → Flash → List ℕ → List ℕ → ReplayTold
+abbrev pub replayTold : ℕ → List ℕ → List ℕ → Memory → List ℕ → List ℕ → ReplayTold
 replayTold n told state m room output = record { ending = n; told = told; state = state; memory = m; room = room; output = output }
 
 -- A refused call changes nothing, the numbers told included.
-unfoldable pub replayedBy : Verdict → Part → List ℕ → List ℕ → List ℕ → Flash → List ℕ → List ℕ → ReplayTold
+unfoldable pub replayedBy : Verdict → Part → List ℕ → List ℕ → List ℕ → Memory → List ℕ → List ℕ → ReplayTold
 replayedBy (Verdict.Refused r) p capture told state m room output = replayTold (number r) told state m room output
 replayedBy Accepted p capture told state m room output =
     let x = replayOf p capture (chipIn state) m room output in
     replayTold (endNumber (x .ended)) (x .records ∷ x .bytes ∷ x .frames ∷ []) (chipBytes (x .chip)) (x .memory) (x .room) (x .output)
 
-unfoldable pub replayedThrough : Part → List ℕ → List ℕ → List ℕ → Flash → List ℕ → List ℕ → ReplayTold
+unfoldable pub replayedThrough : Part → List ℕ → List ℕ → List ℕ → Memory → List ℕ → List ℕ → ReplayTold
 replayedThrough p capture told state m room output =
-    replayedBy (chipAcceptance p state (length (m .codeFlash)) (length (m .dataFlash)) (length room)) p capture told state m room output
+    replayedBy (chipAcceptance p state (length (m .flash .codeFlash)) (length (m .flash .dataFlash)) (length room)) p capture told state m room output

@@ -1,6 +1,6 @@
 // The call for C and Rust that plays capture records into a chip, with a part and a state as in `chip_door`. Document 01, "Replay" and "Refusal numbers".
 ghost use mathlib.Core.Path.{_≡_};
-ghost use Rattle.chip_core.specs.Effect.{flash};
+ghost use Rattle.chip_core.specs.Effect.{memory};
 ghost use Rattle.part_layout.specs.Layout.{partIn};
 ghost use Rattle.part.specs.declared.refusal.Verdict.the-variants.{Accepted};
 ghost use Rattle.replay_door.specs.Calls.{endNumber, replayedBy, replayedThrough, replayTold};
@@ -27,16 +27,18 @@ fn play(
     capture: &[u8],
     code: &mut [u8],
     data: &mut [u8],
+    sums: &mut [u16; 72],
     room: &mut [u8],
     output: &mut [u8],
     told: &mut [u64; 3],
 ) -> u32
-    ensures { λ r. ⌜ replayTold r (now (told .exit)) (now (state .exit)) (flash (now (code .exit)) (now («data» .exit))) (now (room .exit)) (now (output .exit))
-        ≡ replayedBy Accepted part (now (capture .entry)) (now (told .entry)) (now (state .entry)) (flash (now (code .entry)) (now («data» .entry)))
+    ensures { λ r. ⌜ replayTold r (now (told .exit)) (now (state .exit))
+        (memory (now (code .exit)) (now («data» .exit)) (now (sums .exit))) (now (room .exit)) (now (output .exit))
+        ≡ replayedBy Accepted part (now (capture .entry)) (now (told .entry)) (now (state .entry)) (memory (now (code .entry)) (now («data» .entry)) (now (sums .entry)))
         (now (room .entry)) (now (output .entry)) ⌝ }
 {
     let chip = chip_layout::chip_in(state);
-    let x = replay_records::replay(part, chip, capture, code, data, room, output);
+    let x = replay_records::replay(part, chip, capture, code, data, sums, room, output);
     let ended = x.ended;
     chip_layout::lay_chip(x.chip, state);
     *told = [x.records as u64, x.bytes as u64, x.frames as u64];
@@ -51,18 +53,20 @@ pub extern "C" fn zc_replay(
     capture: &[u8],
     code: &mut [u8],
     data: &mut [u8],
+    sums: &mut [u16; 72],
     room: &mut [u8],
     output: &mut [u8],
     told: &mut [u64; 3],
 ) -> u32
-    ensures { λ r. ⌜ replayTold r (now (told .exit)) (now (state .exit)) (flash (now (code .exit)) (now («data» .exit))) (now (room .exit)) (now (output .exit))
+    ensures { λ r. ⌜ replayTold r (now (told .exit)) (now (state .exit))
+        (memory (now (code .exit)) (now («data» .exit)) (now (sums .exit))) (now (room .exit)) (now (output .exit))
         ≡ replayedThrough (partIn (now (part .entry))) (now (capture .entry)) (now (told .entry)) (now (state .entry))
-        (flash (now (code .entry)) (now («data» .entry))) (now (room .entry)) (now (output .entry)) ⌝ }
+        (memory (now (code .entry)) (now («data» .entry)) (now (sums .entry))) (now (room .entry)) (now (output .entry)) ⌝ }
 {
     let p = part_layout::part_in(part);
     let v = admission::chip_acceptance(p, state, code.len(), data.len(), room.len());
     match v {
         Verdict::Refused(refusal) => refusal.number() as u32,
-        Verdict::Accepted => play(p, state, capture, code, data, room, output, told),
+        Verdict::Accepted => play(p, state, capture, code, data, sums, room, output, told),
     }
 }

@@ -26,7 +26,7 @@ use Rattle.chip.specs.declared.Answer.the-variants as Answer
 use Rattle.chip_state.specs.declared.Chip.{Chip}
 use Rattle.chip.specs.declared.Event.{Event}
 use Rattle.chip.specs.declared.Event.the-variants.{Byte, Gap}
-use Rattle.chip_core.specs.Effect.{Flash}
+use Rattle.chip_core.specs.Effect.{Memory}
 use Rattle.frame.proofs.Laws.Sum.{none}
 use Rattle.lent.proofs.Laws.{Written, written-put, written-start}
 use Rattle.lent.specs.Lent.{left, putOf}
@@ -124,7 +124,7 @@ feed-plays p n b (d ∷ bs) x a =
     ∙ sym (ap (λ (f : Feeding). goesFrom p n (b ∷ d ∷ bs) f x) (feed-next p n b (d ∷ bs) (x .left)))
 
 -- How far the loop over a record's bytes has come: i of them are taken, n bytes in k frames are said and stand in the output, and t is what the rest makes of that.
-pub record PlayedFrom (p : Part) (bs : List ℕ) (c : Chip) (m : Flash) (room : List ℕ) (i n k : ℕ) (whole output : List ℕ) (t : Playing) : Type 0 where
+pub record PlayedFrom (p : Part) (bs : List ℕ) (c : Chip) (m : Memory) (room : List ℕ) (i n k : ℕ) (whole output : List ℕ) (t : Playing) : Type 0 where
   pub bytes : ℕ
   pub frames : ℕ
   pub said : List ℕ
@@ -135,7 +135,7 @@ pub record PlayedFrom (p : Part) (bs : List ℕ) (c : Chip) (m : Flash) (room : 
   pub few : k ≤ 2 * i
   pub rest : played p (map Byte (drop i bs)) (record { left = record { answer = Replied bytes frames; chip = c; memory = m; room = room }; said = said; frames = k }) ≡ t
 
-pub played-start : (p : Part) (bs : List ℕ) (c : Chip) (m : Flash) (room output : List ℕ)
+pub played-start : (p : Part) (bs : List ℕ) (c : Chip) (m : Memory) (room output : List ℕ)
     → PlayedFrom p bs c m room 0 0 0 output output (played p (map Byte bs) (beforePlaying c m room))
 played-start p bs c m room output =
     record {
@@ -151,7 +151,7 @@ played-start p bs c m room output =
     }
 
 -- What the feeding of the bytes not yet taken makes of what was played.
-fed-plays : {p : Part} {bs : List ℕ} {c : Chip} {m : Flash} {room : List ℕ} {i n k : ℕ} {whole output : List ℕ} {t : Playing} (f : Feeding) (q : PlayedFrom p bs c m room i n k whole output t)
+fed-plays : {p : Part} {bs : List ℕ} {c : Chip} {m : Memory} {room : List ℕ} {i n k : ℕ} {whole output : List ℕ} {t : Playing} (f : Feeding) (q : PlayedFrom p bs c m room i n k whole output t)
     → Arrays p → f ≡ feedOf p (take (length bs - i) (drop i bs)) (before c m room) → i < length bs
     → goesFrom p 0 (drop i bs) f (record { left = record { answer = Replied (q .bytes) (q .frames); chip = c; memory = m; room = room }; said = q .said; frames = k }) ≡ t
 fed-plays {p} {bs} {c} {m} {room} {i} {n} {k} {whole} {output} {t} f q a e h =
@@ -185,7 +185,7 @@ fed-takes p bs o i n k f e h r =
     let u : feedFrom p 0 (getD bs i 0 ∷ drop (suc i) bs) o .left .answer ≡ Replied n k = ap (λ (z : Feeding). z .left .answer) (sym g) ∙ r in
     rw g (feed-takes p 0 n k (getD bs i 0) (drop (suc i) bs) o u)
 
-pub played-refused : {p : Part} {bs : List ℕ} {c : Chip} {m : Flash} {room : List ℕ} {i n k : ℕ} {whole output : List ℕ} {t : Playing} {r : Refusal} (f : Feeding)
+pub played-refused : {p : Part} {bs : List ℕ} {c : Chip} {m : Memory} {room : List ℕ} {i n k : ℕ} {whole output : List ℕ} {t : Playing} {r : Refusal} (f : Feeding)
     → PlayedFrom p bs c m room i n k whole output t → Arrays p → f ≡ feedOf p (take (length bs - i) (drop i bs)) (before c m room) → i < length bs → f .left .answer ≡ Answer.Refused r
     → recordPlaying (record { ended = RecordEnded.Refused r; chip = f .left .chip }) (f .left .memory) (f .left .room) output ≡ playedInto t whole
 unfolding playedInto endedBy answering
@@ -200,7 +200,7 @@ played-refused {p} {bs} {c} {m} {room} {i} {n} {k} {whole} {output} {t} {r} f q 
     ∙ ap (λ (v : Answer). record { ended = endedBy v y; chip = f .left .chip; memory = f .left .memory; room = f .left .room; output = q .said ++ drop (length (q .said)) whole }) (sym z)
     ∙ ap (λ (v : Playing). playedInto v whole) g
 
-pub played-turn : {p : Part} {bs : List ℕ} {c : Chip} {m : Flash} {room : List ℕ} {i n k : ℕ} {whole output output′ : List ℕ} {t : Playing} {j l : ℕ} {s : Room} (f : Feeding)
+pub played-turn : {p : Part} {bs : List ℕ} {c : Chip} {m : Memory} {room : List ℕ} {i n k : ℕ} {whole output output′ : List ℕ} {t : Playing} {j l : ℕ} {s : Room} (f : Feeding)
     → PlayedFrom p bs c m room i n k whole output t → Arrays p → f ≡ feedOf p (take (length bs - i) (drop i bs)) (before c m room) → i < length bs → f .left .answer ≡ Replied j l
     → length bs ≤ 6 → 192 ≤ length whole → left s output′ ≡ putOf output n (take (j - 0) (f .left .room))
     → PlayedFrom p bs (f .left .chip) (f .left .memory) (f .left .room) (i + f .taken) (n + j) (k + l) whole output′ t
@@ -232,7 +232,7 @@ played-turn {p} {bs} {c} {m} {room} {i} {n} {k} {whole} {output} {output′} {t}
       rest = ap (λ (y : Playing). played p (map Byte (drop (i + f .taken) bs)) y) v ∙ ap (λ (y : List ℕ). played p (map Byte y) (after (f .left) x)) (sym d) ∙ g;
     }
 
-pub played-end : {p : Part} {bs : List ℕ} {c : Chip} {m : Flash} {room : List ℕ} {i n k : ℕ} {whole output : List ℕ} {t : Playing} → PlayedFrom p bs c m room i n k whole output t
+pub played-end : {p : Part} {bs : List ℕ} {c : Chip} {m : Memory} {room : List ℕ} {i n k : ℕ} {whole output : List ℕ} {t : Playing} → PlayedFrom p bs c m room i n k whole output t
     → length bs ≤ i → recordPlaying (record { ended = Played n k; chip = c }) m room output ≡ playedInto t whole
 unfolding playedInto endedBy played
 played-end {p} {bs} {c} {m} {room} {i} {n} {k} {whole} {output} {t} q h =
@@ -243,16 +243,16 @@ played-end {p} {bs} {c} {m} {room} {i} {n} {k} {whole} {output} {t} q h =
     ∙ ap (λ (v : Playing). playedInto v whole) g
 
 -- The same of a turn of the loop: it takes bytes that are there, at least one, and what is said lies in the room.
-pub turn-within : {p : Part} {bs : List ℕ} {c : Chip} {m : Flash} {room : List ℕ} {i n k : ℕ} {whole output : List ℕ} {t : Playing} (f : Feeding)
+pub turn-within : {p : Part} {bs : List ℕ} {c : Chip} {m : Memory} {room : List ℕ} {i n k : ℕ} {whole output : List ℕ} {t : Playing} (f : Feeding)
     → PlayedFrom p bs c m room i n k whole output t → f ≡ feedOf p (take (length bs - i) (drop i bs)) (before c m room) → i + f .taken ≤ length bs
 turn-within {p} {bs} {c} {m} {room} {i} {n} {k} {whole} {output} {t} f q e = fed-taken p bs (before c m room) i f e (q .within)
 
-pub turn-takes : {p : Part} {bs : List ℕ} {c : Chip} {m : Flash} {room : List ℕ} {i n k : ℕ} {whole output : List ℕ} {t : Playing} {j l : ℕ} (f : Feeding)
+pub turn-takes : {p : Part} {bs : List ℕ} {c : Chip} {m : Memory} {room : List ℕ} {i n k : ℕ} {whole output : List ℕ} {t : Playing} {j l : ℕ} (f : Feeding)
     → PlayedFrom p bs c m room i n k whole output t → f ≡ feedOf p (take (length bs - i) (drop i bs)) (before c m room)
     → i < length bs → f .left .answer ≡ Replied j l → 1 ≤ f .taken
 turn-takes {p} {bs} {c} {m} {room} {i} {n} {k} {whole} {output} {t} {j} {l} f q e h z = fed-takes p bs (before c m room) i j l f e h z
 
-pub turn-said : {p : Part} {bs : List ℕ} {c : Chip} {m : Flash} {room : List ℕ} {i n k : ℕ} {whole output : List ℕ} {t : Playing} {j l : ℕ} (f : Feeding)
+pub turn-said : {p : Part} {bs : List ℕ} {c : Chip} {m : Memory} {room : List ℕ} {i n k : ℕ} {whole output : List ℕ} {t : Playing} {j l : ℕ} (f : Feeding)
     → PlayedFrom p bs c m room i n k whole output t → Arrays p → f ≡ feedOf p (take (length bs - i) (drop i bs)) (before c m room)
     → f .left .answer ≡ Replied j l → (j ≤ 31) × (j ≤ length (f .left .room)) × (l ≤ 2)
 turn-said {p} {bs} {c} {m} {room} {i} {n} {k} {whole} {output} {t} {j} {l} f q a e z =
@@ -260,7 +260,7 @@ turn-said {p} {bs} {c} {m} {room} {i} {n} {k} {whole} {output} {t} {j} {l} f q a
     (fit .long j l z, fit .lies j l z, fit .few j l z)
 
 -- One event alone.
-pub one-said : (p : Part) (v : Event) (c : Chip) (m : Flash) (room output output′ : List ℕ) (o : Outcome) (n k : ℕ) (s : Room) → Arrays p → o ≡ stepOf p c v m room
+pub one-said : (p : Part) (v : Event) (c : Chip) (m : Memory) (room output output′ : List ℕ) (o : Outcome) (n k : ℕ) (s : Room) → Arrays p → o ≡ stepOf p c v m room
     → o .answer ≡ Replied n k → 192 ≤ length output → left s output′ ≡ putOf output 0 (take (n - 0) (o .room))
     → recordPlaying (record { ended = Played n k; chip = o .chip }) (o .memory) (o .room) output′ ≡ playedInto (played p (v ∷ []) (beforePlaying c m room)) output
 unfolding playedInto endedBy played goesOn answering
@@ -278,7 +278,7 @@ one-said p v c m room output output′ o n k s a e z w u =
     ∙ ap (λ (b : Answer). playedInto (goesOn b (answering b o (beforePlaying c m room)) (answering b o (beforePlaying c m room))) output) (sym z)
     ∙ ap (λ (q : Outcome). playedInto (goesOn (q .answer) (answering (q .answer) q (beforePlaying c m room)) (answering (q .answer) q (beforePlaying c m room))) output) e
 
-pub one-refused : (p : Part) (v : Event) (c : Chip) (m : Flash) (room output : List ℕ) (o : Outcome) (r : Refusal) → o ≡ stepOf p c v m room → o .answer ≡ Answer.Refused r
+pub one-refused : (p : Part) (v : Event) (c : Chip) (m : Memory) (room output : List ℕ) (o : Outcome) (r : Refusal) → o ≡ stepOf p c v m room → o .answer ≡ Answer.Refused r
     → recordPlaying (record { ended = RecordEnded.Refused r; chip = o .chip }) (o .memory) (o .room) output ≡ playedInto (played p (v ∷ []) (beforePlaying c m room)) output
 unfolding playedInto endedBy played goesOn answering
 one-refused p v c m room output o r e z =
@@ -287,7 +287,7 @@ one-refused p v c m room output o r e z =
     ∙ ap (λ (b : Answer). playedInto (goesOn b (answering b o (beforePlaying c m room)) (answering b o (beforePlaying c m room))) output) (sym z)
     ∙ ap (λ (q : Outcome). playedInto (goesOn (q .answer) (answering (q .answer) q (beforePlaying c m room)) (answering (q .answer) q (beforePlaying c m room))) output) e
 
-pub one-lies : (p : Part) (v : Event) (c : Chip) (m : Flash) (room : List ℕ) (o : Outcome) (n k : ℕ) → Arrays p → o ≡ stepOf p c v m room → o .answer ≡ Replied n k
+pub one-lies : (p : Part) (v : Event) (c : Chip) (m : Memory) (room : List ℕ) (o : Outcome) (n k : ℕ) → Arrays p → o ≡ stepOf p c v m room → o .answer ≡ Replied n k
     → n ≤ length (o .room)
 one-lies p v c m room o n k a e z =
     let fit : Fitting (o .answer) (length (o .room)) = rw e (step-fits p c v m room a) in
@@ -299,7 +299,7 @@ carried-short {n} {bs} k =
     let two : n + 2 - 2 ≡ n = omega arith in
     rw (length-take, two) (omega (arith, k .most))
 
-pub play-bytes-is : (x : RecordPlaying) (n : ℕ) (p : Part) (bs : List ℕ) (c : Chip) (m : Flash) (room output : List ℕ) → recordOf recordSize bs ≡ BytesRecord n → 192 ≤ length output
+pub play-bytes-is : (x : RecordPlaying) (n : ℕ) (p : Part) (bs : List ℕ) (c : Chip) (m : Memory) (room output : List ℕ) → recordOf recordSize bs ≡ BytesRecord n → 192 ≤ length output
     → x ≡ playedInto (played p (map Byte (take (n + 2 - 2) (drop 2 bs))) (beforePlaying c m room)) output → x ≡ playOf p bs c m room output
 unfolding playOf playBy playWith eventsOf if_then_else_
 play-bytes-is x n p bs c m room output e h g =
@@ -368,7 +368,7 @@ by-fits (Answer.Refused r) x output l h f =
 none-fits : (t : RecordEnded) (output : ℕ) → ((n k : ℕ) → t ≡ Played n k → ⊥) → Fits t output
 none-fits t output h = record { bytes = λ n k e. absurd (h n k e); frames = λ n k e. absurd (h n k e); short = λ n k e. absurd (h n k e) }
 
-with-fits : (vs : List Event) (p : Part) (c : Chip) (m : Flash) (room output : List ℕ) → Arrays p → length vs ≤ 6 → Fits (playWith vs p c m room output .ended) (length output)
+with-fits : (vs : List Event) (p : Part) (c : Chip) (m : Memory) (room output : List ℕ) → Arrays p → length vs ≤ 6 → Fits (playWith vs p c m room output .ended) (length output)
 unfolding playWith playedInto if_then_else_
 with-fits vs p c m room output a h = go (decLe 192 (length output))
   where
@@ -379,7 +379,7 @@ with-fits vs p c m room output a h = go (decLe 192 (length output))
         (by-fits (x .left .answer) x (length output) (omega (arith, played-long p vs (beforePlaying c m room) a)) k (played-framed p vs (beforePlaying c m room) a (omega arith)))
     go (no k) = rw (lt-ltb (length output) 192 (omega arith)) (none-fits OutputShort (length output) (λ n i e. let z : _≡_ {A = ℕ} 0 1 = cc in omega arith))
 
-by-record : (r : Record) (p : Part) (bs : List ℕ) (c : Chip) (m : Flash) (room output : List ℕ) → Arrays p → ((n : ℕ) → r ≡ BytesRecord n → n ≤ 6)
+by-record : (r : Record) (p : Part) (bs : List ℕ) (c : Chip) (m : Memory) (room output : List ℕ) → Arrays p → ((n : ℕ) → r ≡ BytesRecord n → n ≤ 6)
     → Fits (playBy r p bs c m room output .ended) (length output)
 unfolding playBy eventsOf
 by-record GapRecord p bs c m room output a h = with-fits (Gap ∷ []) p c m room output a (omega arith)
@@ -387,12 +387,12 @@ by-record (BytesRecord n) p bs c m room output a h =
     with-fits (map Byte (carriedBytes n bs)) p c m room output a (rw (length-map, length-take) (omega (arith, h n refl)))
 by-record BadRecord p bs c m room output a h = none-fits NotGood (length output) (λ n i e. let z : _≡_ {A = ℕ} 0 1 = cc in omega arith)
 
-pub play-fits : (p : Part) (bs : List ℕ) (c : Chip) (m : Flash) (room output : List ℕ) → Arrays p → Fits (playOf p bs c m room output .ended) (length output)
+pub play-fits : (p : Part) (bs : List ℕ) (c : Chip) (m : Memory) (room output : List ℕ) → Arrays p → Fits (playOf p bs c m room output .ended) (length output)
 unfolding playOf
 play-fits p bs c m room output a = by-record (recordOf recordSize bs) p bs c m room output a (λ n e. carries-is n bs e .most)
 
 -- The output keeps its length.
-with-keeps : (vs : List Event) (p : Part) (c : Chip) (m : Flash) (room output : List ℕ) → Arrays p → length vs ≤ 6 → length (playWith vs p c m room output .output) ≡ length output
+with-keeps : (vs : List Event) (p : Part) (c : Chip) (m : Memory) (room output : List ℕ) → Arrays p → length vs ≤ 6 → length (playWith vs p c m room output .output) ≡ length output
 unfolding playWith playedInto if_then_else_
 with-keeps vs p c m room output a h = go (decLe 192 (length output))
   where
@@ -400,7 +400,7 @@ with-keeps vs p c m room output a h = go (decLe 192 (length output))
     go (yes k) = rw (le-ltb (length output) 192 k, length-append, length-drop) (omega (arith, played-long p vs (beforePlaying c m room) a))
     go (no k) = rw (lt-ltb (length output) 192 (omega arith))
 
-pub play-keeps : (p : Part) (bs : List ℕ) (c : Chip) (m : Flash) (room output : List ℕ) → Arrays p → length (playOf p bs c m room output .output) ≡ length output
+pub play-keeps : (p : Part) (bs : List ℕ) (c : Chip) (m : Memory) (room output : List ℕ) → Arrays p → length (playOf p bs c m room output .output) ≡ length output
 unfolding playOf playBy eventsOf
 play-keeps p bs c m room output a = go (recordOf recordSize bs) (λ n e. carries-is n bs e .most)
   where

@@ -15,7 +15,7 @@ use Rattle.chip.specs.declared.Answer.the-variants as Answer
 use Rattle.chip_state.specs.declared.Chip.{Chip}
 use Rattle.chip.specs.declared.Event.{Event}
 use Rattle.chip.specs.declared.Event.the-variants.{Byte, Gap}
-use Rattle.chip_core.specs.Effect.{Flash}
+use Rattle.chip_core.specs.Effect.{Memory}
 use Rattle.part.specs.declared.Part.{Part}
 use Rattle.replay_play.specs.declared.PlayedRecord.{PlayedRecord}
 use Rattle.replay_play.specs.declared.RecordEnded.{RecordEnded}
@@ -30,7 +30,7 @@ pub record Playing : Type 0 where
   pub frames : ℕ
 
 -- Before any event nothing has been said.
-abbrev pub beforePlaying : Chip → Flash → List ℕ → Playing
+abbrev pub beforePlaying : Chip → Memory → List ℕ → Playing
 beforePlaying c m room = record { left = before c m room; said = []; frames = 0 }
 
 -- An event was answered: its reply frames are the first bytes of the room.
@@ -61,11 +61,11 @@ eventsOf BadRecord bs = []
 pub record RecordPlaying : Type 0 where
   pub ended : RecordEnded
   pub chip : Chip
-  pub memory : Flash
+  pub memory : Memory
   pub room : List ℕ
   pub output : List ℕ
 
-abbrev pub recordPlaying : PlayedRecord → Flash → List ℕ → List ℕ → RecordPlaying
+abbrev pub recordPlaying : PlayedRecord → Memory → List ℕ → List ℕ → RecordPlaying
 recordPlaying t m room output = record { ended = t .ended; chip = t .chip; memory = m; room = room; output = output }
 
 unfoldable pub endedBy : Answer → Playing → RecordEnded
@@ -86,19 +86,19 @@ playedInto x output =
 abbrev pub outputLeast : ℕ
 outputLeast = 192
 
-abbrev pub unchanged : RecordEnded → Chip → Flash → List ℕ → List ℕ → RecordPlaying
+abbrev pub unchanged : RecordEnded → Chip → Memory → List ℕ → List ℕ → RecordPlaying
 unchanged t c m room output = record { ended = t; chip = c; memory = m; room = room; output = output }
 
-unfoldable pub playWith : List Event → Part → Chip → Flash → List ℕ → List ℕ → RecordPlaying
+unfoldable pub playWith : List Event → Part → Chip → Memory → List ℕ → List ℕ → RecordPlaying
 playWith vs p c m room output =
     if ltb (length output) outputLeast then unchanged OutputShort c m room output
     else playedInto (played p vs (beforePlaying c m room)) output
 
 -- A record is judged whole before any of its bytes is fed.
-unfoldable pub playBy : Record → Part → List ℕ → Chip → Flash → List ℕ → List ℕ → RecordPlaying
+unfoldable pub playBy : Record → Part → List ℕ → Chip → Memory → List ℕ → List ℕ → RecordPlaying
 playBy GapRecord p bs c m room output = playWith (eventsOf GapRecord bs) p c m room output
 playBy (BytesRecord n) p bs c m room output = playWith (eventsOf (BytesRecord n) bs) p c m room output
 playBy BadRecord p bs c m room output = unchanged NotGood c m room output
 
-unfoldable pub playOf : Part → List ℕ → Chip → Flash → List ℕ → List ℕ → RecordPlaying
+unfoldable pub playOf : Part → List ℕ → Chip → Memory → List ℕ → List ℕ → RecordPlaying
 playOf p bs c m room output = playBy (recordOf recordSize bs) p bs c m room output

@@ -4,7 +4,7 @@ ghost use mathlib.Core.List.{_∷_, [], map};
 ghost use Prim.Native.Nat.{_≤_};
 ghost use lib.ListN.{length};
 ghost use Rattle.chip.specs.declared.Event.the-variants.{Byte, Gap};
-ghost use Rattle.chip_core.specs.Effect.{flash};
+ghost use Rattle.chip_core.specs.Effect.{memory};
 ghost use Rattle.replay_play.specs.Play.{beforePlaying, playOf, played, playedInto, recordPlaying};
 use chip::Answer;
 use chip::Event;
@@ -32,14 +32,16 @@ fn play_gap(
     chip: Chip,
     code: &mut [u8],
     data: &mut [u8],
+    sums: &mut [u16; 72],
     room: &mut [u8],
     output: &mut [u8],
 ) -> PlayedRecord
     requires { ⌜ 192 ≤ length (now output) ⌝ }
-    ensures { λ r. ⌜ recordPlaying r (flash (now (code .exit)) (now («data» .exit))) (now (room .exit)) (now (output .exit))
-        ≡ playedInto (played part (Gap ∷ []) (beforePlaying chip (flash (now (code .entry)) (now («data» .entry))) (now (room .entry)))) (now (output .entry)) ⌝ }
+    ensures { λ r. ⌜ recordPlaying r (memory (now (code .exit)) (now («data» .exit)) (now (sums .exit))) (now (room .exit)) (now (output .exit))
+        ≡ playedInto (played part (Gap ∷ []) (beforePlaying chip (memory (now (code .entry)) (now («data» .entry)) (now (sums .entry))) (now (room .entry))))
+        (now (output .entry)) ⌝ }
 {
-    let step = events::step(part, chip, Event::Gap, code, data, room);
+    let step = events::step(part, chip, Event::Gap, code, data, sums, room);
     let answer = step.answer;
     let chip = step.chip;
     match answer {
@@ -69,20 +71,21 @@ fn play_bytes(
     bytes: &[u8],
     code: &mut [u8],
     data: &mut [u8],
+    sums: &mut [u16; 72],
     room: &mut [u8],
     output: &mut [u8],
 ) -> PlayedRecord
     requires { ⌜ (length (now bytes) ≤ 6) × (192 ≤ length (now output)) ⌝ }
-    ensures { λ r. ⌜ recordPlaying r (flash (now (code .exit)) (now («data» .exit))) (now (room .exit)) (now (output .exit))
-        ≡ playedInto (played part (map Byte (now (bytes .entry))) (beforePlaying chip (flash (now (code .entry)) (now («data» .entry))) (now (room .entry))))
-        (now (output .entry)) ⌝ }
+    ensures { λ r. ⌜ recordPlaying r (memory (now (code .exit)) (now («data» .exit)) (now (sums .exit))) (now (room .exit)) (now (output .exit))
+        ≡ playedInto (played part (map Byte (now (bytes .entry)))
+        (beforePlaying chip (memory (now (code .entry)) (now («data» .entry)) (now (sums .entry))) (now (room .entry)))) (now (output .entry)) ⌝ }
 {
     let mut last = chip;
     let mut i = 0;
     let mut said = 0;
     let mut frames = 0;
     while i < bytes.len() {
-        let fed = chip_feed::feed(part, last, &bytes[i..], code, data, room);
+        let fed = chip_feed::feed(part, last, &bytes[i..], code, data, sums, room);
         last = fed.chip;
         i = i + fed.taken;
         let answer = fed.answer;
@@ -119,11 +122,12 @@ pub fn play(
     bytes: &[u8],
     code: &mut [u8],
     data: &mut [u8],
+    sums: &mut [u16; 72],
     room: &mut [u8],
     output: &mut [u8],
 ) -> PlayedRecord
-    ensures { λ r. ⌜ recordPlaying r (flash (now (code .exit)) (now («data» .exit))) (now (room .exit)) (now (output .exit))
-        ≡ playOf part (now (bytes .entry)) chip (flash (now (code .entry)) (now («data» .entry))) (now (room .entry)) (now (output .entry)) ⌝ }
+    ensures { λ r. ⌜ recordPlaying r (memory (now (code .exit)) (now («data» .exit)) (now (sums .exit))) (now (room .exit)) (now (output .exit))
+        ≡ playOf part (now (bytes .entry)) chip (memory (now (code .entry)) (now («data» .entry)) (now (sums .entry))) (now (room .entry)) (now (output .entry)) ⌝ }
 {
     let judged = replay_capture::read(bytes);
     match judged {
@@ -138,7 +142,7 @@ pub fn play(
                     chip,
                 };
             }
-            play_gap(part, chip, code, data, room, output)
+            play_gap(part, chip, code, data, sums, room, output)
         }
         Record::BytesRecord(n) => {
             if output.len() < 192 {
@@ -148,7 +152,7 @@ pub fn play(
                 };
             }
             let end = n + 2;
-            play_bytes(part, chip, &bytes[2..end], code, data, room, output)
+            play_bytes(part, chip, &bytes[2..end], code, data, sums, room, output)
         }
     }
 }

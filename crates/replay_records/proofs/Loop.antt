@@ -13,7 +13,7 @@ use Rattle.replay_capture.proofs.Laws.{records-is, records-next, records-none}
 use Rattle.replay_capture.specs.Capture.{recordSize, recordsIn}
 use Rattle.part.specs.Part.{Arrays}
 use Rattle.chip_state.specs.declared.Chip.{Chip}
-use Rattle.chip_core.specs.Effect.{Flash}
+use Rattle.chip_core.specs.Effect.{Memory}
 use Rattle.part.specs.declared.Part.{Part}
 use Rattle.part.specs.declared.refusal.Refusal.{Refusal}
 use Rattle.replay_play.proofs.Laws.{Fits, play-fits}
@@ -38,7 +38,7 @@ pub record ReplayedFrom (p : Part) (bs : List ℕ) (at : ℕ) (x t : Replaying) 
   pub stands : x .bytes ≤ length (x .output)
   pub rest : replayedFrom p (recordsIn recordSize most (drop at bs)) x ≡ t
 
-pub replayed-start : (p : Part) (bs : List ℕ) (c : Chip) (m : Flash) (room output : List ℕ)
+pub replayed-start : (p : Part) (bs : List ℕ) (c : Chip) (m : Memory) (room output : List ℕ)
     → ReplayedFrom p bs 0 (record { ended = Whole; records = 0; bytes = 0; frames = 0; chip = c; memory = m; room = room; output = output }) (replayOf p bs c m room output)
 unfolding replayOf
 replayed-start p bs c m room output =

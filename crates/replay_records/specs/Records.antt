@@ -5,7 +5,7 @@ use lib.ListN.{drop, take}
 use Rattle.replay_capture.specs.Capture.{recordSize, recordsOf}
 use Rattle.chip.specs.declared.Answer.the-variants as Answer
 use Rattle.chip_state.specs.declared.Chip.{Chip}
-use Rattle.chip_core.specs.Effect.{Flash}
+use Rattle.chip_core.specs.Effect.{Memory}
 use Rattle.part.specs.declared.Part.{Part}
 use Rattle.replay_records.specs.declared.Ended.{Ended}
 use Rattle.replay_records.specs.declared.Ended.the-variants.{AtBadRecord, OutputFull, Whole}
@@ -24,11 +24,11 @@ pub record Replaying : Type 0 where
   pub bytes : ℕ
   pub frames : ℕ
   pub chip : Chip
-  pub memory : Flash
+  pub memory : Memory
   pub room : List ℕ
   pub output : List ℕ
 
-abbrev pub replaying : Replayed → Flash → List ℕ → List ℕ → Replaying
+abbrev pub replaying : Replayed → Memory → List ℕ → List ℕ → Replaying
 replaying r m room output =
     record {
       ended = r .ended;
@@ -77,7 +77,7 @@ unfoldable pub replayedFrom : Part → List (List ℕ) → Replaying → Replayi
 replayedFrom p [] x = x
 replayedFrom p (r ∷ rs) x = whileWhole (nextOf p r x .ended) (replayedFrom p rs (nextOf p r x)) (nextOf p r x)
 
-unfoldable pub replayOf : Part → List ℕ → Chip → Flash → List ℕ → List ℕ → Replaying
+unfoldable pub replayOf : Part → List ℕ → Chip → Memory → List ℕ → List ℕ → Replaying
 replayOf p capture c m room output =
     replayedFrom p (recordsOf recordSize capture) (record { ended = Whole; records = 0; bytes = 0; frames = 0; chip = c; memory = m; room = room; output = output })
 

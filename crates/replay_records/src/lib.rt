@@ -2,7 +2,7 @@
 // Reading the capture and printing the frames is the program's.
 ghost use mathlib.Core.Path.{_≡_};
 ghost use Prim.Native.Nat.{_<_};
-ghost use Rattle.chip_core.specs.Effect.{flash};
+ghost use Rattle.chip_core.specs.Effect.{memory};
 ghost use Rattle.replay_records.specs.Records.{replayOf, replayPart, replaying};
 ghost use Rattle.replay_records.specs.inner.Loop.{recordEnd};
 use chip_state::Chip;
@@ -46,11 +46,12 @@ pub fn replay(
     capture: &[u8],
     code: &mut [u8],
     data: &mut [u8],
+    sums: &mut [u16; 72],
     room: &mut [u8],
     output: &mut [u8],
 ) -> Replayed
-    ensures { λ r. ⌜ replaying r (flash (now (code .exit)) (now («data» .exit))) (now (room .exit)) (now (output .exit))
-        ≡ replayOf part (now (capture .entry)) chip (flash (now (code .entry)) (now («data» .entry))) (now (room .entry)) (now (output .entry)) ⌝ }
+    ensures { λ r. ⌜ replaying r (memory (now (code .exit)) (now («data» .exit)) (now (sums .exit))) (now (room .exit)) (now (output .exit))
+        ≡ replayOf part (now (capture .entry)) chip (memory (now (code .entry)) (now («data» .entry)) (now (sums .entry))) (now (room .entry)) (now (output .entry)) ⌝ }
 {
     let mut last = chip;
     let mut at = 0;
@@ -65,6 +66,7 @@ pub fn replay(
             &capture[at..end],
             code,
             data,
+            sums,
             room,
             &mut output[bytes..],
         );

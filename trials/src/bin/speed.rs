@@ -1,5 +1,5 @@
 //! The proved chip and the proved dock against the twin, in one process and on the same bytes: ratios of the least of several runs each. After every pair of
-//! runs both have said the same bytes and hold the same flash and state.
+//! runs both have said the same bytes and hold the same flash, kept sums and state.
 
 use std::hint::black_box;
 use std::time::Instant;
@@ -7,12 +7,13 @@ use std::time::Instant;
 use trials::chip::{layout, Door};
 use trials::dock::work;
 use trials::door::{self, DOCK, FRAME_ROOM};
-use twin::chip::{step, Answer, Chip, Event, PROGRAM, VERIFY};
+use twin::chip::{step, Answer, Chip, Event, ERASED, PROGRAM, VERIFY};
 use twin::dock;
 use twin::frame::{LAST_FOOTER, MORE_FOOTER};
 use twin::part::{Area, Part};
 use twin::random::{command_frame, data_frame, range_body};
 use twin::replay::{judge_record, replay_part, Player, Record, CARRIED, RECORD};
+use twin::sums::Sums;
 
 const RUNS: usize = 15;
 
@@ -89,11 +90,33 @@ fn capture(records: usize) -> Vec<u8> {
     bytes
 }
 
+/// A 40h over all code flash, and its pages.
+fn pages() -> Vec<u8> {
+    let part = replay_part();
+    let (size, last) = (part.page_size(), part.end(Area::Code) - 1);
+    let per_block = part.pages_of_block(Area::Code);
+    let mut bytes = command_frame(&range_body(PROGRAM, 0, last));
+    for next in (0..last).step_by(size) {
+        let footer = if next + size > last {
+            LAST_FOOTER
+        } else {
+            MORE_FOOTER
+        };
+        let (block, number) = (next / size / per_block, next / size % per_block);
+        bytes.extend(data_frame(&page(0, block, number), footer));
+    }
+    bytes
+}
+
+/// How often all those pages are stored in one run.
+const STORES: usize = 10;
+
 struct Said {
     bytes: Vec<u8>,
     state: Vec<u8>,
     code: Vec<u8>,
     data: Vec<u8>,
+    sums: Vec<u16>,
 }
 
 fn from_door(door: Door, bytes: Vec<u8>) -> Said {
@@ -102,6 +125,7 @@ fn from_door(door: Door, bytes: Vec<u8>) -> Said {
         state: door.state.to_vec(),
         code: door.code,
         data: door.data,
+        sums: door.sums.to_vec(),
     }
 }
 
@@ -111,6 +135,7 @@ fn from_twin(player: Player, bytes: Vec<u8>) -> Said {
         state: layout(&player.chip).to_vec(),
         code: player.code,
         data: player.data,
+        sums: player.sums.to_vec(),
     }
 }
 
@@ -121,6 +146,7 @@ fn hear(player: &mut Player, event: Event, room: &mut [u8; 32]) -> usize {
         event,
         &mut player.code,
         &mut player.data,
+        &mut player.sums,
         room,
     ) {
         Answer::Replied { bytes, .. } => bytes,
@@ -136,18 +162,24 @@ fn step_by_value(
     event: Event,
     code: &mut [u8],
     data: &mut [u8],
+    sums: &mut Sums,
     room: &mut [u8],
 ) -> (Answer, Chip) {
-    let answer = step(part, &mut chip, event, code, data, room);
+    let answer = step(part, &mut chip, event, code, data, sums, room);
     (answer, chip)
 }
 
-fn twin_bytes(fed: &[u8]) -> Said {
-    let (mut player, mut room, mut said) = (Player::fresh(), [0; 32], Vec::new());
+fn twin_hears(player: &mut Player, fed: &[u8], said: &mut Vec<u8>) {
+    let mut room = [0; 32];
     for &byte in fed {
-        let bytes = hear(&mut player, Event::Byte(byte), &mut room);
+        let bytes = hear(player, Event::Byte(byte), &mut room);
         said.extend_from_slice(&room[..bytes]);
     }
+}
+
+fn twin_bytes(fed: &[u8]) -> Said {
+    let (mut player, mut said) = (Player::fresh(), Vec::new());
+    twin_hears(&mut player, fed, &mut said);
     from_twin(player, said)
 }
 
@@ -158,11 +190,14 @@ fn twin_values(fed: &[u8], mut hear: impl FnMut(&[u8])) -> Player {
         mut chip,
         mut code,
         mut data,
+        mut sums,
     } = Player::fresh();
     let mut room = [0; 32];
     for &byte in fed {
         let event = Event::Byte(byte);
-        let (answer, next) = step_by_value(&part, chip, event, &mut code, &mut data, &mut room);
+        let (answer, next) = step_by_value(
+            &part, chip, event, &mut code, &mut data, &mut sums, &mut room,
+        );
         chip = next;
         if let Answer::Replied { bytes, .. } = answer {
             hear(&room[..bytes]);
@@ -173,6 +208,7 @@ fn twin_values(fed: &[u8], mut hear: impl FnMut(&[u8])) -> Player {
         chip,
         code,
         data,
+        sums,
     }
 }
 
@@ -192,6 +228,7 @@ extern "C" {
         code_len: usize,
         data: *mut u8,
         data_len: usize,
+        sums: *mut Sums,
         room: *mut u8,
         room_len: usize,
     ) -> usize;
@@ -201,7 +238,10 @@ extern "C" {
 fn pace_steps(fed: &[u8]) -> Said {
     let part = trials::chip::described(&replay_part());
     let Player {
-        mut code, mut data, ..
+        mut code,
+        mut data,
+        mut sums,
+        ..
     } = Player::fresh();
     let mut room = [0; 32];
     let count = unsafe {
@@ -213,24 +253,26 @@ fn pace_steps(fed: &[u8]) -> Said {
             code.len(),
             data.as_mut_ptr(),
             data.len(),
+            &mut sums,
             room.as_mut_ptr(),
             room.len(),
         )
     };
-    counted(count, code, data)
+    counted(count, code, data, sums)
 }
 
 fn twin_steps(fed: &[u8]) -> Said {
     let player = twin_values(fed, |_| ());
-    counted(player.chip.count, player.code, player.data)
+    counted(player.chip.count, player.code, player.data, player.sums)
 }
 
-fn counted(count: usize, code: Vec<u8>, data: Vec<u8>) -> Said {
+fn counted(count: usize, code: Vec<u8>, data: Vec<u8>, sums: Sums) -> Said {
     Said {
         bytes: count.to_le_bytes().to_vec(),
         state: Vec::new(),
         code,
         data,
+        sums: sums.to_vec(),
     }
 }
 
@@ -260,15 +302,40 @@ fn twin_gaps(fed: &[u8]) -> Said {
     from_twin(player, Vec::new())
 }
 
-fn door_feed(fed: &[u8]) -> Said {
-    let (mut door, mut said) = (Door::fresh(&replay_part()), Vec::new());
+fn feed(door: &mut Door, fed: &[u8], said: &mut Vec<u8>) {
     let mut at = 0;
     while at < fed.len() {
         let (taken, bytes) = door.feed(&fed[at..]);
         at += taken;
         said.extend_from_slice(&door.room[..bytes]);
     }
+}
+
+fn door_feed(fed: &[u8]) -> Said {
+    let (mut door, mut said) = (Door::fresh(&replay_part()), Vec::new());
+    feed(&mut door, fed, &mut said);
     from_door(door, said)
+}
+
+/// The pages, stored again and again: the caller has erased the flash each time, so that no 22h is timed.
+fn door_pages(pages: &[u8]) -> Said {
+    let (mut door, mut said) = (Door::fresh(&replay_part()), Vec::new());
+    feed(&mut door, &opening(), &mut said);
+    for _ in 0..STORES {
+        door.code.fill(ERASED);
+        feed(&mut door, pages, &mut said);
+    }
+    from_door(door, said)
+}
+
+fn twin_pages(pages: &[u8]) -> Said {
+    let (mut player, mut said) = (Player::fresh(), Vec::new());
+    twin_hears(&mut player, &opening(), &mut said);
+    for _ in 0..STORES {
+        player.code.fill(ERASED);
+        twin_hears(&mut player, pages, &mut said);
+    }
+    from_twin(player, said)
 }
 
 fn door_replay(capture: &[u8]) -> Said {
@@ -314,8 +381,15 @@ const JOBS: usize = 20;
 
 impl Rehearsal {
     fn new() -> Rehearsal {
-        let mut player = Player::fresh();
-        player.code.fill(0x5A);
+        let Player {
+            part,
+            chip,
+            mut code,
+            data,
+            ..
+        } = Player::fresh();
+        code.fill(0x5A);
+        let mut player = Player::taken_up(part, chip, code, data);
         hear(&mut player, Event::Byte(0x3A), &mut [0; 32]);
         let pages = player.part.pages_of_block(Area::Code);
         let mut rehearsal = Rehearsal {
@@ -390,6 +464,7 @@ fn said_by_dock(bytes: Vec<u8>, state: &[u8]) -> Said {
         state: state.to_vec(),
         code: Vec::new(),
         data: Vec::new(),
+        sums: Vec::new(),
     }
 }
 
@@ -416,6 +491,7 @@ fn least(
             "{name}: not the same"
         );
         assert!(a.state == b.state, "{name}: not the same state");
+        assert!(a.sums == b.sums, "{name}: not the same sums");
     }
     println!(
         "{name:58} {:8.2}   ({:.2} and {:.2} ns a {unit})",
@@ -476,6 +552,16 @@ fn main() {
         door_feed,
         twin_bytes,
         &bytes,
+        RUNS,
+    );
+    let pages = pages();
+    least(
+        "a page stored (zc_feed), twin a byte at a time",
+        STORES * replay_part().size(Area::Code) / replay_part().page_size(),
+        "page",
+        door_pages,
+        twin_pages,
+        &pages,
         RUNS,
     );
     let small = capture(10_000);

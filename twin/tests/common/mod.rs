@@ -7,6 +7,7 @@ pub mod flow;
 use twin::chip::{step, Answer, Chip, Event, Phase};
 use twin::part::{Area, Part};
 use twin::replay::replay_part;
+use twin::sums::{work_out, Sums, SUMS};
 
 pub const FILLER: u8 = 0xA5;
 
@@ -73,6 +74,7 @@ pub struct Bench {
     pub chip: Chip,
     pub code: Vec<u8>,
     pub data: Vec<u8>,
+    pub sums: Sums,
 }
 
 impl Bench {
@@ -80,12 +82,20 @@ impl Bench {
         let chip = Chip::fresh(&part).unwrap();
         let code = vec![0xFF; part.size(Area::Code)];
         let data = vec![0xFF; part.size(Area::Data)];
-        Bench {
+        let mut bench = Bench {
             part,
             chip,
             code,
             data,
-        }
+            sums: [0; SUMS],
+        };
+        bench.work_out();
+        bench
+    }
+
+    /// The sums of the flash as it is; to be called where a test has laid bytes into it.
+    pub fn work_out(&mut self) {
+        work_out(&self.part, &self.code, &self.data, &mut self.sums).unwrap();
     }
 
     /// The part of 01's examples, fresh and in phase 3.
@@ -129,6 +139,7 @@ impl Bench {
             event,
             &mut self.code,
             &mut self.data,
+            &mut self.sums,
             room,
         )
     }

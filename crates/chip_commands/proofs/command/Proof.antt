@@ -9,14 +9,14 @@ use Rattle.chip_commands.proofs.command.Tie as tie
 returns : tie.Need-returns
 unfolding commandDoes if_then_else_
 returns c =
-    let judge = c .before .before .before .before .before .before .before .before .before .before .before .before .before .before .judge in
-    let is-good = c .before .before .before .before .before .before .before .before .before .before .before .before .before .is-good in
-    let if1 = c .before .before .before .before .before .before .before .before .before .before .before .before .if1 in
-    let payload = c .before .before .before .before .before .before .before .before .before .before .before .payload in
-    let byte-at = c .before .before .before .before .before .before .before .before .before .before .byte-at in
-    let allowed-in = c .before .before .before .before .before .before .before .before .before .allowed-in in
-    let if2 = c .before .before .before .before .before .before .before .before .if2 in
-    let read = c .before .before .before .before .before .before .before .read in
+    let judge = c .before .before .before .before .before .before .before .before .before .before .before .before .before .before .before .judge in
+    let is-good = c .before .before .before .before .before .before .before .before .before .before .before .before .before .before .is-good in
+    let if1 = c .before .before .before .before .before .before .before .before .before .before .before .before .before .if1 in
+    let payload = c .before .before .before .before .before .before .before .before .before .before .before .before .payload in
+    let byte-at = c .before .before .before .before .before .before .before .before .before .before .before .byte-at in
+    let allowed-in = c .before .before .before .before .before .before .before .before .before .before .allowed-in in
+    let if2 = c .before .before .before .before .before .before .before .before .before .if2 in
+    let read = c .before .before .before .before .before .before .before .before .read in
     let reading-does = c .before .before .before .before .reading-does in
     simp (← judge .ensures, ← is-good .ensures, if1 .taken, ← payload .ensures, ← byte-at .ensures, ← allowed-in .ensures, if2 .taken, ← read .ensures, ← reading-does .ensures)
 

@@ -15,7 +15,7 @@ returns-2 c = simp (c .before .enum-told2 .given .1, c .says2 .ensures)
 
 returns-3 : tie.Need-returns-3
 unfolding readingDoes
-returns-3 c = simp (c .before .before .before .before .before .before .before .before .reading .given .1, ← c .before .before .before .before .work .ensures)
+returns-3 c = simp (c .before .before .before .before .before .before .before .before .before .reading .given .1, ← c .before .before .before .before .work .ensures)
 
 pub reading-does-spec : {M : Type 1} → statement M
 reading-does-spec =

@@ -15,7 +15,7 @@ returns-2 c = simp (c .before .enum-told .given .1, c .says .ensures)
 
 returns-3 : tie.Need-returns-3
 unfolding work
-returns-3 c = simp (c .before .before .before .before .before .before .before .before .command2 .given .1, ← c .before .before .before .before .block-erase .ensures)
+returns-3 c = simp (c .before .before .before .before .before .before .before .before .before .command2 .given .1, ← c .before .before .before .before .block-erase .ensures)
 
 returns-4 : tie.Need-returns-4
 unfolding work
@@ -31,7 +31,7 @@ returns-6 c = simp (c .before .before .command5 .given .1, ← c .verify .ensure
 
 returns-7 : tie.Need-returns-7
 unfolding work
-returns-7 c = simp (c .before .before .before .before .command6 .given .1, ← c .checksum .ensures)
+returns-7 c = simp (c .before .before .before .before .before .command6 .given .1, ← c .checksum .ensures)
 
 returns-8 : tie.Need-returns-8
 unfolding work

@@ -12,10 +12,10 @@ returns c = simp (← c .before .before .before .before .before .before .part-in
 
 returns-2 : tie.Need-returns-2
 returns-2 c =
-    let part-in = c .before .before .before .before .before .before .before .before .before .before .before .before .before .before .before .before .before .before .before .before .part-in in
-    let chip-admission = c .before .before .before .before .before .before .before .before .before .before .before .before .before .before .before .before .before .before .chip-admission in
-    let enum-told = c .before .before .before .before .before .before .before .before .before .before .before .before .before .before .before .before .enum-told in
-    let chip-in = c .before .before .before .before .before .before .before .before .before .before .before .before .before .before .chip-in in
+    let part-in = c .before .before .before .before .before .before .before .before .before .before .before .before .before .before .before .before .before .before .before .before .before .part-in in
+    let chip-admission = c .before .before .before .before .before .before .before .before .before .before .before .before .before .before .before .before .before .before .before .chip-admission in
+    let enum-told = c .before .before .before .before .before .before .before .before .before .before .before .before .before .before .before .before .before .enum-told in
+    let chip-in = c .before .before .before .before .before .before .before .before .before .before .before .before .before .before .before .chip-in in
     let step = c .before .before .before .before .before .before .before .before .before .before .step in
     let answer = c .before .before .answer in
     let number2 = c .number2 in
@@ -23,10 +23,10 @@ returns-2 c =
 
 returns-3 : tie.Need-returns-3
 returns-3 c =
-    let part-in = c .before .before .before .before .before .before .before .before .before .before .before .before .before .before .before .before .before .before .before .before .before .before .part-in in
-    let chip-admission = c .before .before .before .before .before .before .before .before .before .before .before .before .before .before .before .before .before .before .before .before .chip-admission in
-    let enum-told = c .before .before .before .before .before .before .before .before .before .before .before .before .before .before .before .before .before .before .enum-told in
-    let chip-in = c .before .before .before .before .before .before .before .before .before .before .before .before .before .before .before .before .chip-in in
+    let part-in = c .before .before .before .before .before .before .before .before .before .before .before .before .before .before .before .before .before .before .before .before .before .before .before .part-in in
+    let chip-admission = c .before .before .before .before .before .before .before .before .before .before .before .before .before .before .before .before .before .before .before .before .before .chip-admission in
+    let enum-told = c .before .before .before .before .before .before .before .before .before .before .before .before .before .before .before .before .before .before .before .enum-told in
+    let chip-in = c .before .before .before .before .before .before .before .before .before .before .before .before .before .before .before .before .before .chip-in in
     let step = c .before .before .before .before .before .before .before .before .before .before .before .before .step in
     let answer2 = c .before .before .before .before .answer2 in
     let lay-chip = c .before .lay-chip in

@@ -12,10 +12,10 @@ returns c = simp (← c .before .before .before .before .before .before .part-in
 returns-2 : tie.Need-returns-2
 unfolding fedThrough fedBy
 returns-2 c =
-    let part-in = c .before .before .before .before .before .before .before .before .before .before .before .before .before .before .before .before .before .before .before .before .before .part-in in
-    let chip-acceptance = c .before .before .before .before .before .before .before .before .before .before .before .before .before .before .before .before .before .before .before .chip-acceptance in
-    let enum-told = c .before .before .before .before .before .before .before .before .before .before .before .before .before .before .before .before .before .enum-told in
-    let chip-in = c .before .before .before .before .before .before .before .before .before .before .before .before .before .before .before .chip-in in
+    let part-in = c .before .before .before .before .before .before .before .before .before .before .before .before .before .before .before .before .before .before .before .before .before .before .part-in in
+    let chip-acceptance = c .before .before .before .before .before .before .before .before .before .before .before .before .before .before .before .before .before .before .before .before .chip-acceptance in
+    let enum-told = c .before .before .before .before .before .before .before .before .before .before .before .before .before .before .before .before .before .before .enum-told in
+    let chip-in = c .before .before .before .before .before .before .before .before .before .before .before .before .before .before .before .before .chip-in in
     let feed = c .before .before .before .before .before .before .before .before .before .before .before .feed in
     let lay-chip = c .before .before .before .lay-chip in
     let bytes-told = c .before .before .bytes-told in

@@ -10,7 +10,7 @@ use borrow.Author.Needs.{needs}
 use Rattle.chip.proofs.Settling.{step-barred}
 use Rattle.chip.specs.Step.{Outcome}
 use Rattle.chip.specs.declared.Answer.{Answer}
-use Rattle.chip_core.specs.Effect.{flash}
+use Rattle.chip_core.specs.Effect.{memory}
 use Rattle.chip_core.specs.declared.Core.{Core}
 use Rattle.chip_feed.proofs.Feeding.{FedFrom, fed-end, fed-refused, fed-said, fed-start, fed-turn, looked-at}
 use Rattle.chip_feed.proofs.Stretching.{fed-stretch, takes-there}
@@ -19,21 +19,21 @@ use Rattle.frame.specs.declared.collector.Collector.{Collector}
 use Rattle.chip_feed.proofs.feed.Statement.{statement}
 use Rattle.chip_feed.proofs.feed.Tie as tie
 
-abbrev standing : Core → Collector → Answer → List ℕ → List ℕ → List ℕ → Outcome
-standing core collector answer code extra room =
-    record { answer = answer; chip = record { core = core; collector = collector }; memory = flash code extra; room = room }
+abbrev standing : Core → Collector → Answer → List ℕ → List ℕ → List ℕ → List ℕ → Outcome
+standing core collector answer code extra sums room =
+    record { answer = answer; chip = record { core = core; collector = collector }; memory = memory code extra sums; room = room }
 
 abbrev Inv-loop : tie.InvT-loop
-Inv-loop part bytes code₀ data₀ room₀ core₀ collector₀ answer₀ i₀ code «data» room core collector answer i =
+Inv-loop part bytes code₀ data₀ sums₀ room₀ core₀ collector₀ answer₀ i₀ code «data» sums room core collector answer i =
     (i ≤ length bytes)
     × (length code ≡ length code₀)
     × (length «data» ≡ length data₀)
     × (length room ≡ length room₀)
     × (length (collector .bytes) ≡ 260)
-    × FedFrom part bytes i (standing core collector answer code «data» room) (feedOf part bytes (standing core₀ collector₀ answer₀ code₀ data₀ room₀))
+    × FedFrom part bytes i (standing core collector answer code «data» sums room) (feedOf part bytes (standing core₀ collector₀ answer₀ code₀ data₀ sums₀ room₀))
 
 abbrev μ-loop : tie.MeasureT-loop
-μ-loop part bytes code₀ data₀ room₀ core₀ collector₀ answer₀ i₀ code «data» room core collector answer i = length bytes - i
+μ-loop part bytes code₀ data₀ sums₀ room₀ core₀ collector₀ answer₀ i₀ code «data» sums room core collector answer i = length bytes - i
 
 long : (c : tie.Start Inv-loop μ-loop) → length (c .args .chip .collector .bytes) ≡ 260
 long c = search needs
@@ -97,65 +97,65 @@ loop-again c =
 
 same-length-4 : tie.Need-same-length-4 Inv-loop μ-loop
 same-length-4 c =
-    let loop = c .before .before .before .before .before .before .before .before .before .before .before .before .before .before .before .before .before .before .before .loop in
+    let loop = c .before .before .before .before .before .before .before .before .before .before .before .before .before .before .before .before .before .before .before .before .loop in
     let step = c .before .before .before .before .before .before .before .before .before .before .step in
     step .kept .1 .1 .1 .0 ∙ loop .inv .1
 
 same-length-5 : tie.Need-same-length-5 Inv-loop μ-loop
 same-length-5 c =
-    let loop = c .before .before .before .before .before .before .before .before .before .before .before .before .before .before .before .before .before .before .before .loop in
+    let loop = c .before .before .before .before .before .before .before .before .before .before .before .before .before .before .before .before .before .before .before .before .loop in
     let step = c .before .before .before .before .before .before .before .before .before .before .step in
     step .kept .1 .1 .1 .1 .0 ∙ loop .inv .2
 
 same-length-6 : tie.Need-same-length-6 Inv-loop μ-loop
 same-length-6 c =
-    let loop = c .before .before .before .before .before .before .before .before .before .before .before .before .before .before .before .before .before .before .before .loop in
+    let loop = c .before .before .before .before .before .before .before .before .before .before .before .before .before .before .before .before .before .before .before .before .loop in
     let step = c .before .before .before .before .before .before .before .before .before .before .step in
-    step .kept .1 .1 .1 .1 .1 .0 ∙ loop .inv .3
+    step .kept .1 .1 .1 .1 .1 .1 .0 ∙ loop .inv .3
 
 returns-2 : tie.Need-returns-2 Inv-loop μ-loop
 returns-2 c =
-    let loop = c .before .before .before .before .before .before .before .before .before .before .before .before .before .before .before .before .before .before .before .loop in
-    let loop-test = c .before .before .before .before .before .before .before .before .before .before .before .before .before .before .before .before .before .before .loop-test in
+    let loop = c .before .before .before .before .before .before .before .before .before .before .before .before .before .before .before .before .before .before .before .before .loop in
+    let loop-test = c .before .before .before .before .before .before .before .before .before .before .before .before .before .before .before .before .before .before .before .loop-test in
     let step = c .before .before .before .before .before .before .before .before .before .before .step in
     let said = c .before .said in
     fed-refused (loop .inv .5) (looked-at (said .given .1) ∙ step .ensures) (loop-test .taken) refl
 
 same-length-7 : tie.Need-same-length-7 Inv-loop μ-loop
 same-length-7 c =
-    let loop = c .before .before .before .before .before .before .before .before .before .before .before .before .before .before .before .before .before .before .before .before .loop in
+    let loop = c .before .before .before .before .before .before .before .before .before .before .before .before .before .before .before .before .before .before .before .before .before .loop in
     let step = c .before .before .before .before .before .before .before .before .before .before .before .step in
     step .kept .1 .1 .1 .0 ∙ loop .inv .1
 
 same-length-8 : tie.Need-same-length-8 Inv-loop μ-loop
 same-length-8 c =
-    let loop = c .before .before .before .before .before .before .before .before .before .before .before .before .before .before .before .before .before .before .before .before .loop in
+    let loop = c .before .before .before .before .before .before .before .before .before .before .before .before .before .before .before .before .before .before .before .before .before .loop in
     let step = c .before .before .before .before .before .before .before .before .before .before .before .step in
     step .kept .1 .1 .1 .1 .0 ∙ loop .inv .2
 
 same-length-9 : tie.Need-same-length-9 Inv-loop μ-loop
 same-length-9 c =
-    let loop = c .before .before .before .before .before .before .before .before .before .before .before .before .before .before .before .before .before .before .before .before .loop in
+    let loop = c .before .before .before .before .before .before .before .before .before .before .before .before .before .before .before .before .before .before .before .before .before .loop in
     let step = c .before .before .before .before .before .before .before .before .before .before .before .step in
-    step .kept .1 .1 .1 .1 .1 .0 ∙ loop .inv .3
+    step .kept .1 .1 .1 .1 .1 .1 .0 ∙ loop .inv .3
 
 returns-3 : tie.Need-returns-3 Inv-loop μ-loop
 returns-3 c =
-    let loop = c .before .before .before .before .before .before .before .before .before .before .before .before .before .before .before .before .before .before .before .before .loop in
-    let loop-test = c .before .before .before .before .before .before .before .before .before .before .before .before .before .before .before .before .before .before .before .loop-test in
+    let loop = c .before .before .before .before .before .before .before .before .before .before .before .before .before .before .before .before .before .before .before .before .before .loop in
+    let loop-test = c .before .before .before .before .before .before .before .before .before .before .before .before .before .before .before .before .before .before .before .before .loop-test in
     let step = c .before .before .before .before .before .before .before .before .before .before .before .step in
     let said2 = c .before .before .said2 in
     fed-said (loop .inv .5) (looked-at (said2 .given .1) ∙ step .ensures) (loop-test .taken) refl (c .if2 .taken)
 
 loop-less-2 : tie.Need-loop-less-2 Inv-loop μ-loop
 loop-less-2 c =
-    let far = c .before .before .before .before .before .before .before .before .before .before .before .before .before .before .before .before .before .before .before .before in
+    let far = c .before .before .before .before .before .before .before .before .before .before .before .before .before .before .before .before .before .before .before .before .before in
     let loop-test = far .before .loop-test in
     omega (arith, loop-test .taken)
 
 loop-again-2 : tie.Need-loop-again-2 Inv-loop μ-loop
 loop-again-2 c =
-    let far = c .before .before .before .before .before .before .before .before .before .before .before .before .before .before .before .before .before .before .before .before in
+    let far = c .before .before .before .before .before .before .before .before .before .before .before .before .before .before .before .before .before .before .before .before .before in
     let loop = far .before .before .loop in
     let loop-test = far .before .loop-test in
     let step = c .before .before .before .before .before .before .before .before .before .before .before .before .before .step in
@@ -164,7 +164,7 @@ loop-again-2 c =
       omega (arith, loop-test .taken),
       step .kept .1 .1 .1 .0 ∙ loop .inv .1,
       step .kept .1 .1 .1 .1 .0 ∙ loop .inv .2,
-      step .kept .1 .1 .1 .1 .1 .0 ∙ loop .inv .3,
+      step .kept .1 .1 .1 .1 .1 .1 .0 ∙ loop .inv .3,
       stepped-long (c .before .before .before .before .before .before .before .before .before .before .before .before .before),
       fed-turn (loop .inv .5) (looked-at (said2 .given .1) ∙ step .ensures) (loop-test .taken) refl (if2 .left),
     )

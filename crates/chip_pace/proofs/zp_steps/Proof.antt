@@ -8,8 +8,8 @@ use Rattle.chip_pace.proofs.zp_steps.Tie as tie
 returns : tie.Need-returns
 unfolding pacedOf
 returns c =
-    let part-in = c .before .before .before .before .before .before .before .before .before .before .before .before .before .part-in in
-    let fresh = c .before .before .before .before .before .before .before .before .before .before .before .before .fresh in
+    let part-in = c .before .before .before .before .before .before .before .before .before .before .before .before .before .before .part-in in
+    let fresh = c .before .before .before .before .before .before .before .before .before .before .before .before .before .fresh in
     let steps = c .before .before .before .before .before .before .before .before .steps in
     simp (← part-in .ensures, ← fresh .ensures, ← steps .ensures)
 

@@ -14,8 +14,8 @@ returns c = simp (eq-eqb _ _ (c .before .if1 .taken), ← c .security-data .ensu
 returns-2 : tie.Need-returns-2
 unfolding goodData if_then_else_
 returns-2 c =
-    let if1 = c .before .before .before .before .before .before .before .before .before .if1 in
-    let if2 = c .before .before .before .before .before .before .before .if2 in
+    let if1 = c .before .before .before .before .before .before .before .before .before .before .if1 in
+    let if2 = c .before .before .before .before .before .before .before .before .if2 in
     let program-page = c .before .before .before .before .program-page in
     simp (ne-eqb _ _ (if1 .left), eq-eqb _ _ (if2 .taken), ← program-page .ensures)
 

@@ -9,12 +9,12 @@ use Rattle.chip_pages.proofs.page.Tie as tie
 returns : tie.Need-returns
 unfolding dataDoes if_then_else_
 returns c =
-    let footer-of = c .before .before .before .before .before .before .before .before .before .before .before .before .footer-of in
-    let length-of = c .before .before .before .before .before .before .before .before .before .before .before .length-of in
-    let judge-fit = c .before .before .before .before .before .before .before .before .before .before .judge-fit in
-    let is-good = c .before .before .before .before .before .before .before .before .before .is-good in
-    let if1 = c .before .before .before .before .before .before .before .before .if1 in
-    let payload = c .before .before .before .before .before .before .before .payload in
+    let footer-of = c .before .before .before .before .before .before .before .before .before .before .before .before .before .footer-of in
+    let length-of = c .before .before .before .before .before .before .before .before .before .before .before .before .length-of in
+    let judge-fit = c .before .before .before .before .before .before .before .before .before .before .before .judge-fit in
+    let is-good = c .before .before .before .before .before .before .before .before .before .before .is-good in
+    let if1 = c .before .before .before .before .before .before .before .before .before .if1 in
+    let payload = c .before .before .before .before .before .before .before .before .payload in
     let good-data = c .before .before .before .before .good-data in
     simp (← footer-of .ensures, ← length-of .ensures, ← judge-fit .ensures, ← is-good .ensures, if1 .taken, ← payload .ensures, ← good-data .ensures)
 

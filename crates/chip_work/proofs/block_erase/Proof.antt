@@ -2,6 +2,7 @@
 -- Assumes nothing.
 use borrow.Author.Needs.{needs}
 use borrow.Author.Tests.{eq-eqb, ne-eqb}
+use Rattle.chip_work.proofs.Laws.{block-erased}
 use Rattle.chip_work.specs.Work.{blockErase}
 use Rattle.part.proofs.Laws.{positive}
 use Rattle.words.specs.Words.{if_then_else_}
@@ -23,19 +24,18 @@ returns c =
     simp (← place .ensures, place2 .given .1, ← block-size .ensures, eq-eqb _ _ (if1 .taken), ← erase-allowed .ensures, ← is-boot .ensures, ← c .before .before .boot-allowed .ensures, ← c .before .is-forbidden .ensures, c .if2 .taken)
 
 returns-2 : tie.Need-returns-2
-unfolding blockErase if_then_else_
 returns-2 c =
-    let place = c .before .before .before .before .before .before .before .before .before .before .before .before .before .before .before .before .before .before .place in
-    let place2 = c .before .before .before .before .before .before .before .before .before .before .before .before .before .before .before .before .place2 in
-    let block-size = c .before .before .before .before .before .before .before .before .before .before .before .before .before .before .block-size in
-    let if1 = c .before .before .before .before .before .before .before .before .before .before .before .before .before .if1 in
-    let erase-allowed = c .before .before .before .before .before .before .before .before .before .before .before .erase-allowed in
-    let is-boot = c .before .before .before .before .before .before .before .before .before .before .is-boot in
-    let boot-allowed = c .before .before .before .before .before .before .before .before .before .boot-allowed in
-    let is-forbidden = c .before .before .before .before .before .before .before .before .is-forbidden in
-    let if2 = c .before .before .before .before .before .before .before .if2 in
-    let erase-in = c .before .before .before .before .erase-in in
-    simp (← place .ensures, place2 .given .1, ← block-size .ensures, eq-eqb _ _ (if1 .taken), ← erase-allowed .ensures, ← is-boot .ensures, ← boot-allowed .ensures, ← is-forbidden .ensures, if2 .left, ← erase-in .ensures)
+    let place = c .before .before .before .before .before .before .before .before .before .before .before .before .before .before .before .before .before .before .before .before .before .before .place in
+    let place2 = c .before .before .before .before .before .before .before .before .before .before .before .before .before .before .before .before .before .before .before .before .place2 in
+    let block-size = c .before .before .before .before .before .before .before .before .before .before .before .before .before .before .before .before .before .before .block-size in
+    let if1 = c .before .before .before .before .before .before .before .before .before .before .before .before .before .before .before .before .before .if1 in
+    let erase-allowed = c .before .before .before .before .before .before .before .before .before .before .before .before .before .before .before .erase-allowed in
+    let is-boot = c .before .before .before .before .before .before .before .before .before .before .before .before .before .before .is-boot in
+    let boot-allowed = c .before .before .before .before .before .before .before .before .before .before .before .before .before .boot-allowed in
+    let is-forbidden = c .before .before .before .before .before .before .before .before .before .before .before .before .is-forbidden in
+    let if2 = c .before .before .before .before .before .before .before .before .before .before .before .if2 in
+    let erase-in = c .before .before .before .before .before .before .before .before .erase-in in
+    block-erased _ _ _ _ _ _ _ _ (place .ensures) (place2 .given .1) (block-size .ensures) (if1 .taken) (erase-allowed .ensures) (is-boot .ensures) (boot-allowed .ensures) (is-forbidden .ensures) (if2 .left) (erase-in .ensures) (c .resum .ensures)
 
 returns-3 : tie.Need-returns-3
 unfolding blockErase if_then_else_
@@ -58,6 +58,7 @@ block-erase-spec =
     (λ c κs. search needs)
     (λ c κs. search needs)
     returns
+    (λ c κs. search needs)
     (λ c κs. search needs)
     (λ c. search needs)
     (λ c. search needs)

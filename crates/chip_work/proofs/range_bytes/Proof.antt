@@ -3,7 +3,7 @@
 use mathlib.Core.Path.{_∙_}
 use native.Mathlib.Omega.{arith}
 use borrow.Author.Needs.{needs}
-use Rattle.chip_work.proofs.Laws.{counts, range-in-code, range-in-data}
+use Rattle.chip_sums.proofs.Laws.{counts, range-in-code, range-in-data}
 use Rattle.chip_work.proofs.range_bytes.Statement.{statement}
 use Rattle.chip_work.proofs.range_bytes.Tie as tie
 

@@ -8,7 +8,7 @@ use Rattle.replay_door.proofs.play.Tie as tie
 returns : tie.Need-returns
 unfolding replayedBy
 returns c =
-    let chip-in = c .before .before .before .before .before .before .before .before .before .before .before .before .before .before .before .before .before .chip-in in
+    let chip-in = c .before .before .before .before .before .before .before .before .before .before .before .before .before .before .before .before .before .before .chip-in in
     let replay = c .before .before .before .before .before .before .before .before .before .before .before .before .replay in
     let lay-chip = c .before .before .lay-chip in
     simp (← chip-in .ensures, ← replay .ensures, ← lay-chip .ensures, ← c .end-number .ensures)

@@ -12,9 +12,9 @@ returns c = simp (← c .before .before .before .before .before .before .part-in
 returns-2 : tie.Need-returns-2
 unfolding replayedThrough replayedBy
 returns-2 c =
-    let part-in = c .before .before .before .before .before .before .before .before .before .before .before .before .before .before .before .before .before .before .before .part-in in
-    let chip-acceptance = c .before .before .before .before .before .before .before .before .before .before .before .before .before .before .before .before .before .chip-acceptance in
-    let enum-told = c .before .before .before .before .before .before .before .before .before .before .before .before .before .before .before .enum-told in
+    let part-in = c .before .before .before .before .before .before .before .before .before .before .before .before .before .before .before .before .before .before .before .before .part-in in
+    let chip-acceptance = c .before .before .before .before .before .before .before .before .before .before .before .before .before .before .before .before .before .before .chip-acceptance in
+    let enum-told = c .before .before .before .before .before .before .before .before .before .before .before .before .before .before .before .before .enum-told in
     let play = c .before .before .before .before .before .before .before .before .play in
     simp (← part-in .ensures, ← chip-acceptance .ensures, enum-told .given .1, ← play .ensures)
 

@@ -29,9 +29,9 @@ part-play-bytes-end c =
 
 play-bytes-requires : tie.Need-play-bytes-requires
 play-bytes-requires c κs =
-    let read = c .before .before .before .before .before .before .before .before .before .read in
-    let judged = c .before .before .before .before .before .before .before .judged in
-    let if2 = c .before .before .before .before .before .if2 in
+    let read = c .before .before .before .before .before .before .before .before .before .before .read in
+    let judged = c .before .before .before .before .before .before .before .before .judged in
+    let if2 = c .before .before .before .before .before .before .if2 in
     (carried-short (carries-is _ _ (sym (read .ensures) ∙ judged .given .1)), omega (arith, if2 .left))
 
 returns-3 : tie.Need-returns-3
@@ -41,17 +41,17 @@ returns-3 c = simp (← c .before .before .read .ensures, c .enum-told .given .1
 returns-4 : tie.Need-returns-4
 unfolding playOf playBy playWith eventsOf if_then_else_
 returns-4 c =
-    let read = c .before .before .before .before .before .before .before .before .before .before .before .before .before .before .before .before .read in
-    let enum-told2 = c .before .before .before .before .before .before .before .before .before .before .before .before .before .before .enum-told2 in
-    let if1 = c .before .before .before .before .before .before .before .before .before .before .before .before .before .if1 in
+    let read = c .before .before .before .before .before .before .before .before .before .before .before .before .before .before .before .before .before .read in
+    let enum-told2 = c .before .before .before .before .before .before .before .before .before .before .before .before .before .before .before .enum-told2 in
+    let if1 = c .before .before .before .before .before .before .before .before .before .before .before .before .before .before .if1 in
     let play-gap = c .before .before .before .before .before .before .before .before .play-gap in
     simp (← read .ensures, enum-told2 .given .1, le-ltb _ _ (if1 .left), ← play-gap .ensures)
 
 returns-5 : tie.Need-returns-5
 returns-5 c =
-    let read = c .before .before .before .before .before .before .before .before .before .before .before .before .before .before .before .before .before .before .read in
-    let judged = c .before .before .before .before .before .before .before .before .before .before .before .before .before .before .before .before .judged in
-    let if2 = c .before .before .before .before .before .before .before .before .before .before .before .before .before .before .if2 in
+    let read = c .before .before .before .before .before .before .before .before .before .before .before .before .before .before .before .before .before .before .before .read in
+    let judged = c .before .before .before .before .before .before .before .before .before .before .before .before .before .before .before .before .before .judged in
+    let if2 = c .before .before .before .before .before .before .before .before .before .before .before .before .before .before .before .if2 in
     let play-bytes = c .before .before .before .before .before .before .before .before .play-bytes in
     play-bytes-is _ _ _ _ _ _ _ _ (sym (read .ensures) ∙ judged .given .1) (if2 .left) (play-bytes .ensures)
 

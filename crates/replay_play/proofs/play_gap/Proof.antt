@@ -13,7 +13,7 @@ arrays c = record { deviceLong = search needs; nameLong = search needs; versionL
 
 part-put-end : tie.Need-part-put-end
 part-put-end c =
-    let start = c .before .before .before .before .before .before .before .before .before .before .before .before .before .before .before .before .before .before .before .before in
+    let start = c .before .before .before .before .before .before .before .before .before .before .before .before .before .before .before .before .before .before .before .before .before in
     let step = c .before .before .before .before .before .before .before .before .before .before .before .before .step in
     let answer2 = c .before .before .before .answer2 in
     omega (arith, one-lies _ _ _ _ _ _ _ _ (arrays start) (step .ensures) (answer2 .given .1))
@@ -23,7 +23,7 @@ returns c = one-refused _ _ _ _ _ _ _ _ (c .before .before .before .before .befo
 
 returns-2 : tie.Need-returns-2
 returns-2 c =
-    let start = c .before .before .before .before .before .before .before .before .before .before .before .before .before .before .before .before .before .before .before .before .before .before .before .before in
+    let start = c .before .before .before .before .before .before .before .before .before .before .before .before .before .before .before .before .before .before .before .before .before .before .before .before .before in
     let step = c .before .before .before .before .before .before .before .before .before .before .before .before .before .before .before .before .step in
     let answer2 = c .before .before .before .before .before .before .before .answer2 in
     one-said _ _ _ _ _ _ _ _ _ _ _ (arrays start) (step .ensures) (answer2 .given .1) (search needs) (c .before .before .put .ensures)

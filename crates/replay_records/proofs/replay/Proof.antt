@@ -6,7 +6,7 @@ use native.Mathlib.Omega.{arith}
 use lib.ListN.{length}
 use borrow.Author.Needs.{needs}
 use Rattle.part.specs.Part.{Arrays}
-use Rattle.chip_core.specs.Effect.{flash}
+use Rattle.chip_core.specs.Effect.{memory}
 use Rattle.frame.specs.Framing.{frames}
 use Rattle.replay_records.proofs.Loop.{ReplayedFrom, end-after, end-within, output-kept, replayed-bad, replayed-full, replayed-end, replayed-refused, replayed-start, replayed-turn, turn-lies}
 use Rattle.replay_records.specs.Records.{replayOf}
@@ -15,17 +15,19 @@ use Rattle.replay_records.proofs.replay.Statement.{statement}
 use Rattle.replay_records.proofs.replay.Tie as tie
 
 abbrev Inv-loop : tie.InvT-loop
-Inv-loop part capture code₀ data₀ room₀ output₀ last₀ at₀ records₀ bytes₀ frames₀ code «data» room output last at records bytes frames =
+Inv-loop part capture code₀ data₀ sums₀ room₀ output₀ last₀ at₀ records₀ bytes₀ frames₀ code «data» sums room output last at records bytes frames =
     (length code ≡ length code₀)
     × (length «data» ≡ length data₀)
     × (length room ≡ length room₀)
     × (length output ≡ length output₀)
     × (length output₀ < 2 ^ 64)
     × Arrays part
-    × ReplayedFrom part capture at (record { ended = Whole; records = records; bytes = bytes; frames = frames; chip = last; memory = flash code «data»; room = room; output = output }) (replayOf part capture last₀ (flash code₀ data₀) room₀ output₀)
+    × ReplayedFrom part capture at
+    (record { ended = Whole; records = records; bytes = bytes; frames = frames; chip = last; memory = memory code «data» sums; room = room; output = output })
+    (replayOf part capture last₀ (memory code₀ data₀ sums₀) room₀ output₀)
 
 abbrev μ-loop : tie.MeasureT-loop
-μ-loop part capture code₀ data₀ room₀ output₀ last₀ at₀ records₀ bytes₀ frames₀ code «data» room output last at records bytes frames = length capture - at
+μ-loop part capture code₀ data₀ sums₀ room₀ output₀ last₀ at₀ records₀ bytes₀ frames₀ code «data» sums room output last at records bytes frames = length capture - at
 
 loop-holds : tie.Need-loop-holds Inv-loop μ-loop
 loop-holds c = (refl, refl, refl, refl, omega arith, record { deviceLong = search needs; nameLong = search needs; versionLong = search needs }, replayed-start _ _ _ _ _ _)
@@ -40,34 +42,34 @@ sub-play : tie.Need-sub-play Inv-loop μ-loop
 sub-play c = omega (arith, c .record-end .ensures, end-after _ _ (c .before .loop-test .taken))
 
 sub-play-2 : tie.Need-sub-play-2 Inv-loop μ-loop
-sub-play-2 c = omega (arith, c .before .before .before .before .before .before .loop .inv .6 .stands)
+sub-play-2 c = omega (arith, c .before .before .before .before .before .before .before .loop .inv .6 .stands)
 
 part-play-start-2 : tie.Need-part-play-start-2 Inv-loop μ-loop
-part-play-start-2 c = omega (arith, c .before .before .before .before .before .before .loop .inv .6 .stands)
+part-play-start-2 c = omega (arith, c .before .before .before .before .before .before .before .loop .inv .6 .stands)
 
 part-play-end-2 : tie.Need-part-play-end-2 Inv-loop μ-loop
-part-play-end-2 c = omega (arith, c .before .before .before .before .before .before .loop .inv .6 .stands)
+part-play-end-2 c = omega (arith, c .before .before .before .before .before .before .before .loop .inv .6 .stands)
 
 add-records : tie.Need-add-records Inv-loop μ-loop
 add-records c =
-    let loop = c .before .before .before .before .before .before .before .before .before .before .before .before .before .before .before .before .before .before .before .before .loop in
-    let loop-test = c .before .before .before .before .before .before .before .before .before .before .before .before .before .before .before .before .before .before .before .loop-test in
-    let record-end = c .before .before .before .before .before .before .before .before .before .before .before .before .before .before .before .before .before .before .record-end in
+    let loop = c .before .before .before .before .before .before .before .before .before .before .before .before .before .before .before .before .before .before .before .before .before .loop in
+    let loop-test = c .before .before .before .before .before .before .before .before .before .before .before .before .before .before .before .before .before .before .before .before .loop-test in
+    let record-end = c .before .before .before .before .before .before .before .before .before .before .before .before .before .before .before .before .before .before .before .record-end in
     let x = loop .inv in
     omega (arith, x .6 .counted, record-end .ensures, end-after _ _ (loop-test .taken))
 
 add-bytes : tie.Need-add-bytes Inv-loop μ-loop
 add-bytes c =
-    let loop = c .before .before .before .before .before .before .before .before .before .before .before .before .before .before .before .before .before .before .before .before .loop in
-    let record-end = c .before .before .before .before .before .before .before .before .before .before .before .before .before .before .before .before .before .before .record-end in
+    let loop = c .before .before .before .before .before .before .before .before .before .before .before .before .before .before .before .before .before .before .before .before .before .loop in
+    let record-end = c .before .before .before .before .before .before .before .before .before .before .before .before .before .before .before .before .before .before .before .record-end in
     let play = c .before .before .before .before .before .before .before .before .before .before .before .before .play in
     let x = loop .inv in
     omega (arith, turn-lies _ (x .6) (x .5) (record-end .ensures) (play .ensures) (c .before .ended .given .1) .0, x .3, x .4)
 
 add-frames : tie.Need-add-frames Inv-loop μ-loop
 add-frames c =
-    let loop = c .before .before .before .before .before .before .before .before .before .before .before .before .before .before .before .before .before .before .before .before .loop in
-    let record-end = c .before .before .before .before .before .before .before .before .before .before .before .before .before .before .before .before .before .before .record-end in
+    let loop = c .before .before .before .before .before .before .before .before .before .before .before .before .before .before .before .before .before .before .before .before .before .loop in
+    let record-end = c .before .before .before .before .before .before .before .before .before .before .before .before .before .before .before .before .before .before .before .record-end in
     let play = c .before .before .before .before .before .before .before .before .before .before .before .before .play in
     let x = loop .inv in
     let y = turn-lies _ (x .6) (x .5) (record-end .ensures) (play .ensures) (c .before .ended .given .1) in
@@ -75,21 +77,21 @@ add-frames c =
 
 loop-less : tie.Need-loop-less Inv-loop μ-loop
 loop-less c =
-    let loop-test = c .before .before .before .before .before .before .before .before .before .before .before .before .before .before .before .before .before .before .before .loop-test in
-    let record-end = c .before .before .before .before .before .before .before .before .before .before .before .before .before .before .before .before .before .before .record-end in
+    let loop-test = c .before .before .before .before .before .before .before .before .before .before .before .before .before .before .before .before .before .before .before .before .loop-test in
+    let record-end = c .before .before .before .before .before .before .before .before .before .before .before .before .before .before .before .before .before .before .before .record-end in
     omega (arith, record-end .ensures, end-after _ _ (loop-test .taken), end-within _ _ (loop-test .taken))
 
 loop-again : tie.Need-loop-again Inv-loop μ-loop
 loop-again c =
-    let loop = c .before .before .before .before .before .before .before .before .before .before .before .before .before .before .before .before .before .before .before .before .loop in
-    let loop-test = c .before .before .before .before .before .before .before .before .before .before .before .before .before .before .before .before .before .before .before .loop-test in
-    let record-end = c .before .before .before .before .before .before .before .before .before .before .before .before .before .before .before .before .before .before .record-end in
+    let loop = c .before .before .before .before .before .before .before .before .before .before .before .before .before .before .before .before .before .before .before .before .before .loop in
+    let loop-test = c .before .before .before .before .before .before .before .before .before .before .before .before .before .before .before .before .before .before .before .before .loop-test in
+    let record-end = c .before .before .before .before .before .before .before .before .before .before .before .before .before .before .before .before .before .before .before .record-end in
     let play = c .before .before .before .before .before .before .before .before .before .before .before .before .play in
     let x = loop .inv in
-    let l = output-kept _ (x .6) (record-end .ensures) (play .ensures) (play .kept .1 .1 .1 .1 .1 .1 .0) in (
+    let l = output-kept _ (x .6) (record-end .ensures) (play .ensures) (play .kept .1 .1 .1 .1 .1 .1 .1 .0) in (
       play .kept .1 .1 .1 .0 ∙ x .0,
       play .kept .1 .1 .1 .1 .0 ∙ x .1,
-      play .kept .1 .1 .1 .1 .1 .0 ∙ x .2,
+      play .kept .1 .1 .1 .1 .1 .1 .0 ∙ x .2,
       l ∙ x .3,
       x .4,
       x .5,
@@ -98,25 +100,25 @@ loop-again c =
 
 returns : tie.Need-returns Inv-loop μ-loop
 returns c =
-    let loop = c .before .before .before .before .before .before .before .before .before .before .before .before .before .before .before .before .before .before .before .loop in
-    let loop-test = c .before .before .before .before .before .before .before .before .before .before .before .before .before .before .before .before .before .before .loop-test in
-    let record-end = c .before .before .before .before .before .before .before .before .before .before .before .before .before .before .before .before .before .record-end in
+    let loop = c .before .before .before .before .before .before .before .before .before .before .before .before .before .before .before .before .before .before .before .before .loop in
+    let loop-test = c .before .before .before .before .before .before .before .before .before .before .before .before .before .before .before .before .before .before .before .loop-test in
+    let record-end = c .before .before .before .before .before .before .before .before .before .before .before .before .before .before .before .before .before .before .record-end in
     let play = c .before .before .before .before .before .before .before .before .before .before .before .play in
     replayed-bad _ (loop .inv .6) (loop-test .taken) (record-end .ensures) (play .ensures) (c .enum-told .given .1)
 
 returns-2 : tie.Need-returns-2 Inv-loop μ-loop
 returns-2 c =
-    let loop = c .before .before .before .before .before .before .before .before .before .before .before .before .before .before .before .before .before .before .before .loop in
-    let loop-test = c .before .before .before .before .before .before .before .before .before .before .before .before .before .before .before .before .before .before .loop-test in
-    let record-end = c .before .before .before .before .before .before .before .before .before .before .before .before .before .before .before .before .before .record-end in
+    let loop = c .before .before .before .before .before .before .before .before .before .before .before .before .before .before .before .before .before .before .before .before .loop in
+    let loop-test = c .before .before .before .before .before .before .before .before .before .before .before .before .before .before .before .before .before .before .before .loop-test in
+    let record-end = c .before .before .before .before .before .before .before .before .before .before .before .before .before .before .before .before .before .before .record-end in
     let play = c .before .before .before .before .before .before .before .before .before .before .before .play in
     replayed-full _ (loop .inv .6) (loop-test .taken) (record-end .ensures) (play .ensures) (c .enum-told2 .given .1)
 
 returns-3 : tie.Need-returns-3 Inv-loop μ-loop
 returns-3 c =
-    let loop = c .before .before .before .before .before .before .before .before .before .before .before .before .before .before .before .before .before .before .before .before .loop in
-    let loop-test = c .before .before .before .before .before .before .before .before .before .before .before .before .before .before .before .before .before .before .before .loop-test in
-    let record-end = c .before .before .before .before .before .before .before .before .before .before .before .before .before .before .before .before .before .before .record-end in
+    let loop = c .before .before .before .before .before .before .before .before .before .before .before .before .before .before .before .before .before .before .before .before .before .loop in
+    let loop-test = c .before .before .before .before .before .before .before .before .before .before .before .before .before .before .before .before .before .before .before .before .loop-test in
+    let record-end = c .before .before .before .before .before .before .before .before .before .before .before .before .before .before .before .before .before .before .before .record-end in
     let play = c .before .before .before .before .before .before .before .before .before .before .before .before .play in
     replayed-refused _ (loop .inv .6) (loop-test .taken) (record-end .ensures) (play .ensures) (c .before .ended2 .given .1)
 
@@ -148,29 +150,29 @@ replay-spec =
     (λ c. search needs)
     (λ c. search needs)
     (λ c. search needs)
-    (λ c. output-kept _ (c .before .before .before .before .before .before .before .before .before .before .before .before .before .before .before .before .before .before .before .loop .inv .6)
-    (c .before .before .before .before .before .before .before .before .before .before .before .before .before .before .before .before .before .record-end .ensures)
-    (c .before .before .before .before .before .before .before .before .before .before .before .play .ensures) (c .before .before .before .before .before .before .before .before .before .before .before .play .kept .1 .1 .1 .1 .1 .1 .0) ∙
-    c .before .before .before .before .before .before .before .before .before .before .before .before .before .before .before .before .before .before .before .loop .inv .3)
+    (λ c. output-kept _ (c .before .before .before .before .before .before .before .before .before .before .before .before .before .before .before .before .before .before .before .before .loop .inv .6)
+    (c .before .before .before .before .before .before .before .before .before .before .before .before .before .before .before .before .before .before .record-end .ensures)
+    (c .before .before .before .before .before .before .before .before .before .before .before .play .ensures) (c .before .before .before .before .before .before .before .before .before .before .before .play .kept .1 .1 .1 .1 .1 .1 .1 .0) ∙
+    c .before .before .before .before .before .before .before .before .before .before .before .before .before .before .before .before .before .before .before .before .loop .inv .3)
     returns
-    (λ c. search needs)
-    (λ c. search needs)
-    (λ c. search needs)
-    (λ c. search needs)
-    (λ c. output-kept _ (c .before .before .before .before .before .before .before .before .before .before .before .before .before .before .before .before .before .before .before .loop .inv .6)
-    (c .before .before .before .before .before .before .before .before .before .before .before .before .before .before .before .before .before .record-end .ensures)
-    (c .before .before .before .before .before .before .before .before .before .before .before .play .ensures) (c .before .before .before .before .before .before .before .before .before .before .before .play .kept .1 .1 .1 .1 .1 .1 .0) ∙
-    c .before .before .before .before .before .before .before .before .before .before .before .before .before .before .before .before .before .before .before .loop .inv .3)
-    returns-2
     (λ c. search needs)
     (λ c. search needs)
     (λ c. search needs)
     (λ c. search needs)
     (λ c. output-kept _ (c .before .before .before .before .before .before .before .before .before .before .before .before .before .before .before .before .before .before .before .before .loop .inv .6)
     (c .before .before .before .before .before .before .before .before .before .before .before .before .before .before .before .before .before .before .record-end .ensures)
-    (c .before .before .before .before .before .before .before .before .before .before .before .before .play .ensures)
-    (c .before .before .before .before .before .before .before .before .before .before .before .before .play .kept .1 .1 .1 .1 .1 .1 .0) ∙
+    (c .before .before .before .before .before .before .before .before .before .before .before .play .ensures) (c .before .before .before .before .before .before .before .before .before .before .before .play .kept .1 .1 .1 .1 .1 .1 .1 .0) ∙
     c .before .before .before .before .before .before .before .before .before .before .before .before .before .before .before .before .before .before .before .before .loop .inv .3)
+    returns-2
+    (λ c. search needs)
+    (λ c. search needs)
+    (λ c. search needs)
+    (λ c. search needs)
+    (λ c. output-kept _ (c .before .before .before .before .before .before .before .before .before .before .before .before .before .before .before .before .before .before .before .before .before .loop .inv .6)
+    (c .before .before .before .before .before .before .before .before .before .before .before .before .before .before .before .before .before .before .before .record-end .ensures)
+    (c .before .before .before .before .before .before .before .before .before .before .before .before .play .ensures)
+    (c .before .before .before .before .before .before .before .before .before .before .before .before .play .kept .1 .1 .1 .1 .1 .1 .1 .0) ∙
+    c .before .before .before .before .before .before .before .before .before .before .before .before .before .before .before .before .before .before .before .before .before .loop .inv .3)
     returns-3
     (λ c. search needs)
     (λ c. search needs)

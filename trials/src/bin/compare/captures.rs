@@ -1,13 +1,16 @@
-//! Random captures through zc_replay and through the twin: the same reply bytes, frames and end, and the same room, state and flash after it (01 "Replay").
+//! Random captures through zc_replay and through the twin: the same reply bytes, frames and end, the same room, state and flash after it (01 "Replay"), and after
+//! every call the same kept sums, which are wrong at the start of half of the captures (02 §1).
 
 use trials::chip::{described, layout};
-use trials::door::{self, BAD_RECORD, OUTPUT, OUTPUT_FULL, ROOM, STATE};
+use trials::door::{self, BAD_RECORD, OUTPUT, OUTPUT_FULL, ROOM, STATE, SUMS};
 use twin::chip::{step, Answer};
 use twin::random::{random_capture, Generator};
 use twin::replay::{events, hex_line, judge_record, Player, RECORD};
+use twin::sums::Sums;
 
 use crate::chip::Difference;
 use crate::coverage::Coverage;
+use crate::sums::spoiled;
 
 /// What a replay leaves.
 struct Left {
@@ -26,12 +29,18 @@ struct Left {
 pub fn capture(seed: u64, coverage: &mut Coverage) -> Result<u64, Difference> {
     let capture = random_capture(seed);
     let fill = seed as u8;
-    let twin = by_twin(&capture, fill);
-    // Little output is enough for few records at a time.
     let mut choice = Generator::new(seed);
+    let mut sums = worked_out()?;
+    let how = choice.pick(&["right", "wrong"]);
+    if how == "wrong" {
+        sums = spoiled(&mut choice, &sums);
+    }
+    coverage.count(&format!("captures by sums, {how}"));
+    let (twin, kept) = by_twin(&capture, fill, sums);
+    // Little output is enough for few records at a time.
     let little = choice.between(OUTPUT, 3 * OUTPUT);
     let output = choice.pick(&[little, little, 1 << 16]);
-    let proved = by_door(&capture, fill, output, coverage)?;
+    let proved = by_door(&capture, fill, output, sums, &kept, coverage)?;
     let alike = [
         ("reply bytes", twin.said == proved.said),
         ("frames", twin.frames == proved.frames),
@@ -53,8 +62,29 @@ pub fn capture(seed: u64, coverage: &mut Coverage) -> Result<u64, Difference> {
     Ok(twin.records as u64)
 }
 
-fn by_twin(capture: &[u8], fill: u8) -> Left {
+/// The sums of the fresh flash, by zc_sums and by the twin.
+fn worked_out() -> Result<Sums, Difference> {
+    let player = Player::fresh();
+    let mut sums = [0; SUMS];
+    let told = door::sums(
+        &described(&player.part),
+        &player.code,
+        &player.data,
+        &mut sums,
+    );
+    if (told, sums) != (0, player.sums) {
+        return Err(format!(
+            "zc_sums on fresh flash told {told}, sums {sums:04X?}"
+        ));
+    }
+    Ok(sums)
+}
+
+/// What it leaves, and the sums before the first record and after each.
+fn by_twin(capture: &[u8], fill: u8, sums: Sums) -> (Left, Vec<Sums>) {
     let mut player = Player::fresh();
+    player.sums = sums;
+    let mut kept = vec![sums];
     let (mut said, mut frames, mut records, mut room) = (Vec::new(), 0, 0, [fill; ROOM]);
     let mut bad = false;
     for record in capture.chunks(RECORD) {
@@ -70,6 +100,7 @@ fn by_twin(capture: &[u8], fill: u8) -> Left {
                 event,
                 &mut player.code,
                 &mut player.data,
+                &mut player.sums,
                 &mut room,
             );
             if let Answer::Replied {
@@ -82,8 +113,9 @@ fn by_twin(capture: &[u8], fill: u8) -> Left {
             }
         }
         records += 1;
+        kept.push(player.sums);
     }
-    Left {
+    let left = Left {
         said,
         frames,
         records,
@@ -92,13 +124,16 @@ fn by_twin(capture: &[u8], fill: u8) -> Left {
         state: layout(&player.chip),
         code: player.code,
         data: player.data,
-    }
+    };
+    (left, kept)
 }
 
 fn by_door(
     capture: &[u8],
     fill: u8,
     size: usize,
+    mut sums: Sums,
+    kept: &[Sums],
     coverage: &mut Coverage,
 ) -> Result<Left, Difference> {
     let Player {
@@ -126,6 +161,7 @@ fn by_door(
             &capture[left.records * RECORD..],
             &mut left.code,
             &mut left.data,
+            &mut sums,
             &mut left.room,
             &mut output,
         );
@@ -138,6 +174,13 @@ fn by_door(
         left.said.extend_from_slice(&output[..bytes]);
         left.frames += told.frames as usize;
         left.records += played as usize;
+        if kept.get(left.records) != Some(&sums) {
+            return Err(format!(
+                "zc_replay told {told:?} after {} records and left sums {sums:04X?}, not the twin's; the capture is {}",
+                left.records,
+                hex_line(capture)
+            ));
+        }
         match told.refusal {
             0 => return Ok(left),
             BAD_RECORD => {

@@ -1,35 +1,39 @@
 //! The chip: the twin, the proved chip by single events and the proved chip by stretches (zc_feed), given the same; after every event the answer, the whole
-//! room, the 293 bytes of state with the options among them, and all code and data flash are compared (01 "Frames" to "Refusal numbers").
+//! room, the 293 bytes of state with the options among them, all code and data flash and the 72 kept sums are compared (01 "Frames" to "Refusal numbers",
+//! 02 §1).
 
 use trials::chip::{described, layout};
 use trials::door::{self, Told, OUTPUT, ROOM, STATE, UNTOLD};
 use twin::chip::{step, Answer, Chip, Event, Phase};
-use twin::frame::LONGEST;
+use twin::frame::{counted, LONGEST};
 use twin::part::{Area, Part};
 use twin::random::{statuses, Generator};
 use twin::replay::{hex_line, RECORD};
+use twin::sums::{Sums, SUMS};
 
 use crate::coverage::Coverage;
 use crate::script;
+use crate::sums;
 
 /// What differs, as text, with the call that it came from.
 pub type Difference = String;
 
-/// A chip with its flash; the state is the twin's record or the door's bytes.
+/// A chip with its flash and kept sums; the state is the twin's record or the door's bytes.
 #[derive(Clone)]
 pub struct Side<S> {
     pub state: S,
     pub code: Vec<u8>,
     pub data: Vec<u8>,
+    pub sums: Sums,
 }
 
 pub struct Trio<'a> {
     pub part: Part,
-    described: door::Part,
+    pub described: door::Part,
     pub twin: Side<Chip>,
-    stepped: Side<[u8; STATE]>,
-    fed: Side<[u8; STATE]>,
-    coverage: &'a mut Coverage,
+    pub stepped: Side<[u8; STATE]>,
+    pub fed: Side<[u8; STATE]>,
+    pub coverage: &'a mut Coverage,
     pub events: u64,
     pub calls_refused: u64,
     phases: [u64; 6],
@@ -40,7 +44,7 @@ pub struct Trio<'a> {
 const LONG_ROOM: usize = 64;
 
 impl<'a> Trio<'a> {
-    /// A fresh chip with this flash on all three sides.
+    /// A fresh chip with this flash on all three sides, its sums worked out.
     pub fn fresh(
         part: &Part,
         code: Vec<u8>,
@@ -58,14 +62,20 @@ impl<'a> Trio<'a> {
                 hex_line(&state)
             ));
         }
-        let side = Side { state, code, data };
-        Ok(Trio {
+        let side = Side {
+            state,
+            code,
+            data,
+            sums: [0xEEEE; SUMS],
+        };
+        let mut trio = Trio {
             part: part.clone(),
             described,
             twin: Side {
                 state: chip,
                 code: side.code.clone(),
                 data: side.data.clone(),
+                sums: side.sums,
             },
             stepped: side.clone(),
             fed: side,
@@ -74,7 +84,9 @@ impl<'a> Trio<'a> {
             calls_refused: 0,
             phases: [0; 6],
             fill: 0xA5,
-        })
+        };
+        trio.work_out()?;
+        Ok(trio)
     }
 
     /// Another state on all sides.
@@ -84,7 +96,7 @@ impl<'a> Trio<'a> {
         self.twin.state = chip;
     }
 
-    /// Another flash on all sides.
+    /// Another flash on all sides; the sums stay as they are.
     pub fn hand_in_flash(&mut self, code: Vec<u8>, data: Vec<u8>) {
         self.stepped.code.copy_from_slice(&code);
         self.fed.code.copy_from_slice(&code);
@@ -106,6 +118,7 @@ impl<'a> Trio<'a> {
                 rest,
                 &mut self.fed.code,
                 &mut self.fed.data,
+                &mut self.fed.sums,
                 &mut fed_room[..room],
             );
             let mut steps = 0;
@@ -160,6 +173,7 @@ impl<'a> Trio<'a> {
     fn event(&mut self, event: Event, room: usize) -> Result<(Told, [u8; LONG_ROOM]), Difference> {
         let before = self.stepped.state;
         let phase = self.twin.state.phase;
+        let wrong = self.may_answer(event).then(|| self.wrong_sums());
         let mut room_twin = [self.fill; LONG_ROOM];
         let mut room_proved = room_twin;
         let answer = step(
@@ -168,15 +182,21 @@ impl<'a> Trio<'a> {
             event,
             &mut self.twin.code,
             &mut self.twin.data,
+            &mut self.twin.sums,
             &mut room_twin[..room],
         );
         let part = self.described;
-        let Side { state, code, data } = &mut self.stepped;
+        let Side {
+            state,
+            code,
+            data,
+            sums,
+        } = &mut self.stepped;
         let lent = &mut room_proved[..room];
         let told = match event {
-            Event::Byte(byte) => door::byte(&part, state, byte, code, data, lent),
-            Event::Gap => door::gap(&part, state, code, data, lent),
-            Event::PowerOn => door::power_on(&part, state, code, data, lent),
+            Event::Byte(byte) => door::byte(&part, state, byte, code, data, sums, lent),
+            Event::Gap => door::gap(&part, state, code, data, sums, lent),
+            Event::PowerOn => door::power_on(&part, state, code, data, sums, lent),
         };
         self.events += 1;
         self.phases[phase_index(phase)] += 1;
@@ -208,10 +228,27 @@ impl<'a> Trio<'a> {
                 hex_line(&before)
             ));
         }
+        let answer = &room_twin[..told.bytes as usize];
         if told.frames > 0 {
-            self.count_answer(phase, &before, &room_twin[..told.bytes as usize]);
+            self.count_answer(phase, &before, answer);
+        }
+        if let Some(wrong) = wrong {
+            let said = statuses(answer);
+            let Trio { part, coverage, .. } = self;
+            sums::count(coverage, part, &wrong, event, phase, &before, &said);
         }
         Ok((told, room_proved))
+    }
+
+    /// A gap, power-on, or the byte that completes a frame: only there can a sum be said, or touched.
+    fn may_answer(&self, event: Event) -> bool {
+        let Chip {
+            collected, count, ..
+        } = &self.twin.state;
+        match event {
+            Event::Byte(_) => *count >= 2 && *count + 1 == counted(collected[1]) + 4,
+            Event::Gap | Event::PowerOn => true,
+        }
     }
 
     /// Which frame was answered, and what was said.
@@ -306,12 +343,18 @@ fn unlike(twin: &Side<Chip>, proved: &Side<[u8; STATE]>) -> Option<String> {
             "data flash differs at offset {:04X}h",
             first(&proved.data, &twin.data)
         ))
+    } else if proved.sums != twin.sums {
+        let slot = first(&proved.sums, &twin.sums);
+        Some(format!(
+            "the sum in slot {slot} is {:04X}h, the twin's {:04X}h",
+            proved.sums[slot], twin.sums[slot]
+        ))
     } else {
         None
     }
 }
 
-fn first(left: &[u8], right: &[u8]) -> usize {
+fn first<T: PartialEq>(left: &[T], right: &[T]) -> usize {
     left.iter().zip(right).take_while(|(a, b)| a == b).count()
 }
 
@@ -364,28 +407,7 @@ impl Trio<'_> {
         faults: &[u8],
     ) -> Result<(), Difference> {
         let has = |number: u8| faults.contains(&number);
-        let mut part = self.part.clone();
-        let mut bad_part = 0;
-        if has(1) {
-            bad_part = choice.below(BAD_PARTS.len());
-            spoil_part(choice, &mut part, bad_part);
-        }
-        // What the part asks for, as far as that can be lent, so that a bad part is the only fault where it is meant to be.
-        let fitting = |area: Area, held: &[u8]| {
-            let mut lent = held.to_vec();
-            if part.blocks(area) < 1000 {
-                lent.resize(part.size(area), 0x5A);
-            }
-            lent
-        };
-        let mut code = fitting(Area::Code, &self.twin.code);
-        let mut data = fitting(Area::Data, &self.twin.data);
-        if has(2) {
-            spoil_length(choice, &part, Area::Code, &mut code);
-        }
-        if has(3) {
-            spoil_length(choice, &part, Area::Data, &mut data);
-        }
+        let (part, bad_part, mut code, mut data) = self.lent(choice, faults);
         let mut chip = self.twin.state.clone();
         if choice.chance(30) {
             chip = script::good_chip(choice, &self.part);
@@ -418,12 +440,13 @@ impl Trio<'_> {
         let expected = self.expected(&part, &chip, event, (&code, &data, &room), way, faults)?;
 
         let described = described(&part);
-        let kept = (state, code.clone(), data.clone(), room.clone());
+        let mut sums = sums::spoiled(choice, &self.twin.sums);
+        let kept = (state, code.clone(), data.clone(), sums, room.clone());
         let mut untaken = true;
         let (call, told) = match event {
             Event::Byte(_) if many => {
                 let (taken, told) = door::feed(
-                    &described, &mut state, stretch, &mut code, &mut data, &mut room,
+                    &described, &mut state, stretch, &mut code, &mut data, &mut sums, &mut room,
                 );
                 untaken = taken == UNTOLD;
                 (3, told)
@@ -435,6 +458,7 @@ impl Trio<'_> {
                     capture,
                     &mut code,
                     &mut data,
+                    &mut sums,
                     &mut room,
                     &mut output,
                 );
@@ -444,27 +468,31 @@ impl Trio<'_> {
             Event::Byte(byte) => (
                 0,
                 door::byte(
-                    &described, &mut state, byte, &mut code, &mut data, &mut room,
+                    &described, &mut state, byte, &mut code, &mut data, &mut sums, &mut room,
                 ),
             ),
             Event::Gap => (
                 1,
-                door::gap(&described, &mut state, &mut code, &mut data, &mut room),
+                door::gap(
+                    &described, &mut state, &mut code, &mut data, &mut sums, &mut room,
+                ),
             ),
             Event::PowerOn => (
                 2,
-                door::power_on(&described, &mut state, &mut code, &mut data, &mut room),
+                door::power_on(
+                    &described, &mut state, &mut code, &mut data, &mut sums, &mut room,
+                ),
             ),
         };
         let what = if told != refused(expected) {
             Some(format!("told {told:?}, expected refusal {expected}"))
-        } else if kept != (state, code, data, room) || !untaken {
-            Some("lent bytes changed, or something was taken".to_string())
+        } else if kept != (state, code, data, sums, room) || !untaken {
+            Some("lent bytes or sums changed, or something was taken".to_string())
         } else {
             None
         };
         if let Some(what) = what {
-            let (state, code, data, room) = kept;
+            let (state, code, data, _, room) = kept;
             return Err(format!(
                 "{} with faults {faults:?} (for 1 {}, for 9 {})\n  {what}\n  {part:?}, code {}, data {}, room {}, state {}",
                 CALLS[call],
@@ -495,6 +523,33 @@ impl Trio<'_> {
         Ok(())
     }
 
+    /// A part and its flash with those of the faults 1, 2, 3 that are asked for, and which number of the part is bad.
+    pub fn lent(&self, choice: &mut Generator, faults: &[u8]) -> (Part, usize, Vec<u8>, Vec<u8>) {
+        let mut part = self.part.clone();
+        let mut bad_part = 0;
+        if faults.contains(&1) {
+            bad_part = choice.below(BAD_PARTS.len());
+            spoil_part(choice, &mut part, bad_part);
+        }
+        // What the part asks for, as far as that can be lent, so that a bad part is the only fault where it is meant to be.
+        let fitting = |area: Area, held: &[u8]| {
+            let mut lent = held.to_vec();
+            if part.blocks(area) < 1000 {
+                lent.resize(part.size(area), 0x5A);
+            }
+            lent
+        };
+        let mut code = fitting(Area::Code, &self.twin.code);
+        let mut data = fitting(Area::Data, &self.twin.data);
+        if faults.contains(&2) {
+            spoil_length(choice, &part, Area::Code, &mut code);
+        }
+        if faults.contains(&3) {
+            spoil_length(choice, &part, Area::Data, &mut data);
+        }
+        (part, bad_part, code, data)
+    }
+
     /// The number by the order of the faults, by the twin where its types can hold what is lent, and both must agree.
     #[allow(clippy::too_many_arguments)]
     fn expected(
@@ -509,13 +564,14 @@ impl Trio<'_> {
         let by_order = ORDER.into_iter().find(|number| faults.contains(number));
         let (mut twin_code, mut twin_data, mut twin_room) =
             (code.to_vec(), data.to_vec(), room.to_vec());
-        let mut twin_chip = chip.clone();
+        let (mut twin_chip, mut twin_sums) = (chip.clone(), self.twin.sums);
         let answer = step(
             part,
             &mut twin_chip,
             event,
             &mut twin_code,
             &mut twin_data,
+            &mut twin_sums,
             &mut twin_room,
         );
         let by_twin = match answer {
@@ -525,8 +581,11 @@ impl Trio<'_> {
             Answer::Refused(number) => number,
             Answer::Replied { .. } => 0,
         };
-        let unchanged =
-            twin_chip == *chip && twin_code == code && twin_data == data && twin_room == room;
+        let unchanged = twin_chip == *chip
+            && twin_code == code
+            && twin_data == data
+            && twin_sums == self.twin.sums
+            && twin_room == room;
         match answer {
             Answer::Refused(_) if !unchanged => Err(format!(
                 "the twin changed something though it refused {faults:?}"

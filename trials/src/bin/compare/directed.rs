@@ -1,6 +1,6 @@
 //! Directed events: every COM with every fault of a frame in every phase, every pair of edge addresses, every page, one byte amiss in every place of a page,
-//! every flag byte and every window edge for A0h, protection by every flag byte that the chip accepts, and every set of faults of a refused call (01 "Frames",
-//! "Phases", "Commands", "Refusal numbers").
+//! every flag byte and every window edge for A0h, protection by every flag byte that the chip accepts, every block's kept sum, and every set of faults of a
+//! refused call (01 "Frames", "Phases", "Commands", "Refusal numbers", 02 §1).
 
 use twin::chip::{
     Chip, Event, Phase, BLANK_CHECK, BLOCK_ERASE, CHECKSUM, ERASED, PROGRAM, SECURITY_RELEASE,
@@ -38,6 +38,7 @@ pub fn run(coverage: &mut Coverage) -> Result<(u64, u64), Difference> {
         one_byte(&mut trio)?;
         options(&mut trio)?;
         protection(&mut trio)?;
+        kept_sums(&mut trio, &mut choice)?;
         faults(&mut trio, &mut choice)?;
         let (events, refused) = trio.finish();
         counts = (counts.0 + events, counts.1 + refused);
@@ -325,7 +326,74 @@ fn protection(trio: &mut Trio) -> Result<(), Difference> {
     Ok(())
 }
 
-/// Every set of the five faults, so that each refusal is met alone and before each that comes after it.
+/// For each block, with right sums and with wrong ones: its sum said, alone, with the next block's and with the whole area's, left alone and renewed. Wrong
+/// ones are handed in before every frame, so that one that should have been left alone shows.
+fn kept_sums(trio: &mut Trio, choice: &mut Generator) -> Result<(), Difference> {
+    let part = trio.part.clone();
+    let size = part.page_size();
+    trio.hand_in_flash(
+        script::flash(choice, 100, &part, Area::Code),
+        script::flash(choice, 100, &part, Area::Data),
+    );
+    for spoils in [false, true] {
+        trio.work_out()?;
+        for area in [Area::Code, Area::Data] {
+            let (block, past) = (part.block_size(area), part.end(area));
+            for start in (part.start(area)..past).step_by(block) {
+                let end = start + block - 1;
+                let page: Vec<u8> = (0..size).map(|_| choice.byte()).collect();
+                let sum = |first: usize, last: usize| {
+                    (
+                        Phase::Ready,
+                        command_frame(&range_body(CHECKSUM, first, last)),
+                    )
+                };
+                let erase = |first: usize| {
+                    let body = range_body(BLOCK_ERASE, first, 0);
+                    (Phase::Ready, command_frame(&body[..4]))
+                };
+                let paged = |command: u8, next: usize, footer: u8| {
+                    let phase = Phase::Awaiting {
+                        command,
+                        next,
+                        last: end,
+                    };
+                    (phase, data_frame(&page, footer))
+                };
+                let last_page = end + 1 - size;
+                for (phase, frame) in [
+                    sum(start, end),
+                    sum(start, (end + block).min(past - 1)),
+                    sum(part.start(area), past - 1),
+                    paged(PROGRAM, start, MORE_FOOTER),
+                    erase(start + 1),
+                    erase(start),
+                    sum(start, end),
+                    erase(start),
+                    paged(PROGRAM, start, LAST_FOOTER),
+                    paged(PROGRAM, start, MORE_FOOTER),
+                    paged(PROGRAM, start, MORE_FOOTER),
+                    paged(PROGRAM, last_page, LAST_FOOTER),
+                    paged(VERIFY, last_page, LAST_FOOTER),
+                    sum(start, end),
+                    sum(start, (end + block).min(past - 1)),
+                ] {
+                    if spoils {
+                        trio.spoil_sums(choice);
+                    }
+                    trio.hand_in(standing(trio, phase));
+                    trio.bytes(&frame, 32)?;
+                }
+                for event in [Event::Gap, Event::PowerOn] {
+                    trio.pause(event, 32)?;
+                }
+            }
+        }
+    }
+    Ok(())
+}
+
+/// Every set of the five faults, so that each refusal is met alone and before each that comes after it; zc_sums with every set of its three.
 fn faults(trio: &mut Trio, choice: &mut Generator) -> Result<(), Difference> {
     for set in 1..1 << ORDER.len() {
         let in_set = |(bit, _): &(usize, u8)| set >> bit & 1 == 1;
@@ -335,8 +403,12 @@ fn faults(trio: &mut Trio, choice: &mut Generator) -> Result<(), Difference> {
             .filter(in_set)
             .map(|(_, number)| number)
             .collect();
+        let of_sums = faults.iter().all(|number| *number <= 3);
         for _ in 0..40 {
             trio.refused_with(choice, &faults)?;
+            if of_sums {
+                trio.refused_sums(choice, &faults)?;
+            }
         }
     }
     Ok(())

@@ -8,6 +8,7 @@ mod coverage;
 mod directed;
 mod dock;
 mod script;
+mod sums;
 
 use std::env;
 use std::process::ExitCode;
@@ -92,7 +93,7 @@ fn compare_chips(size: &Size, coverage: &mut Coverage) -> Result<(), Difference>
         seed += 1;
     }
     println!(
-        "chip: {events} events ({directed} directed, the others in {seed} courses), each compared with all flash and options; {refused} refused calls; \
+        "chip: {events} events ({directed} directed, the others in {seed} courses), each compared with all flash, options and kept sums; {refused} refused calls; \
          {:.0} s",
         start.elapsed().as_secs_f64()
     );
@@ -143,10 +144,22 @@ fn course(seed: u64, coverage: &mut Coverage) -> Result<(u64, u64), Difference> 
     let data = script::flash(&mut choice, filled, &part, Area::Data);
     let mut trio = Trio::fresh(&part, code, data, coverage)?;
     trio.refused_fresh(&mut choice)?;
+    // Wrong sums are no cause to refuse; in half of the courses there are some, again and again.
+    let spoils = choice.chance(50);
     for _ in 0..60 {
         let room = choice.pick(&[32, 32, 32, 33, 64]);
+        if spoils && choice.chance(30) {
+            trio.spoil_sums(&mut choice);
+        }
+        if spoils && choice.chance(5) {
+            trio.work_out()?;
+        }
         if choice.chance(15) {
             trio.refused_call(&mut choice)?;
+        }
+        if choice.chance(3) {
+            let faults = choice.pick(&[&[1][..], &[2], &[3], &[1, 2], &[2, 3], &[3, 1]]);
+            trio.refused_sums(&mut choice, faults)?;
         }
         if choice.chance(3) {
             trio.pause(Event::PowerOn, room)?;
@@ -156,6 +169,9 @@ fn course(seed: u64, coverage: &mut Coverage) -> Result<(u64, u64), Difference> 
                 script::flash(&mut choice, 0, &part, Area::Code),
                 script::flash(&mut choice, 0, &part, Area::Data),
             );
+            if !spoils {
+                trio.work_out()?;
+            }
         }
         if choice.chance(12) {
             let mut chip = script::good_chip(&mut choice, &part);
@@ -224,6 +240,7 @@ fn chip_tables(coverage: &Coverage) -> Vec<String> {
     refusals.push(row("refusal 1 by", &BAD_PARTS));
     refusals.push(row("refusal 9 by", &BAD_STATES));
     missing.extend(coverage.table("refusals of the chip", &refusals));
+    missing.extend(sums::table(coverage));
     let numbers = |low: u32, high: u32| (low..=high).map(|number| number.to_string()).collect();
     let parts = [
         ("code blocks".to_string(), numbers(8, 64)),
@@ -237,6 +254,7 @@ fn chip_tables(coverage: &Coverage) -> Vec<String> {
             "captures",
             &["whole", "bad record", "in pieces for want of output"],
         ),
+        row("captures by sums", &["right", "wrong"]),
     ];
     missing.extend(coverage.table("many at once", &many));
     missing

@@ -3,6 +3,7 @@
 use trials::door;
 use twin::chip::{step, Answer, Chip, Event};
 use twin::dock::{self, Report, Stage};
+use twin::sums::Sums;
 
 use crate::job::{
     part, Flash, Job, CLOCK, CODE_BLOCKS, DATA_BLOCKS, NAMES, OPTIONS, RATE, RETRIES, SUPPLY,
@@ -40,11 +41,12 @@ pub enum Cause {
     Timeout,
 }
 
-/// The two ends of the cable: a chip with its flash, and a dock at a job. No call of a trial may be refused.
+/// The two ends of the cable: a chip with its flash and kept sums, and a dock at a job. No call of a trial may be refused.
 pub trait Ends<'a>: Clone {
-    /// A fresh chip that holds this flash, and no dock yet.
+    /// A fresh chip that holds this flash, its sums worked out, and no dock yet.
     fn with(job: &'a Job, flash: &Flash) -> Self;
     fn flash(&self) -> &Flash;
+    fn sums(&self) -> &Sums;
     fn options(&self) -> [u8; OPTIONS];
     /// Bytes reach the chip; what it says is added.
     fn hear(&mut self, bytes: &[u8], said: &mut Vec<u8>);
@@ -63,6 +65,7 @@ pub struct Proved<'a> {
     chip: [u8; door::STATE],
     dock: [u8; door::DOCK],
     flash: Flash,
+    sums: Sums,
     room: [u8; door::ROOM],
 }
 
@@ -101,6 +104,9 @@ impl<'a> Ends<'a> for Proved<'a> {
         let part = door::part(CODE_BLOCKS, DATA_BLOCKS, CLOCK, &NAMES);
         let mut chip = [0; door::STATE];
         assert_eq!(door::fresh(&part, &mut chip), 0, "the part is described");
+        let mut sums = [0; door::SUMS];
+        let refusal = door::sums(&part, &flash.code, &flash.data, &mut sums);
+        assert_eq!(refusal, 0, "the flash fits the part");
         Proved {
             job: door::Job {
                 part,
@@ -110,12 +116,17 @@ impl<'a> Ends<'a> for Proved<'a> {
             chip,
             dock: [0; door::DOCK],
             flash: flash.clone(),
+            sums,
             room: [0; door::ROOM],
         }
     }
 
     fn flash(&self) -> &Flash {
         &self.flash
+    }
+
+    fn sums(&self) -> &Sums {
+        &self.sums
     }
 
     fn options(&self) -> [u8; OPTIONS] {
@@ -132,6 +143,7 @@ impl<'a> Ends<'a> for Proved<'a> {
                 rest,
                 code,
                 data,
+                &mut self.sums,
                 &mut self.room,
             );
             assert_eq!(told.refusal, 0, "the chip refused a byte");
@@ -142,7 +154,14 @@ impl<'a> Ends<'a> for Proved<'a> {
 
     fn gap(&mut self) {
         let Flash { code, data } = &mut self.flash;
-        let told = door::gap(&self.job.part, &mut self.chip, code, data, &mut self.room);
+        let told = door::gap(
+            &self.job.part,
+            &mut self.chip,
+            code,
+            data,
+            &mut self.sums,
+            &mut self.room,
+        );
         assert_eq!(
             (told.refusal, told.bytes),
             (0, 0),
@@ -152,7 +171,14 @@ impl<'a> Ends<'a> for Proved<'a> {
 
     fn power_on(&mut self) {
         let Flash { code, data } = &mut self.flash;
-        let told = door::power_on(&self.job.part, &mut self.chip, code, data, &mut self.room);
+        let told = door::power_on(
+            &self.job.part,
+            &mut self.chip,
+            code,
+            data,
+            &mut self.sums,
+            &mut self.room,
+        );
         assert_eq!(
             (told.refusal, told.bytes),
             (0, 0),
@@ -190,13 +216,23 @@ pub struct Twin<'a> {
     chip: Chip,
     dock: dock::State,
     flash: Flash,
+    sums: Sums,
 }
 
 impl Twin<'_> {
     fn event(&mut self, event: Event, said: &mut Vec<u8>) {
         let mut room = [0; door::ROOM];
         let Flash { code, data } = &mut self.flash;
-        match step(&self.job.part, &mut self.chip, event, code, data, &mut room) {
+        let answer = step(
+            &self.job.part,
+            &mut self.chip,
+            event,
+            code,
+            data,
+            &mut self.sums,
+            &mut room,
+        );
+        match answer {
             Answer::Replied { bytes, .. } => said.extend(&room[..bytes]),
             Answer::Refused(number) => panic!("the twin's chip refused, {number}"),
         }
@@ -224,11 +260,16 @@ impl<'a> Ends<'a> for Twin<'a> {
                 frames: 0,
             },
             flash: flash.clone(),
+            sums: flash.sums(),
         }
     }
 
     fn flash(&self) -> &Flash {
         &self.flash
+    }
+
+    fn sums(&self) -> &Sums {
+        &self.sums
     }
 
     fn options(&self) -> [u8; OPTIONS] {

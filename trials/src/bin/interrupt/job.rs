@@ -4,6 +4,7 @@ use trials::door;
 pub use twin::chip::ERASED;
 pub use twin::part::Area;
 use twin::part::Part;
+use twin::sums::{work_out, Sums, SUMS};
 
 pub const MODE_BYTE: u8 = 0x3A;
 /// Flags, last boot block, window start and end.
@@ -97,6 +98,13 @@ impl Flash {
             Area::Code => &self.code,
             Area::Data => &self.data,
         }
+    }
+
+    /// Of each block, worked out afresh by the second implementation (02 §1); 0 in the slots of blocks that the part has not.
+    pub fn sums(&self) -> Sums {
+        let mut sums = [0; SUMS];
+        work_out(&part(), &self.code, &self.data, &mut sums).expect("the flash fits the part");
+        sums
     }
 
     pub fn range(&self, job: &Job) -> &[u8] {

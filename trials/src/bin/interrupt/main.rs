@@ -63,6 +63,12 @@ fn tables<'a, E: Ends<'a>>(jobs: &'a Jobs) -> (String, Vec<String>) {
                 if !tallies.iter().all(Tally::is_right) {
                     wrong.push(format!("{area} flash: a number is not as it must be"));
                 }
+                let sums: u64 = tallies.iter().map(|tally| tally.sums_wrong).sum();
+                if sums != 0 {
+                    wrong.push(format!(
+                        "{area} flash: {sums} runs left a kept sum that is not its block's"
+                    ));
+                }
             }
             Err(why) => wrong.push(format!("{area} flash: {why}")),
         }
@@ -112,7 +118,7 @@ fn tell<'a, E: Ends<'a>>(jobs: &'a Jobs, check: bool) -> Result<(), String> {
     if check {
         compare(&text)?;
         println!(
-            "interrupt: every number is as it must be, and docs/INTERRUPTED.md shows these tables"
+            "interrupt: every number and every kept sum is as it must be, and docs/INTERRUPTED.md shows these tables"
         );
     }
     Ok(())

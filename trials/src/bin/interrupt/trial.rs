@@ -148,6 +148,7 @@ impl<'a, E: Ends<'a>> Trial<'a, E> {
     fn judge_around(&self, ends: &E, tally: &mut Tally) {
         tally.outside += ends.flash().changed_outside(&self.old, self.job);
         tally.options += u64::from(ends.options() != self.options);
+        tally.sums_wrong += u64::from(*ends.sums() != ends.flash().sums());
     }
 
     /// What a job that did not finish left: the image in the blocks before the one reached, the old bytes in those after it, and that one in between.
@@ -177,6 +178,7 @@ impl<'a, E: Ends<'a>> Trial<'a, E> {
             && ends.options() == self.options;
         tally.again += 1;
         tally.again_right += u64::from(finished && all_else);
+        tally.sums_wrong += u64::from(*ends.sums() != ends.flash().sums());
     }
 }
 
@@ -237,6 +239,8 @@ pub struct Tally {
     finished_wrong: u64,
     named_wrong: u64,
     counts_wrong: u64,
+    /// Runs that left a kept sum other than the one worked out afresh (02 §1), and runs of the whole job again that did. It must be 0 and has no row.
+    pub sums_wrong: u64,
     pub again: u64,
     pub again_right: u64,
     pub most_frames: usize,
@@ -407,6 +411,7 @@ pub fn planted<'a, E: Ends<'a>>(job: &'a Job, old: Flash) -> Result<(u64, u64), 
             let finished = from_power_on(&mut ends, job);
             if !stand.failed_by(Cause::Unreadable)
                 || !finished
+                || *ends.sums() != ends.flash().sums()
                 || ends.flash().changed_outside(&erased, job) > 0
             {
                 return Err("the planted command did something else than erase its block and fail the job, which run again finishes".to_string());

@@ -39,11 +39,11 @@ returns-2 c =
 
 returns-3 : tie.Need-returns-3
 returns-3 c =
-    let far = c .before .before .before .before .before .before .before .before .before .before .before .before .before .before .before .before .before .before .before .before in
+    let far = c .before .before .before .before .before .before .before .before .before .before .before .before .before .before .before .before .before .before .before .before .before in
     let start = far .before .before .before .before .before .before .before .before in
     let way-in = far .before .way-in in
-    let w2 = c .before .before .before .before .before .before .before .before .before .before .before .before .before .before .before .before .before .before .before .w2 in
-    let byte2 = c .before .before .before .before .before .before .before .before .before .before .before .before .before .before .before .before .before .byte2 in
+    let w2 = c .before .before .before .before .before .before .before .before .before .before .before .before .before .before .before .before .before .before .before .before .w2 in
+    let byte2 = c .before .before .before .before .before .before .before .before .before .before .before .before .before .before .before .before .before .before .byte2 in
     let frame-does = c .before .before .before .before .before .before .before .before .before .before .before .frame-does in
     let send = c .before .before .before .send in
     byte-accepted _ _ _ _ _ _ (start .pre)

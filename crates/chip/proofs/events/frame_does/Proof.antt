@@ -11,13 +11,16 @@ returns c = simp (← c .before .before .hearing .ensures, c .enum-told .given .
 
 returns-2 : tie.Need-returns-2
 unfolding frameDoes
-returns-2 c = simp (← c .before .before .before .before .before .before .before .before .before .hearing .ensures, c .before .before .before .before .before .before .before .enum-told2 .given .1, ← c .before .before .before .before .command .ensures)
+returns-2 c =
+    let hearing = c .before .before .before .before .before .before .before .before .before .before .hearing in
+    let enum-told2 = c .before .before .before .before .before .before .before .before .enum-told2 in
+    simp (← hearing .ensures, enum-told2 .given .1, ← c .before .before .before .before .command .ensures)
 
 returns-3 : tie.Need-returns-3
 unfolding frameDoes
 returns-3 c =
-    let hearing = c .before .before .before .before .before .before .before .before .before .before .hearing in
-    let hears = c .before .before .before .before .before .before .before .before .hears in
+    let hearing = c .before .before .before .before .before .before .before .before .before .before .before .hearing in
+    let hears = c .before .before .before .before .before .before .before .before .before .hears in
     let page = c .before .before .before .before .page in
     simp (← hearing .ensures, hears .given .1, ← page .ensures)
 

@@ -46,13 +46,13 @@ returns-4 c =
 
 byte-step-requires : tie.Need-byte-step-requires
 byte-step-requires c κs =
-    let verdict = c .before .before .before .before .before .before .before .before .before .before .verdict in
-    let enum-told = c .before .before .before .before .before .before .before .before .enum-told in
+    let verdict = c .before .before .before .before .before .before .before .before .before .before .before .verdict in
+    let enum-told = c .before .before .before .before .before .before .before .before .before .enum-told in
     sym (verdict .ensures) ∙ enum-told .given .1
 
 returns-5 : tie.Need-returns-5
 returns-5 c =
-    let event = c .before .before .before .before .before .before .before .before .before .before .before .before .before .before .before .event in
+    let event = c .before .before .before .before .before .before .before .before .before .before .before .before .before .before .before .before .event in
     let byte-step = c .before .before .before .before .before .before .before .before .byte-step in
     same-event _ _ _ _ _ _ _ (byte-step .ensures) (event .given .1)
 
