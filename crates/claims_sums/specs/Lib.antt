@@ -1,0 +1,4 @@
+pub mod Worked
+pub mod Touched
+pub mod Untouched
+pub mod Examples
