@@ -1,0 +1,4 @@
+pub mod Step
+pub mod AsBefore
+pub mod Said
+pub mod Examples

@@ -1,0 +1,5 @@
+pub mod Before
+pub mod Asked
+pub mod AsBefore
+pub mod Said
+pub mod Examples
