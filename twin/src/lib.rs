@@ -5,6 +5,7 @@ pub mod chip;
 pub mod dock;
 pub mod frame;
 pub mod histories;
+pub mod map;
 pub mod part;
 pub mod random;
 pub mod replay;

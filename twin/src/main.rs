@@ -1,4 +1,4 @@
-//! The twin's program: replays a capture (01 "Replay"), and makes random captures and random histories of the dock.
+//! The twin's program: replays a capture (01 "Replay"), makes random captures and random histories of the dock, and draws a map of blocks.
 
 use std::env;
 use std::fs::File;
@@ -6,6 +6,7 @@ use std::io::{self, BufReader, BufWriter, Read, Write};
 use std::process::ExitCode;
 
 use twin::histories::play;
+use twin::map::map;
 use twin::random::{random_capture, Tally};
 use twin::replay::replay;
 use twin::transcript::{self, twin_dock};
@@ -14,7 +15,8 @@ const USAGE: &str = "usage: twin replay [FILE]
        twin capture SEED          (writes the random capture of that seed)
        twin count SEED CAPTURES   (replays that many, prints how often each status came)
        twin dock SEED             (plays the dock's random history of that seed, a line for each call)
-       twin dock SEED HISTORIES   (plays that many, prints how often each cause, refusal and ending came)";
+       twin dock SEED HISTORIES   (plays that many, prints how often each cause, refusal and ending came)
+       twin map                   (rehearses the job of examples/map.c and prints what it must print)";
 
 fn main() -> ExitCode {
     let words: Vec<String> = env::args().skip(1).collect();
@@ -30,6 +32,7 @@ fn main() -> ExitCode {
         ["dock", seed, histories] => number(seed)
             .and_then(|seed| Ok((seed, number(histories)?)))
             .and_then(|(seed, histories)| print_dock_counts(seed, histories)),
+        ["map"] => io::stdout().write_all(map(|_| ()).as_bytes()),
         _ => Err(io::Error::other(USAGE)),
     };
     match result {
