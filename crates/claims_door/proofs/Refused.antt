@@ -1,7 +1,7 @@
 -- A call of the door that is refused changes nothing, the numbers told included: "State and lent bytes stay."
 -- Assumes nothing.
 use mathlib.Core.List.{List}
-use mathlib.Core.Path.{_≡_, refl}
+use mathlib.Core.Path.{_≡_, ap, refl}
 use Prim.Native.Nat.{ℕ}
 use lib.ListN.{length}
 use Rattle.chip.specs.Step.{Reaction, freshOf, reactTo, settled, stepOf}
@@ -10,7 +10,7 @@ use Rattle.chip.specs.declared.Answer.the-variants.{Replied}
 use Rattle.chip.specs.declared.Answer.the-variants as Answer
 use Rattle.chip.specs.declared.Event.{Event}
 use Rattle.chip_core.specs.Effect.{Flash, Memory}
-use Rattle.chip_door.specs.Calls.{answeredBy, fedBy, fedThrough, freshThrough, madeBy, steppedBy, steppedThrough, summedThrough}
+use Rattle.chip_door.specs.Calls.{answeredBy, fedBy, fedThrough, freshThrough, madeBy, steppedBy, steppedThrough, summedThrough, sumsTold}
 use Rattle.chip_layout.specs.Admission.{acceptanceNumber, chipAcceptance, chipAdmission}
 use Rattle.chip_layout.specs.Layout.{chipIn}
 use Rattle.chip_state.specs.Refusals.{verdictOn}
@@ -18,7 +18,9 @@ use Rattle.chip_state.specs.declared.Chip.{Chip}
 use Rattle.chip_sums.specs.Sums.{flashVerdict, summedBy, workedOut}
 use Rattle.claims_door.specs.Kept.{StepKept}
 use Rattle.frame.specs.Collector.{heard}
+use Rattle.part.specs.Refusal.{number}
 use Rattle.part.specs.declared.Part.{Part}
+use Rattle.part.specs.declared.refusal.Refusal.{Refusal}
 use Rattle.part.specs.declared.refusal.Verdict.{Verdict}
 use Rattle.part.specs.declared.refusal.Verdict.the-variants.{Accepted, Refused}
 
@@ -75,3 +77,12 @@ sums-kept Accepted p m s h = absurd (h refl)
 pub refused-sums-keep : (p : Part) (m : Flash) (s : List ℕ) → (summedThrough p m s .refusal ≡ 0 → ⊥) → summedThrough p m s .sums ≡ s
 unfolding summedThrough workedOut
 refused-sums-keep p m s h = sums-kept (flashVerdict p (length (m .codeFlash)) (length (m .dataFlash))) p m s h
+
+-- What is told of it: the refusal's number, or 0 with the sums as they were worked out.
+pub sums-told : (p : Part) (m : Flash) (s : List ℕ) (r : Refusal) → workedOut p m s .verdict ≡ Refused r → summedThrough p m s .refusal ≡ number r
+unfolding summedThrough acceptanceNumber
+sums-told p m s r e = ap acceptanceNumber e
+
+pub sums-done : (p : Part) (m : Flash) (s : List ℕ) → workedOut p m s .verdict ≡ Accepted → summedThrough p m s ≡ sumsTold 0 (workedOut p m s .sums)
+unfolding summedThrough acceptanceNumber
+sums-done p m s e = ap (λ (v : Verdict). sumsTold (acceptanceNumber v) (workedOut p m s .sums)) e
