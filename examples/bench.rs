@@ -1,10 +1,10 @@
-//! What the Rust examples that rehearse a job have in common: a chip of the replay's part (document 01, "Replay") with its flash, sums and reply room, and how
-//! a job ended.
+//! What the Rust examples that rehearse a job have in common: a chip of the replay's part (document 01, "Replay") with its flash, sums and reply room, and a
+//! job from its first frame to how it ended.
 
 #[path = "../include/door.rs"]
 pub mod door;
 
-use door::{Part, Report, DOCK, ROOM, STATE, SUMS};
+use door::{Job, Part, Report, DOCK, FRAME_ROOM, ROOM, STATE, SUMS};
 
 const NAMES: &[u8; door::NAMES] = b"\x10\x00\x06R5F100LE  \x01\x02\x03";
 const MODE_BYTE: u8 = 0x3A;
@@ -79,8 +79,40 @@ pub fn must(call: &str, refusal: u32) {
     }
 }
 
-/// How the job ended, as a line.
-pub fn ending(report: &Report, dock: &[u8; DOCK]) -> String {
+/// Frame by frame to the job's end, a pause before each. `show` is called when the chip has answered a frame and the dock has not heard it yet.
+pub fn rehearse(
+    chip: &mut Chip,
+    job: &Job,
+    dock: &mut [u8; DOCK],
+    mut show: impl FnMut(&Chip, &[u8; DOCK], &[u8], &[u8]),
+) -> Report {
+    loop {
+        let mut frame = [0; FRAME_ROOM];
+        let (refusal, bytes) = door::ask(job, dock, &mut frame);
+        must("zc_ask", refusal);
+        chip.gap();
+        let frame = &frame[..bytes as usize];
+        let answer = chip.hear(frame);
+        show(chip, dock, frame, &answer);
+        let report = match answer.is_empty() {
+            false => door::answer(job, dock, &answer),
+            true => door::timeout(job, dock),
+        };
+        must("zc_answer or zc_timeout", report.refusal);
+        if report.ended != 0 {
+            return report;
+        }
+    }
+}
+
+/// How the job ended, and whether code flash from `start` on holds the image; whether both are well.
+pub fn print_end(
+    report: &Report,
+    dock: &[u8; DOCK],
+    chip: &Chip,
+    start: usize,
+    image: &[u8],
+) -> bool {
     let how = match (report.ended, dock[20]) {
         (1, _) => "finished",
         (_, 1) => "failed by status",
@@ -88,8 +120,13 @@ pub fn ending(report: &Report, dock: &[u8; DOCK]) -> String {
         (_, 3) => "failed, unreadable",
         _ => "failed by timeout",
     };
-    format!(
+    println!(
         "{how}, {} frames, {} retries",
         report.frames_used, report.retries_used
-    )
+    );
+    let end = start + image.len();
+    let holds = &chip.code[start..end] == image;
+    let verb = if holds { "holds" } else { "does not hold" };
+    println!("{start:05X}h to {:05X}h {verb} the image", end - 1);
+    report.ended == 1 && holds
 }

@@ -7,8 +7,8 @@ mod bench;
 use std::io::{stdout, IsTerminal};
 use std::time::Duration;
 
-use bench::door::{self, Job, DATA_SUMS, DOCK, FRAME_ROOM, SUMS};
-use bench::{ending, must, Chip};
+use bench::door::{self, Job, DATA_SUMS, DOCK, SUMS};
+use bench::{must, print_end, rehearse, Chip};
 
 /// Code blocks 6 to 9.
 const START: usize = 0x1800;
@@ -115,27 +115,11 @@ fn main() {
 
     println!("by its sum alone a block is: . blank, o as at the start, w being written, # as the image has it");
     screen.draw(&chip, &dock);
-    let report = loop {
-        let mut frame = [0; FRAME_ROOM];
-        let (refusal, bytes) = door::ask(&job, &mut dock, &mut frame);
-        must("zc_ask", refusal);
-        chip.gap();
-        let answer = chip.hear(&frame[..bytes as usize]);
-        screen.draw(&chip, &dock);
-        let report = match answer.is_empty() {
-            false => door::answer(&job, &mut dock, &answer),
-            true => door::timeout(&job, &mut dock),
-        };
-        must("zc_answer or zc_timeout", report.refusal);
-        if report.ended != 0 {
-            break report;
-        }
-    };
+    let report = rehearse(&mut chip, &job, &mut dock, |chip, dock, _, _| {
+        screen.draw(chip, dock)
+    });
 
-    println!("{}", ending(&report, &dock));
-    let holds = chip.code[START..=END] == image;
-    let verb = if holds { "holds" } else { "does not hold" };
-    println!("{START:05X}h to {END:05X}h {verb} the image");
+    let done = print_end(&report, &dock, &chip, START, &image);
     let mut afresh = [0; SUMS];
     must(
         "zc_sums",
@@ -147,7 +131,7 @@ fn main() {
         "not those"
     };
     println!("the kept sums are {right} worked out afresh");
-    if report.ended != 1 || !holds || chip.sums != afresh {
+    if !done || chip.sums != afresh {
         std::process::exit(1);
     }
 }

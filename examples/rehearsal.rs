@@ -3,8 +3,8 @@
 
 mod bench;
 
-use bench::door::{self, Job, DOCK, FRAME_ROOM};
-use bench::{ending, must, Chip};
+use bench::door::{self, Job, DOCK};
+use bench::{must, print_end, rehearse, Chip};
 
 const START: usize = 0x1800;
 const END: usize = 0x1FFF;
@@ -33,30 +33,12 @@ fn main() {
     let mut dock = [0; DOCK];
     must("zc_start", door::start(&job, &mut dock));
 
-    let report = loop {
-        let mut frame = [0; FRAME_ROOM];
-        let (refusal, bytes) = door::ask(&job, &mut dock, &mut frame);
-        must("zc_ask", refusal);
-        chip.gap();
-        let frame = &frame[..bytes as usize];
-        let answer = chip.hear(frame);
-        println!("{} -> {}", hex(frame, 12), hex(&answer, answer.len()));
-        let report = match answer.is_empty() {
-            false => door::answer(&job, &mut dock, &answer),
-            true => door::timeout(&job, &mut dock),
-        };
-        must("zc_answer or zc_timeout", report.refusal);
-        if report.ended != 0 {
-            break report;
-        }
-    };
+    let report = rehearse(&mut chip, &job, &mut dock, |_, _, frame, answer| {
+        println!("{} -> {}", hex(frame, 12), hex(answer, answer.len()))
+    });
 
     // By hand: three frames of setup, then for each block that is not blank 32h, 22h, 40h, four pages, 13h and four pages: 3 + 2 * 12 = 27.
-    println!("{}", ending(&report, &dock));
-    let holds = chip.code[START..=END] == image;
-    let verb = if holds { "holds" } else { "does not hold" };
-    println!("{START:05X}h to {END:05X}h {verb} the image");
-    if report.ended != 1 || !holds {
+    if !print_end(&report, &dock, &chip, START, &image) {
         std::process::exit(1);
     }
 }
