@@ -9,6 +9,16 @@ use crate::job::{
     part, Flash, Job, CLOCK, CODE_BLOCKS, DATA_BLOCKS, NAMES, OPTIONS, RATE, RETRIES, SUPPLY,
 };
 
+/// A call of the door that brings neither byte nor frame.
+type Quiet = fn(
+    &door::Part,
+    &mut [u8; door::STATE],
+    &mut [u8],
+    &mut [u8],
+    &mut [u16; door::SUMS],
+    &mut [u8],
+) -> door::Told;
+
 /// How a job stands, and the frames and retries that the dock told.
 #[derive(Clone, Copy)]
 pub enum Stand {
@@ -97,6 +107,24 @@ impl Proved<'_> {
             retries,
         }
     }
+
+    /// An event to which the chip says nothing.
+    fn in_silence(&mut self, event: Quiet, name: &str) {
+        let Flash { code, data } = &mut self.flash;
+        let told = event(
+            &self.job.part,
+            &mut self.chip,
+            code,
+            data,
+            &mut self.sums,
+            &mut self.room,
+        );
+        assert_eq!(
+            (told.refusal, told.bytes),
+            (0, 0),
+            "the chip takes {name} in silence"
+        );
+    }
 }
 
 impl<'a> Ends<'a> for Proved<'a> {
@@ -153,37 +181,11 @@ impl<'a> Ends<'a> for Proved<'a> {
     }
 
     fn gap(&mut self) {
-        let Flash { code, data } = &mut self.flash;
-        let told = door::gap(
-            &self.job.part,
-            &mut self.chip,
-            code,
-            data,
-            &mut self.sums,
-            &mut self.room,
-        );
-        assert_eq!(
-            (told.refusal, told.bytes),
-            (0, 0),
-            "the chip takes a gap in silence"
-        );
+        self.in_silence(door::gap, "a gap");
     }
 
     fn power_on(&mut self) {
-        let Flash { code, data } = &mut self.flash;
-        let told = door::power_on(
-            &self.job.part,
-            &mut self.chip,
-            code,
-            data,
-            &mut self.sums,
-            &mut self.room,
-        );
-        assert_eq!(
-            (told.refusal, told.bytes),
-            (0, 0),
-            "the chip takes power-on in silence"
-        );
+        self.in_silence(door::power_on, "power-on");
     }
 
     fn start(&mut self) {
