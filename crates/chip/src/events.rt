@@ -205,7 +205,7 @@ pub fn fresh(part: Part) -> Step
     }
 }
 
-// One event, with both areas of flash and the reply room lent. Refused, it changes nothing. A gap, power-on, and a byte that is only added to what is
+// One event, with both areas of flash, the kept sums and the reply room lent. Refused, it changes nothing. A gap, power-on, and a byte that is only added to what is
 // collected, are settled here: the chip is then copied once in and once out. What any other byte takes is copied for it there, and not before.
 pub fn step(
     part: Part,

@@ -26,7 +26,7 @@ abbrev pub withBytes : Area → Flash → List ℕ → Flash
 withBytes CodeFlash m l = flash l (m .dataFlash)
 withBytes DataFlash m l = flash (m .codeFlash) l
 
--- What is lent to every event: flash, and the sums that are kept beside the chip's lasting record (document 02, §1).
+-- What is lent to every event beside the room: flash, and the sums that are kept beside the chip's lasting record (document 02, §1).
 pub record Memory : Type 0 where
   pub flash : Flash
   pub sums : List ℕ

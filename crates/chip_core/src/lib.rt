@@ -34,7 +34,7 @@ pub struct Core {
     pub phase: Phase,
 }
 
-// What a complete frame did, beside flash: the reply, and the record after it.
+// What a complete frame did, beside flash and the kept sums: the reply, and the record after it.
 pub struct Done {
     pub reply: Reply,
     pub core: Core,

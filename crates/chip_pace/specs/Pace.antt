@@ -1,4 +1,4 @@
--- What a fresh chip has come to after so many bytes, each a step of its own: how many bytes it has collected, and what it has done to flash and room.
+-- What a fresh chip has come to after so many bytes, each a step of its own: how many bytes it has collected, and what it has done to flash, sums and room.
 use mathlib.Core.List.{List, map}
 use Prim.Native.Nat.{ℕ}
 use Rattle.chip.specs.Run.{before, run}

@@ -44,16 +44,11 @@ counts p a n s e h i j =
     let m : n * blockSize p a ≤ blocks p a * blockSize p a = mul-le-mul-right (blockSize p a) h in
     rw e (omega (arith, size-small p a i j))
 
--- The bytes of a range lie in its area's slice.
-pub range-in-code : (p : Part) (a : Area) (block count s : ℕ) (c d : List ℕ) → a ≡ CodeFlash → s ≡ blockSize p a
-    → take (count * s) (drop (block * s) c) ≡ rangeBytes p a block count (flash c d)
+-- The bytes of a range, counted by a size that is the block's.
+pub range-in : {t : List ℕ} {s : ℕ} (p : Part) (a : Area) (block count : ℕ) (m : Flash) → s ≡ blockSize p a → t ≡ take (count * s) (drop (block * s) (bytesIn a m))
+    → t ≡ rangeBytes p a block count m
 unfolding rangeBytes
-range-in-code p a block count s c d e f = rw (f, e)
-
-pub range-in-data : (p : Part) (a : Area) (block count s : ℕ) (c d : List ℕ) → a ≡ DataFlash → s ≡ blockSize p a
-    → take (count * s) (drop (block * s) d) ≡ rangeBytes p a block count (flash c d)
-unfolding rangeBytes
-range-in-data p a block count s c d e f = rw (f, e)
+range-in p a block count m e f = f ∙ ap (λ (n : ℕ). take (count * n) (drop (block * n) (bytesIn a m))) e
 
 -- One block's bytes.
 pub block-bytes : (p : Part) (a : Area) (b : ℕ) (m : Flash) → rangeBytes p a b 1 m ≡ take (blockSize p a) (drop (b * blockSize p a) (bytesIn a m))

@@ -57,7 +57,7 @@ eventsOf GapRecord bs = Gap ∷ []
 eventsOf (BytesRecord n) bs = map Byte (carriedBytes n bs)
 eventsOf BadRecord bs = []
 
--- What playing leaves: how it ended, the chip, flash, the room, and the reply frames from the start of the lent output.
+-- What playing leaves: how it ended, the chip, flash and the kept sums, the room, and the reply frames from the start of the lent output.
 pub record RecordPlaying : Type 0 where
   pub ended : RecordEnded
   pub chip : Chip

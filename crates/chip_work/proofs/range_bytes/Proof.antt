@@ -1,9 +1,8 @@
 -- `chip_work::range_bytes` meets its contract: the area decides which slice is read; blocks of the part can be counted in bytes.
 -- Assumes nothing.
-use mathlib.Core.Path.{_∙_}
 use native.Mathlib.Omega.{arith}
 use borrow.Author.Needs.{needs}
-use Rattle.chip_sums.proofs.Laws.{counts, range-in-code, range-in-data}
+use Rattle.chip_sums.proofs.Laws.{counts, range-in}
 use Rattle.chip_work.proofs.range_bytes.Statement.{statement}
 use Rattle.chip_work.proofs.range_bytes.Tie as tie
 
@@ -28,10 +27,10 @@ mul-span-4 c =
     omega (arith, counts (args .part) (args .area) (args .count) _ (c .before .before .block-size .ensures) (omega arith) (search needs) (search needs))
 
 returns : tie.Need-returns
-returns c = c .span .ensures ∙ range-in-code _ _ _ _ _ _ _ (c .before .enum-told .given .1) (c .before .before .before .block-size .ensures)
+returns c = range-in _ _ _ _ _ (c .before .before .before .block-size .ensures) (rw (c .before .enum-told .given .1) (c .span .ensures))
 
 returns-2 : tie.Need-returns-2
-returns-2 c = c .span2 .ensures ∙ range-in-data _ _ _ _ _ _ _ (c .before .enum-told2 .given .1) (c .before .before .before .block-size .ensures)
+returns-2 c = range-in _ _ _ _ _ (c .before .before .before .block-size .ensures) (rw (c .before .enum-told2 .given .1) (c .span2 .ensures))
 
 pub range-bytes-spec : {M : Type 1} → statement M
 range-bytes-spec =
