@@ -1,4 +1,4 @@
-// The calls for C and Rust. Each takes a part as 19 bytes and a chip's state as 293 lent bytes, and answers a refusal number, 0 where it was not refused; what
+// The calls for C and Rust. Each takes a part as 19 bytes and a chip's state as lent bytes in one layout, and answers a refusal number, 0 where it was not refused; what
 // else it tells goes into lent numbers. Document 01, "Refusal numbers".
 ghost use mathlib.Core.Path.{_≡_};
 ghost use Prim.Native.Nat.{_<_, ℕ};
@@ -41,7 +41,7 @@ fn frames_told(answer: Answer) -> usize
 
 // A fresh chip of the part into the lent state.
 #[no_mangle]
-pub extern "C" fn zc_fresh(part: &[u8; 19], state: &mut [u8; 293]) -> u32
+pub extern "C" fn zc_fresh(part: &[u8; 19], state: &mut [u8; chip_layout::STATE_SIZE]) -> u32
     ensures { λ r. ⌜ made r (now (state .exit)) ≡ freshThrough (partIn (now (part .entry))) (now (state .entry)) ⌝ }
 {
     let step = events::fresh(part_layout::part_in(part));
@@ -73,7 +73,7 @@ pub extern "C" fn zc_sums(part: &[u8; 19], code: &[u8], data: &[u8], sums: &mut 
 
 fn step(
     part: &[u8; 19],
-    state: &mut [u8; 293],
+    state: &mut [u8; chip_layout::STATE_SIZE],
     event: Event,
     code: &mut [u8],
     data: &mut [u8],
@@ -121,7 +121,7 @@ fn are_bytes(state: &[u8])
 #[no_mangle]
 pub extern "C" fn zc_byte(
     part: &[u8; 19],
-    state: &mut [u8; 293],
+    state: &mut [u8; chip_layout::STATE_SIZE],
     b: u8,
     code: &mut [u8],
     data: &mut [u8],
@@ -151,7 +151,7 @@ pub extern "C" fn zc_byte(
 #[no_mangle]
 pub extern "C" fn zc_gap(
     part: &[u8; 19],
-    state: &mut [u8; 293],
+    state: &mut [u8; chip_layout::STATE_SIZE],
     code: &mut [u8],
     data: &mut [u8],
     sums: &mut [u16; 72],
@@ -177,7 +177,7 @@ pub extern "C" fn zc_gap(
 #[no_mangle]
 pub extern "C" fn zc_power_on(
     part: &[u8; 19],
-    state: &mut [u8; 293],
+    state: &mut [u8; chip_layout::STATE_SIZE],
     code: &mut [u8],
     data: &mut [u8],
     sums: &mut [u16; 72],
@@ -196,7 +196,7 @@ pub extern "C" fn zc_power_on(
 #[no_mangle]
 pub extern "C" fn zc_feed(
     part: &[u8; 19],
-    state: &mut [u8; 293],
+    state: &mut [u8; chip_layout::STATE_SIZE],
     fed: &[u8],
     code: &mut [u8],
     data: &mut [u8],

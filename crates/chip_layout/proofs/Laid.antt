@@ -12,7 +12,7 @@ use borrow.Author.Tests.{le-ltb, leb-true, lt-ltb, ltb-true, ne-eqb}
 use Rattle.chip_core.specs.declared.Awaited.{Awaited}
 use Rattle.chip_layout.specs.Admission.{chipAcceptance, chipAcceptanceBy, chipAdmission}
 use Rattle.chip_layout.specs.InPlace.{byteLaid, countLaid, isAdded}
-use Rattle.chip_layout.specs.Layout.{awaitedHeld, awaitedOf, chipBytes, chipIn, collectorIn, coreIn, headOf, isState, phaseIn, phaseNumber, stateSize}
+use Rattle.chip_layout.specs.Layout.{awaitedHeld, awaitedOf, chipBytes, chipIn, collectorIn, coreIn, headOf, isState, nothingAwaited, phaseIn, phaseNumber, stateSize}
 use Rattle.chip_options.proofs.Laws.{option-bytes, options-back}
 use Rattle.chip_options.specs.Options.{optionBytes, optionsIn}
 use Rattle.chip_options.specs.declared.Options.{Options}
@@ -60,11 +60,8 @@ zero-4 bs at e h k =
 zero-8 : (bs : List ℕ) (at : ℕ) → NothingAwaited bs → 8 ≤ at → at + 8 ≤ 25 → numberAt 8 at bs ≡ 0
 zero-8 bs at e h k = omega (arith, number-8 at bs, zero-4 bs at e h (omega arith), zero-4 bs (at + 4) e (omega arith) (omega arith))
 
-none : Awaited
-none = record { command = 0x00; next = 0; last = 0 }
-
-none-awaited : (bs : List ℕ) → NothingAwaited bs → none ≡ awaitedHeld bs
-unfolding awaitedHeld none
+none-awaited : (bs : List ℕ) → NothingAwaited bs → nothingAwaited ≡ awaitedHeld bs
+unfolding awaitedHeld
 none-awaited bs e =
     ap (λ (x : ℕ). record { command = x; next = 0; last = 0 }) (sym (zero-at bs 8 e (omega arith) (omega arith)))
     ∙ ap (λ (x : ℕ). record { command = getD bs 8 0; next = x; last = 0 }) (sym (zero-8 bs 9 e (omega arith) (omega arith)))
@@ -80,8 +77,8 @@ phase-back (suc (suc (suc zero))) w h k = refl
 phase-back (suc (suc (suc (suc zero)))) w h k = refl
 phase-back (suc (suc (suc (suc (suc n))))) w h k = absurd (omega arith)
 
-awaited-back : (n : ℕ) (w : Awaited) → 1 ≤ n → n ≤ 4 → ((n ≡ 4 → ⊥) → none ≡ w) → awaitedOf (phaseIn n w) ≡ w
-unfolding phaseIn if_then_else_ none
+awaited-back : (n : ℕ) (w : Awaited) → 1 ≤ n → n ≤ 4 → ((n ≡ 4 → ⊥) → nothingAwaited ≡ w) → awaitedOf (phaseIn n w) ≡ w
+unfolding phaseIn if_then_else_
 awaited-back zero w h k e = absurd (omega arith)
 awaited-back (suc zero) w h k e = e (λ x. omega arith)
 awaited-back (suc (suc zero)) w h k e = e (λ x. omega arith)

@@ -16,17 +16,21 @@ use Rattle.chip_options.specs.Options.{optionBytes, optionsIn}
 use Rattle.chip_options.specs.declared.Options.{Options}
 use Rattle.words.specs.Words.{_and_, _from_to_, _or_, if_then_else_}
 
--- The phases by the document's numbers, 1 to 4. Only phase 4 awaits: in the others command, next and last address are 0.
+-- The phases by the document's numbers, 1 to 4.
 abbrev pub phaseNumber : Phase → ℕ
 phaseNumber ModeByte = 1
 phaseNumber Setup = 2
 phaseNumber Ready = 3
 phaseNumber (Awaiting w) = 4
 
+-- Only phase 4 awaits: in the others command, next and last address are 0.
+abbrev pub nothingAwaited : Awaited
+nothingAwaited = record { command = 0x00; next = 0; last = 0 }
+
 abbrev pub awaitedOf : Phase → Awaited
-awaitedOf ModeByte = record { command = 0x00; next = 0; last = 0 }
-awaitedOf Setup = record { command = 0x00; next = 0; last = 0 }
-awaitedOf Ready = record { command = 0x00; next = 0; last = 0 }
+awaitedOf ModeByte = nothingAwaited
+awaitedOf Setup = nothingAwaited
+awaitedOf Ready = nothingAwaited
 awaitedOf (Awaiting w) = w
 
 -- Bytes 0 to 8: the options' six, as A1h gives them; rate, phase, and the command that awaits data.

@@ -13,7 +13,12 @@ use part::refusal::Refusal;
 use part::refusal::Verdict;
 
 // What bars a call before the chip is asked: the description, the lengths of flash, and bytes that are no state, in the paper's order.
-pub fn chip_admission(part: Part, state: &[u8; 293], code: usize, data: usize) -> Verdict
+pub fn chip_admission(
+    part: Part,
+    state: &[u8; super::STATE_SIZE],
+    code: usize,
+    data: usize,
+) -> Verdict
     ensures { λ r. ⌜ r ≡ chipAdmission part (now (state .entry)) code «data» ⌝ }
 {
     if part.is_described() {
@@ -52,7 +57,7 @@ fn verdict_in(part: Part, state: &[u8], code: usize, data: usize, room: usize) -
 // The same, and then the chip's own verdict: before the first event of a call.
 pub fn chip_acceptance(
     part: Part,
-    state: &[u8; 293],
+    state: &[u8; super::STATE_SIZE],
     code: usize,
     data: usize,
     room: usize,
@@ -78,7 +83,13 @@ fn is_good_in(part: Part, state: &[u8]) -> bool
 }
 
 // That verdict as its number, found on numbers alone: no verdict goes through memory.
-pub fn judge(part: Part, state: &[u8; 293], code: usize, data: usize, room: usize) -> u32
+pub fn judge(
+    part: Part,
+    state: &[u8; super::STATE_SIZE],
+    code: usize,
+    data: usize,
+    room: usize,
+) -> u32
     ensures { λ r. ⌜ r ≡ acceptanceNumber (chipAcceptance part (now (state .entry)) code «data» room) ⌝ }
 {
     if part.is_described() {

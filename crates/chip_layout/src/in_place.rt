@@ -24,14 +24,14 @@ fn put_byte(state: &mut [u8], b: u8)
 }
 
 // Another count of what is collected: 0 for a gap.
-pub fn lay_count(state: &mut [u8; 293], n: usize)
+pub fn lay_count(state: &mut [u8; super::STATE_SIZE], n: usize)
     ensures { λ r. ⌜ now (state .exit) ≡ countLaid n (now (state .entry)) ⌝ }
 {
     put_count(state, n);
 }
 
 // Whether the next byte is only added: past header and LEN, and not the last of its frame.
-pub fn is_added(state: &[u8; 293]) -> bool
+pub fn is_added(state: &[u8; super::STATE_SIZE]) -> bool
     ensures { λ r. ⌜ r ≡ isAdded (now (state .entry)) ⌝ }
 {
     let count = super::number8(state, 25);
@@ -39,7 +39,7 @@ pub fn is_added(state: &[u8; 293]) -> bool
 }
 
 // One byte more.
-pub fn add_byte(state: &mut [u8; 293], b: u8)
+pub fn add_byte(state: &mut [u8; super::STATE_SIZE], b: u8)
     ensures { λ r. ⌜ now (state .exit) ≡ byteLaid b (now (state .entry)) ⌝ }
 {
     put_byte(state, b);

@@ -6,7 +6,7 @@ ghost use lib.ListN.{drop, length, take};
 ghost use Rattle.numbers.specs.Numbers.{numberAt};
 ghost use Rattle.lent.specs.Lent.{allAre};
 ghost use Rattle.chip_layout.specs.Layout.{awaitedHeld, awaitedOf, chipIn, collectorIn, coreIn};
-ghost use Rattle.chip_layout.specs.Layout.{headOf, isState, chipBytes, phaseIn, phaseNumber, stateSize};
+ghost use Rattle.chip_layout.specs.Layout.{headOf, isState, chipBytes, nothingAwaited, phaseIn, phaseNumber, stateSize};
 use chip_core::Awaited;
 use chip_core::Core;
 use chip_core::Phase;
@@ -16,6 +16,9 @@ use frame::collector::Collector;
 
 pub mod admission;
 pub mod in_place;
+
+// How many bytes a state has.
+pub const STATE_SIZE: usize = 293;
 
 // The bytes of a state are known to be there: they are read without a test for each.
 fn number4(bytes: &[u8], at: usize) -> u32
@@ -111,7 +114,7 @@ fn core_in(state: &[u8]) -> Core
     }
 }
 
-pub fn chip_in(state: &[u8; 293]) -> Chip
+pub fn chip_in(state: &[u8; STATE_SIZE]) -> Chip
     ensures { λ r. ⌜ r ≡ chipIn (now (state .entry)) ⌝ }
 {
     let core = core_in(state);
@@ -130,25 +133,23 @@ fn phase_number(phase: Phase) -> u8
     }
 }
 
+fn nothing_awaited() -> Awaited
+    ensures { λ r. ⌜ r ≡ nothingAwaited ⌝ }
+{
+    Awaited {
+        command: 0x00,
+        next: 0,
+        last: 0,
+    }
+}
+
 fn awaited_of(phase: Phase) -> Awaited
     ensures { λ r. ⌜ r ≡ awaitedOf phase ⌝ }
 {
     match phase {
-        Phase::ModeByte => Awaited {
-            command: 0x00,
-            next: 0,
-            last: 0,
-        },
-        Phase::Setup => Awaited {
-            command: 0x00,
-            next: 0,
-            last: 0,
-        },
-        Phase::Ready => Awaited {
-            command: 0x00,
-            next: 0,
-            last: 0,
-        },
+        Phase::ModeByte => nothing_awaited(),
+        Phase::Setup => nothing_awaited(),
+        Phase::Ready => nothing_awaited(),
         Phase::Awaiting(w) => w,
     }
 }
@@ -193,7 +194,7 @@ fn lay(chip: Chip, state: &mut [u8])
 }
 
 // The chip's state into the lent bytes.
-pub fn lay_chip(chip: Chip, state: &mut [u8; 293])
+pub fn lay_chip(chip: Chip, state: &mut [u8; STATE_SIZE])
     ensures { λ r. ⌜ now (state .exit) ≡ chipBytes chip ⌝ }
 {
     lay(chip, state);

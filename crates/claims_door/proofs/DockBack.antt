@@ -1,13 +1,13 @@
 -- The layout of a dock's state: a dock that is written is read back the same, and bytes that are a state are written back the same.
 -- Assumes nothing.
-use mathlib.Core.Bool.{Bool, false, true}
+use mathlib.Core.Bool.{Bool, true}
 use mathlib.Core.List.{List}
 use mathlib.Core.Path.{_∙_, _≡_, ap, refl}
 use Prim.Native.Nat.{_<_, _^_, ℕ}
 use lib.Dec.{eqb}
 use Rattle.claims_door.proofs.Back.{together, together-is}
 use Rattle.claims_door.specs.Docked.{HeldDock}
-use Rattle.dock_layout.specs.Layout.{bit, causeIn, causeNumber, dockIn, endingIn, flat, flatEnding, flatIn, flatOf, flatWork, isDock, isNamed, dockBytes, bytesWith, named, namedIn, setupIn, stageIn, workIn}
+use Rattle.dock_layout.specs.Layout.{causeIn, causeNumber, dockIn, endingIn, flat, flatEnding, flatIn, flatOf, flatWork, isDock, isNamed, dockBytes, bytesWith, named, namedIn, setupIn, stageIn, workIn}
 use Rattle.dock_layout.specs.declared.Flat.{Flat}
 use Rattle.dock_job.specs.declared.Cause.{Cause}
 use Rattle.dock_job.specs.declared.Cause.the-variants.{Mismatch, TimedOut, UnexpectedStatus, Unreadable}
@@ -20,7 +20,8 @@ use Rattle.dock_job.specs.declared.Setup.the-variants.{BaudRate, ResetChip, Sil
 use Rattle.dock_job.specs.declared.Stage.{Stage}
 use Rattle.dock_job.specs.declared.Stage.the-variants.{InBlock, Over, SetUp}
 use Rattle.dock_job.specs.declared.Work.the-variants.{Blank, Erase, Program, ProgramPage, VerifyBlock, VerifyPage}
-use Rattle.numbers.specs.Numbers.{lowFirst, numberAt}
+use Rattle.numbers.proofs.Laws.{bit-back}
+use Rattle.numbers.specs.Numbers.{bit, lowFirst, numberAt}
 use Rattle.lent.proofs.Laws.{same-is, same-self}
 use Rattle.words.specs.Words.{if_then_else_}
 
@@ -58,10 +59,6 @@ stage-back (InBlock k VerifyBlock) = refl
 stage-back (InBlock k (VerifyPage p)) = refl
 stage-back (Over Finished) = refl
 stage-back (Over (Failed f)) = ap (λ (c : Cause). failed c f) (cause-back (f .cause))
-
-bit-back : (b : Bool) → eqb (bit b) 1 ≡ b
-bit-back true = refl
-bit-back false = refl
 
 abbrev held : Stage → Bool → ℕ → ℕ → Dock
 held s awaited retries frames = record { stage = s; awaited = awaited; retries = retries; frames = frames }

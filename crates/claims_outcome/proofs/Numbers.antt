@@ -24,6 +24,8 @@ use Rattle.numbers.proofs.low4.Reads as low4
 use Rattle.numbers.proofs.low4.Kinds as low4-kinds
 use Rattle.numbers.proofs.low8.Reads as low8
 use Rattle.numbers.proofs.low8.Kinds as low8-kinds
+use Rattle.numbers.proofs.bit.Reads as bit
+use Rattle.numbers.proofs.bit.Kinds as bit-kinds
 
 pub two-once : Once two-kinds.ps two-kinds.r two.Post (λ κs r x. r)
 two-once κs a r s x y p q = p ∙ sym q
@@ -57,3 +59,6 @@ low4-once κs a r s x y p q = p ∙ sym q
 
 pub low8-once : Once low8-kinds.ps low8-kinds.r low8.Post (λ κs r x. r)
 low8-once κs a r s x y p q = p ∙ sym q
+
+pub bit-once : Once bit-kinds.ps bit-kinds.r bit.Post (λ κs r x. r)
+bit-once κs a r s x y p q = p ∙ sym q

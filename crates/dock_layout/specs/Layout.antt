@@ -1,5 +1,5 @@
 -- How a dock's state crosses the door as bytes: one layout of 23 bytes. Numbers cross as the crate `numbers` says.
-use mathlib.Core.Bool.{Bool, false, true}
+use mathlib.Core.Bool.{Bool}
 use mathlib.Core.List.{List, [], _++_, _∷_}
 use Prim.Native.Nat.{ℕ}
 use lib.Dec.{eqb, ltb}
@@ -18,7 +18,7 @@ use Rattle.dock_job.specs.declared.Stage.{Stage}
 use Rattle.dock_job.specs.declared.Stage.the-variants.{InBlock, Over, SetUp}
 use Rattle.dock_job.specs.declared.Work.{Work}
 use Rattle.dock_job.specs.declared.Work.the-variants.{Blank, Erase, Program, ProgramPage, VerifyBlock, VerifyPage}
-use Rattle.numbers.specs.Numbers.{lowFirst, numberAt}
+use Rattle.numbers.specs.Numbers.{bit, lowFirst, numberAt}
 use Rattle.lent.specs.Lent.{same}
 use Rattle.words.specs.Words.{if_then_else_}
 
@@ -70,10 +70,6 @@ isNamed Unnamed = 0
 unfoldable pub named : Named → ℕ
 named (It n) = n
 named Unnamed = 0
-
-abbrev pub bit : Bool → ℕ
-bit true = 1
-bit false = 0
 
 -- Byte 0 the stage, 1 whether its answer is awaited; retries and frames used (from 2 and 6 on, four bytes each); the block (10, and four bytes from 11 on)
 -- and the page (15, and four from 16 on); of a failure the cause (20), the command (21) and the status (22).

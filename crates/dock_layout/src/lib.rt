@@ -1,7 +1,7 @@
 // How a dock's state crosses the door as bytes: one layout, read and written here alone. A job's stands in `job`.
 ghost use mathlib.Core.Path.{_≡_};
 ghost use Rattle.lent.specs.Lent.{same};
-ghost use Rattle.dock_layout.specs.Layout.{bit, bytesWith, causeIn, causeNumber, dockBytes, dockIn, endingIn};
+ghost use Rattle.dock_layout.specs.Layout.{bytesWith, causeIn, causeNumber, dockBytes, dockIn, endingIn};
 ghost use Rattle.dock_layout.specs.Layout.{flatEnding, flatIn, flatOf, flatWork, isDock, isNamed, named, namedIn, plain, setupIn, setupNumber};
 ghost use Rattle.dock_layout.specs.Layout.{stageIn, workIn};
 use dock_job::Cause;
@@ -136,15 +136,6 @@ fn named(given: Named) -> u32
     }
 }
 
-fn bit(b: bool) -> u8
-    ensures { λ r. ⌜ r ≡ bit b ⌝ }
-{
-    if b {
-        return 1;
-    }
-    0
-}
-
 fn bytes_with(flat: Flat, awaited: u8, retries: u32, frames: u32) -> [u8; 23]
     ensures { λ r. ⌜ r ≡ bytesWith flat awaited retries frames ⌝ }
 {
@@ -185,7 +176,12 @@ fn dock_bytes(dock: Dock) -> [u8; 23]
     ensures { λ r. ⌜ r ≡ dockBytes dock ⌝ }
 {
     let stage = dock.stage;
-    bytes_with(flat_of(stage), bit(dock.awaited), dock.retries, dock.frames)
+    bytes_with(
+        flat_of(stage),
+        numbers::bit(dock.awaited),
+        dock.retries,
+        dock.frames,
+    )
 }
 
 fn named_in(given: u8, n: u32) -> Named

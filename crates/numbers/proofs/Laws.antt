@@ -1,13 +1,15 @@
 -- Laws about numbers in bytes: as the code adds them up, from a place on, past the end; how long they are; written and read back, and read and written back.
 -- Assumes nothing.
+use mathlib.Core.Bool.{Bool, false, true}
 use mathlib.Core.List.{List, [], _++_, _∷_, append-assoc}
 use mathlib.Core.Path.{_∙_, _≡_, ap, refl, sym}
 use Prim.Native.Nat.{_%_, _*_, _+_, _-_, _/_, _<_, _^_, _≤_, suc, zero, ℕ}
 use native.Mathlib.Numerals.{add-one}
 use native.Mathlib.Omega.{arith}
+use lib.Dec.{eqb}
 use lib.ListN.{List·getD-append, List·getD-eq-default, drop, getD, length, length-drop, take}
 use lib.Seq.{drop-append-seam, drop-cons, getD-drop, take-all}
-use Rattle.numbers.specs.Numbers.{lowFirst, numberAt}
+use Rattle.numbers.specs.Numbers.{bit, lowFirst, numberAt}
 
 -- Numbers of two, three, four and eight bytes, as the code adds them up.
 same-place : (bs : List ℕ) {i j : ℕ} → i ≡ j → getD bs i 0 ≡ getD bs j 0
@@ -154,3 +156,13 @@ low-number (suc k) at bs b h =
     let low : (getD bs at 0 + 256 * n) % 256 ≡ getD bs at 0 = omega arith in
     let high : (getD bs at 0 + 256 * n) / 256 ≡ n = omega arith in
     rw (low, high, low-number k (at + 1) bs b (omega arith), drop-cons bs at 0 (omega arith), add-one)
+
+-- Yes or no in one byte.
+pub bit-back : (b : Bool) → eqb (bit b) 1 ≡ b
+bit-back true = refl
+bit-back false = refl
+
+pub bit-is : (n : ℕ) → n ≤ 1 → bit (eqb n 1) ≡ n
+bit-is zero h = refl
+bit-is (suc zero) h = refl
+bit-is (suc (suc n)) h = absurd (omega arith)

@@ -1,4 +1,5 @@
 -- Numbers as bytes, low byte first, as the documents' numbers travel: written, and read.
+use mathlib.Core.Bool.{Bool, false, true}
 use mathlib.Core.List.{List, [], _∷_}
 use Prim.Native.Nat.{_%_, _*_, _+_, _/_, suc, zero, ℕ}
 use lib.ListN.{getD}
@@ -11,3 +12,8 @@ lowFirst (suc k) n = n % 256 ∷ lowFirst k (n / 256)
 unfoldable pub numberAt : ℕ → ℕ → List ℕ → ℕ
 numberAt zero at bs = 0
 numberAt (suc k) at bs = getD bs at 0 + 256 * numberAt k (at + 1) bs
+
+-- Yes or no as one byte.
+abbrev pub bit : Bool → ℕ
+bit true = 1
+bit false = 0

@@ -1,7 +1,7 @@
 // Numbers as bytes, low byte first, as the documents' numbers travel. They are read and written here alone.
 ghost use mathlib.Core.Path.{_≡_};
 ghost use Prim.Native.Nat.{_*_, _+_, _≤_};
-ghost use Rattle.numbers.specs.Numbers.{lowFirst, numberAt};
+ghost use Rattle.numbers.specs.Numbers.{bit, lowFirst, numberAt};
 
 fn wide(b: u8) -> u32
     ensures { λ r. ⌜ (r ≡ b) × (r ≤ 255) ⌝ }
@@ -173,4 +173,14 @@ pub fn low8(n: usize) -> [u8; 8]
         (n6 % 256) as u8,
         (n7 % 256) as u8,
     ]
+}
+
+// Yes or no as one byte.
+pub fn bit(b: bool) -> u8
+    ensures { λ r. ⌜ r ≡ bit b ⌝ }
+{
+    if b {
+        return 1;
+    }
+    0
 }

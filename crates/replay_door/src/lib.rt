@@ -23,7 +23,7 @@ fn end_number(ended: Ended) -> u32
 // The records of a call that is accepted.
 fn play(
     part: Part,
-    state: &mut [u8; 293],
+    state: &mut [u8; chip_layout::STATE_SIZE],
     capture: &[u8],
     code: &mut [u8],
     data: &mut [u8],
@@ -49,7 +49,7 @@ fn play(
 #[no_mangle]
 pub extern "C" fn zc_replay(
     part: &[u8; 19],
-    state: &mut [u8; 293],
+    state: &mut [u8; chip_layout::STATE_SIZE],
     capture: &[u8],
     code: &mut [u8],
     data: &mut [u8],
