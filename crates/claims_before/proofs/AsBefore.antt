@@ -12,6 +12,7 @@ use Rattle.claims_before.proofs.Step.{one-event}
 use Rattle.claims_before.specs.AsBefore.{AsBefore, OtherRunAsBefore, OthersAsBefore, RunAsBefore, RunsAsBefore, SameButSums}
 use Rattle.claims_before.specs.Asked.{SumOfOne, SumOver, sumOf}
 use Rattle.claims_before.specs.Before.{answersBefore, onwardBefore, runBefore}
+use Rattle.claims_before.specs.Rules.{answersUnder, runUnder}
 use Rattle.claims_good.proofs.Stays.{stays}
 use Rattle.claims_good.specs.Good.{AllProper, Stands, andEvent, noEvent}
 use Rattle.claims_runs.specs.Options.{Never, atEnd, notHere}
@@ -61,7 +62,7 @@ same-spoken : {o u : Outcome} → SameButSums o u → spokenIn o ≡ spokenIn u
 same-spoken e = rw (e .answer, e .room)
 
 runs : (p : Part) (vs : List Event) (o u : Outcome) → SameButSums o u → AllToldRight p o vs → Runs p vs o u
-unfolding answers answersBefore run runBefore ToldRight
+unfolding answers answersUnder run runUnder ToldRight
 runs p [] o u e lastOne = record { says = refl; after = e }
 runs p (v ∷ vs) o u e (rightHere h r) =
     let n = one-event p o u v e h in

@@ -12,8 +12,9 @@ use Rattle.chip_reply.specs.Reply.{framesOf, payloads, saidOf}
 use Rattle.chip_state.specs.Refusals.{goodBegun, goodCollected, goodCore, goodPhase, goodState, verdictOf}
 use Rattle.chip_sums.specs.Sums.{kept, rangeBytes, slot}
 use Rattle.chip_work.specs.Work.{checksum}
-use Rattle.claims_before.specs.Before.{answersBefore, byteInBefore, checksumBefore, commandDoesBefore, frameDoesBefore, reactToBefore, readingDoesBefore, stepBefore, workBefore}
+use Rattle.claims_before.specs.Before.{checksumBefore}
 use Rattle.claims_before.specs.Examples.{LowFirst, OneAsked, Ranges, codeOne, replyBefore, sumsBefore, sumsSaid}
+use Rattle.claims_before.specs.Rules.{answersUnder, byteInUnder, commandDoesUnder, frameDoesUnder, reactToUnder, readingDoesUnder, stepUnder, workUnder}
 use Rattle.claims_before.specs.Said.{saysSum}
 use Rattle.claims_frame.specs.Collecting.{collectsOn, take-up}
 use Rattle.claims_runs.specs.Taken.{takenAs, takenIn}
@@ -44,8 +45,8 @@ unfolding answers heardBack byteIn frameDoes heardByte reactTo settled stepOf al
 sums-said = refl
 
 pub sums-before : map (λ (x : Example). x .gives) sumsBefore ≡ map (λ (x : Example). x .printed) sumsBefore
-unfolding answersBefore heardBack byteInBefore frameDoesBefore heardByte reactToBefore settled stepBefore allowedIn commandDoesBefore readingDoesBefore
-    workBefore hearing sumOfBytes fixedBits freshOptions goodOptions lastBlock framesOf payloads saidOf goodBegun goodCollected goodCore goodPhase goodState
+unfolding answersUnder heardBack byteInUnder frameDoesUnder heardByte reactToUnder settled stepUnder allowedIn commandDoesUnder readingDoesUnder
+    workUnder hearing sumOfBytes fixedBits freshOptions goodOptions lastBlock framesOf payloads saidOf goodBegun goodCollected goodCore goodPhase goodState
     verdictOf rangeBytes checksumBefore sumsBefore replyBefore commandTable fitted readCommand readIn fresh hear heard holding complete counted framed full
     isFrame payload judgeOf summed less lessAll sumOf lowFirst numberAt blockOf blockSize described endsBlock liesIn rangeOf startsBlock stretch wholeBlocks
     firstOf _and_ _from_to_ _or_ if_then_else_

@@ -1,3 +1,4 @@
+pub mod Rules
 pub mod Before
 pub mod Asked
 pub mod AsBefore
