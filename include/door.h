@@ -15,7 +15,11 @@
  * A chip's state is ZC_STATE bytes, which the caller keeps and lends:
  *     0 flags   1 last boot block   2-3 window start   4-5 window end   6 rate   7 phase (ZC_PHASE_..)
  *     8 command that awaits data   9-16 next address   17-24 last address   25-32 count of collected bytes   33-292 collected bytes
- * In phases 1 to 3 the bytes 8 to 24 are 0. Collected bytes past the count are kept as they are, and nothing looks at them.
+ *     293 whether a page of this 13h has differed from flash (0 or 1)
+ * In phases 1 to 3 the bytes 8 to 24 and byte 293 are 0, and byte 293 is never over 1; bytes that have it otherwise are no state (9). 40h, 13h and A0h begin with
+ * byte 293 as 0. In phase 4 either value is accepted for each of the three, and only 13h looks at it: each good page but the last gets 06h 06h, also where it
+ * differs, and the last 06h 0Fh if any page differed, itself included (document 02, section 2).
+ * Collected bytes past the count are kept as they are, and nothing looks at them.
  * A dock's state is ZC_DOCK bytes. It does not hold the job: hand in the same part, job and image at every call.
  *     0 stage (ZC_STAGE_..)   1 whether the answer to that frame is awaited (0 or 1)   2-5 retries used   6-9 frames used
  *     10 whether a block is named (0 or 1)   11-14 the block, counted in the job from 0   15 whether a page is named (0 or 1)   16-19 the page
@@ -44,7 +48,7 @@
 #define ZC_PART 19
 #define ZC_NAMES 16
 #define ZC_JOB 11
-#define ZC_STATE 293
+#define ZC_STATE 294
 #define ZC_SUMS 72
 #define ZC_DATA_SUMS 64 /* the slot of data block 0 */
 #define ZC_DOCK 23

@@ -5,7 +5,7 @@
 pub const PART: usize = 19;
 pub const NAMES: usize = 16;
 pub const JOB: usize = 11;
-pub const STATE: usize = 293;
+pub const STATE: usize = 294;
 pub const SUMS: usize = 72;
 pub const DATA_SUMS: usize = 64;
 pub const DOCK: usize = 23;

@@ -103,17 +103,21 @@ pub fn described(part: &Part) -> door::Part {
     door::part(part.code_blocks, part.data_blocks, part.clock, &names)
 }
 
+/// The byte of a state that tells whether a difference was met (02 §2): 1 or 0 in phase 4, 0 in the others.
+pub const DIFFERED: usize = 293;
+
 /// The twin's chip in the door's layout.
 pub fn layout(chip: &Chip) -> [u8; STATE] {
-    let (phase, command, next, last) = match chip.phase {
-        Phase::ModeByte => (1, 0, 0, 0),
-        Phase::Setup => (2, 0, 0, 0),
-        Phase::Ready => (3, 0, 0, 0),
+    let (phase, command, next, last, differed) = match chip.phase {
+        Phase::ModeByte => (1, 0, 0, 0, false),
+        Phase::Setup => (2, 0, 0, 0, false),
+        Phase::Ready => (3, 0, 0, 0, false),
         Phase::Awaiting {
             command,
             next,
             last,
-        } => (4, command, next, last),
+            differed,
+        } => (4, command, next, last, differed),
     };
     let mut bytes = [0; STATE];
     bytes[0] = chip.options.flags;
@@ -124,6 +128,7 @@ pub fn layout(chip: &Chip) -> [u8; STATE] {
     bytes[9..17].copy_from_slice(&(next as u64).to_le_bytes());
     bytes[17..25].copy_from_slice(&(last as u64).to_le_bytes());
     bytes[25..33].copy_from_slice(&(chip.count as u64).to_le_bytes());
-    bytes[33..].copy_from_slice(&chip.collected);
+    bytes[33..DIFFERED].copy_from_slice(&chip.collected);
+    bytes[DIFFERED] = differed.into();
     bytes
 }

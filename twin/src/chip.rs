@@ -1,4 +1,5 @@
-//! The software chip: one step over a byte, a gap or power-on (01 "The part" to "Refusal numbers"), with a sum kept for each block (02 §1).
+//! The software chip: one step over a byte, a gap or power-on (01 "The part" to "Refusal numbers"), with a sum kept for each block (02 §1) and 13h's rule as
+//! 000 has it (02 §2).
 
 use crate::frame::{
     counted, Frame, Reply, COMMAND_HEADER, DATA_HEADER, LAST_FOOTER, LONGEST, MORE_FOOTER,
@@ -62,6 +63,8 @@ pub enum Phase {
         command: u8,
         next: usize,
         last: usize,
+        /// Whether a page of this 13h has differed (02 §2); 40h carries it on, and neither 40h nor A0h looks at it.
+        differed: bool,
     },
 }
 
@@ -175,7 +178,7 @@ fn collector_fits(chip: &Chip) -> bool {
 fn phase_fits(part: &Part, phase: Phase) -> bool {
     match phase {
         Phase::ModeByte | Phase::Setup | Phase::Ready => true,
-        // A0h uses no address, so none is barred.
+        // A0h uses no address, so none is barred; nor is a difference that is handed in, with any of the three.
         Phase::Awaiting {
             command: SECURITY_SET,
             ..
@@ -184,6 +187,7 @@ fn phase_fits(part: &Part, phase: Phase) -> bool {
             command: PROGRAM | VERIFY,
             next,
             last,
+            ..
         } => match (part.place(next), part.place(last)) {
             (Some(first), Some(end)) => {
                 first.area == end.area
@@ -336,11 +340,13 @@ fn hear(part: &Part, chip: &mut Chip, byte: u8, flash: &mut Flash, reply: &mut R
             command,
             next,
             last,
+            differed,
         } => {
             let pages = Pages {
                 command,
                 next,
                 last,
+                differed,
             };
             hear_page(part, chip, pages, &frame, flash, reply)
         }
@@ -385,6 +391,7 @@ struct Pages {
     command: u8,
     next: usize,
     last: usize,
+    differed: bool,
 }
 
 fn hear_command(part: &Part, chip: &mut Chip, frame: &Frame, flash: &mut Flash, reply: &mut Reply) {
@@ -460,6 +467,7 @@ fn read_command(part: &Part, body: &[u8]) -> Option<Command> {
                 command: body[0],
                 next,
                 last,
+                differed: false,
             };
             Some(Command::Pages(pages, range))
         }
@@ -561,6 +569,7 @@ fn work(part: &Part, chip: &mut Chip, command: Command, flash: &mut Flash, reply
                 command: SECURITY_SET,
                 next: 0,
                 last: 0,
+                differed: false,
             };
             reply.frame(&[ACK]);
         }
@@ -665,6 +674,7 @@ impl Pages {
             command: self.command,
             next: self.next,
             last: self.last,
+            differed: self.differed,
         }
     }
 
@@ -716,22 +726,11 @@ fn hear_page(
         first: here.offset,
         end: here.offset + part.page_size(),
     };
-    let second = if pages.command == PROGRAM {
-        store_page(flash.bytes_mut(range), frame.body())
+    chip.phase = if pages.command == PROGRAM {
+        store_page(part, pages, range, frame.body(), flash, reply)
     } else {
-        compare_page(flash.bytes(range), frame.body())
+        compare_page(part, pages, flash.bytes(range), frame.body(), reply)
     };
-    reply.frame(&[ACK, second]);
-    if second != ACK {
-        return;
-    }
-    chip.phase = pages.after_this(part);
-    if pages.command == PROGRAM {
-        flash.keep_sum(part, here.area, here.offset);
-        if pages.on_last(part) {
-            reply.frame(&[ACK]);
-        }
-    }
 }
 
 fn judge_page(part: &Part, pages: Pages, frame: &Frame) -> Result<(), u8> {
@@ -743,20 +742,40 @@ fn judge_page(part: &Part, pages: Pages, frame: &Frame) -> Result<(), u8> {
     }
 }
 
-/// Stored only where all was FFh; else nothing is (01 "Commands").
-fn store_page(flash: &mut [u8], page: &[u8]) -> u8 {
-    if !all_erased(flash) {
-        return NOT_WRITTEN;
+/// Stored only where all was FFh; else nothing is, and the command is over (01 "Commands"). Hands back the next phase.
+fn store_page(
+    part: &Part,
+    pages: Pages,
+    range: Range,
+    page: &[u8],
+    flash: &mut Flash,
+    reply: &mut Reply,
+) -> Phase {
+    let held = flash.bytes_mut(range);
+    if !all_erased(held) {
+        reply.frame(&[ACK, NOT_WRITTEN]);
+        return Phase::Ready;
     }
-    flash.copy_from_slice(page);
-    ACK
+    held.copy_from_slice(page);
+    flash.keep_sum(part, range.area, range.first);
+    reply.frame(&[ACK, ACK]);
+    if pages.on_last(part) {
+        reply.frame(&[ACK]);
+    }
+    pages.after_this(part)
 }
 
-/// 0Fh at once, not at the last page as in 000 3.5.3 (01 *ours*).
-fn compare_page(flash: &[u8], page: &[u8]) -> u8 {
-    if flash == page {
-        ACK
-    } else {
+/// A page that differs is remembered, and only the last page tells: 0Fh if any has differed, itself included (000 3.5.3, 02 §2). Hands back the next phase.
+fn compare_page(part: &Part, pages: Pages, held: &[u8], page: &[u8], reply: &mut Reply) -> Phase {
+    let so_far = Pages {
+        differed: pages.differed || held != page,
+        ..pages
+    };
+    let second = if so_far.differed && so_far.on_last(part) {
         UNEQUAL
-    }
+    } else {
+        ACK
+    };
+    reply.frame(&[ACK, second]);
+    so_far.after_this(part)
 }

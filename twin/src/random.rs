@@ -247,7 +247,8 @@ impl Script {
         self.pages_over(VERIFY, start, end);
     }
 
-    /// The command and its pages; sometimes too few or too many, sometimes one of wrong length or content.
+    /// The command and its pages; sometimes too few or too many, sometimes one of wrong length or content. A 13h goes on after a page that differs (02 §2), so
+    /// in some of them any page may.
     fn pages_over(&mut self, command: u8, start: usize, end: usize) {
         self.send(command_frame(&range_body(command, start, end)));
         let size = replay_part().page_size();
@@ -257,6 +258,10 @@ impl Script {
             1 => needed + 1,
             _ => needed,
         };
+        let differing = match command {
+            VERIFY => self.choice.pick(&[0, 0, 10, 40]),
+            _ => 0,
+        };
         for index in 0..sent {
             let expected = if index + 1 == needed {
                 LAST_FOOTER
@@ -264,7 +269,11 @@ impl Script {
                 MORE_FOOTER
             };
             let footer = self.footer(expected);
-            let page = self.page(start + index * size);
+            let mut page = self.page(start + index * size);
+            if self.choice.chance(differing) {
+                let at = self.choice.below(page.len());
+                page[at] ^= 1 << self.choice.below(8);
+            }
             self.send(data_frame(&page, footer));
         }
         // A bad page ends a command cut short, else all that follows would be skipped.

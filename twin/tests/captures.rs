@@ -197,6 +197,14 @@ fn ends_block(part: &Part, next: usize) -> bool {
         .is_some_and(|at| (at.offset + part.page_size()).is_multiple_of(part.block_size(at.area)))
 }
 
+/// The page of flash at this address.
+fn held(player: &Player, next: usize) -> &[u8] {
+    match next.checked_sub(0xF1000) {
+        Some(offset) => &player.data[offset..offset + 256],
+        None => &player.code[next..next + 256],
+    }
+}
+
 /// How far random captures get into the chip's work.
 #[derive(Default, Debug)]
 struct Reach {
@@ -208,6 +216,10 @@ struct Reach {
     written_data: u64,
     written_many: u64,
     verified: u64,
+    /// Pages of 13h, not the last, that differ and get 06h 06h (02 §2).
+    differed: u64,
+    /// Last pages of 13h that are equal and tell of an earlier one.
+    told_late: u64,
     bad_pages: u64,
     rates: u64,
     gaps_inside: u64,
@@ -248,17 +260,22 @@ impl Reach {
                 self.written_many += 1;
             }
             Phase::Awaiting {
-                command: 0x13,
-                next,
-                last,
-            } if first[2..4] == [6, 6] && next + 255 == last => {
-                self.verified += 1;
-            }
-            Phase::Awaiting {
                 command: 0x40 | 0x13,
                 ..
             } if first[2] != 0x06 => {
                 self.bad_pages += 1;
+            }
+            Phase::Awaiting {
+                command: 0x13,
+                next,
+                last,
+                ..
+            } => {
+                let equal = held(after, next) == &is.collected[2..258];
+                let on_last = next + 255 == last;
+                self.verified += u64::from(on_last && first[3] == 0x06);
+                self.differed += u64::from(!on_last && !equal && first[3] == 0x06);
+                self.told_late += u64::from(on_last && equal && first[3] == 0x0F);
             }
             Phase::Setup | Phase::Ready if first[2] == 0x06 => {
                 *self.commands.entry(was.collected[2]).or_default() += 1;
@@ -304,6 +321,8 @@ fn random_captures_reach_every_command() {
         reach.written_data,
         reach.written_many,
         reach.verified,
+        reach.differed,
+        reach.told_late,
         reach.bad_pages,
         reach.rates,
         reach.gaps_inside,

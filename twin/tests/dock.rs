@@ -1266,3 +1266,37 @@ fn a_spoiled_page_costs_one_retry() {
         assert!(desk.state.frames <= desk.job.bound(2));
     }
 }
+
+/// Two bytes of a page changed on the way, so that its SUM still fits: the last page of the block tells, and no retry is spent (02 §2).
+#[test]
+fn a_difference_fails_the_job_on_the_last_page_of_its_block() {
+    let job = small_job();
+    // 32h, 22h, 40h and its pages, 13h and its pages, for each of the two blocks.
+    for (block, spoiled) in [3, 4, 5, 6, 8, 9, 10, 11]
+        .into_iter()
+        .flat_map(|number| [(0, 3 + number), (1, 3 + 12 + number)])
+    {
+        let mut bench = chip_for(&job.part);
+        bench.code.fill(0x33);
+        let mut desk = Desk::new(job.clone());
+        let mut number = 0;
+        loop {
+            let mut sent = desk.ask();
+            if number == spoiled {
+                assert_eq!(sent.len(), 260);
+                sent[100] = sent[100].wrapping_add(1);
+                sent[101] = sent[101].wrapping_sub(1);
+            }
+            number += 1;
+            bench.gap();
+            if desk.hear(&Some(bench.say(&sent).concat())) != Report::GoesOn {
+                break;
+            }
+        }
+        let told = named(Stage::VerifyPage { block, page: 3 }, Cause::Status, 0x0F);
+        assert_eq!(desk.failure(), told, "frame {spoiled}");
+        assert_eq!(desk.state.retries, 0);
+        assert_eq!(desk.state.frames, 3 + 12 * (block + 1));
+        assert_eq!(bench.chip.phase, Phase::Ready);
+    }
+}

@@ -96,11 +96,7 @@ fn collecting(phase: Phase, bytes: &[u8], count: usize) -> Bench {
     })
 }
 
-const DATA: Phase = Phase::Awaiting {
-    command: 0x40,
-    next: 0,
-    last: 0x3FF,
-};
+const DATA: Phase = awaiting(0x40, 0, 0x3FF, false);
 
 #[test]
 fn collector_states() {
@@ -183,8 +179,9 @@ fn rates_and_options() {
 
 #[test]
 fn phase_4_states() {
-    for command in 0..=255u8 {
-        let bench = Bench::awaiting(command, 0, 0x3FF);
+    // A difference that is handed in bars none of the three, at the range's first page neither (02 §2).
+    for (command, differed) in (0..=255u8).flat_map(|com| [(com, false), (com, true)]) {
+        let bench = changed(|bench| bench.chip.phase = awaiting(command, 0, 0x3FF, differed));
         if [0x40, 0x13, 0xA0].contains(&command) {
             accepted(&bench);
         } else {
@@ -230,11 +227,7 @@ fn phase_4_states() {
     }));
     // The same range is outside a part without data flash.
     let mut bench = Bench::ready_with(part_of(16, 0, 32));
-    bench.chip.phase = Phase::Awaiting {
-        command: 0x40,
-        next: 0xF1000,
-        last: 0xF13FF,
-    };
+    bench.chip.phase = awaiting(0x40, 0xF1000, 0xF13FF, false);
     refused(&bench, 32, 9);
 }
 

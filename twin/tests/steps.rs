@@ -407,20 +407,6 @@ fn page_over_written_flash() {
 }
 
 #[test]
-fn verify_ends_at_the_first_difference() {
-    for (next, footer) in [(0x400, 0x17), (0x700, 0x03)] {
-        let mut bench = Bench::awaiting(0x13, next, 0x7FF);
-        bench.code[next..next + 256].copy_from_slice(&mixed(9));
-        let mut other = mixed(9);
-        other[255] ^= 0x80;
-        let before = bench.clone();
-        assert_eq!(bench.say(&page(&other, footer)), pair(0x06, 0x0F));
-        assert_eq!(bench.code, before.code);
-        assert_eq!(bench.chip.phase, Phase::Ready);
-    }
-}
-
-#[test]
 fn page_in_a_protected_state_is_stored() {
     // protection is judged with the command frame only.
     let mut bench = Bench::awaiting(0x40, 0, 0x3FF);
@@ -434,12 +420,7 @@ fn commands_are_not_seen_while_data_is_awaited() {
     let mut bench = Bench::awaiting(0x40, 0x100, 0x3FF);
     assert!(bench.say_command("A1").is_empty());
     bench.gap();
-    let expected = Phase::Awaiting {
-        command: 0x40,
-        next: 0x100,
-        last: 0x3FF,
-    };
-    assert_eq!(bench.chip.phase, expected);
+    assert_eq!(bench.chip.phase, awaiting(0x40, 0x100, 0x3FF, false));
     assert_eq!(bench.say(&page(&mixed(2), 0x17)), pair(0x06, 0x06));
     assert_eq!(bench.code[0x100..0x200], mixed(2)[..]);
 }
@@ -458,11 +439,10 @@ fn gap_and_power_on() {
     let phases = [
         Phase::Setup,
         Phase::Ready,
-        Phase::Awaiting {
-            command: 0xA0,
-            next: 3,
-            last: 9,
-        },
+        awaiting(0xA0, 3, 9, false),
+        awaiting(0xA0, 3, 9, true),
+        awaiting(0x13, 0x100, 0x3FF, true),
+        awaiting(0x40, 0x100, 0x3FF, true),
     ];
     for phase in phases {
         let mut bench = Bench::ready();

@@ -230,11 +230,7 @@ fn pages_over_more_blocks() {
 /// "only the sums of blocks that the event touched may change": none here, and all of them are wrong.
 #[test]
 fn nothing_else_writes_a_sum() {
-    let block_0 = |command: u8| Phase::Awaiting {
-        command,
-        next: 0x000,
-        last: 0x3FF,
-    };
+    let block_0 = |command: u8| awaiting(command, 0x000, 0x3FF, false);
     let mut cases: Vec<(Phase, u8, Vec<u8>, Vec<Vec<u8>>)> = Vec::new();
     let mut command_case = |flags: u8, body: &str, answer: u8| {
         cases.push((Phase::Ready, flags, command(body), status(answer)));
@@ -270,7 +266,7 @@ fn nothing_else_writes_a_sum() {
         (0x40, page(&mixed(1)[..255], 0x17), pair(0x15, 0x15)),
         (0x40, hex("02 01 00 FE 17"), pair(0x07, 0x07)),
         (0x13, page(&mixed(1), 0x17), pair(0x06, 0x06)),
-        (0x13, page(&mixed(2), 0x17), pair(0x06, 0x0F)),
+        (0x13, page(&mixed(2), 0x17), pair(0x06, 0x06)),
         (0x13, page(&mixed(1), 0x03), pair(0x15, 0x15)),
         (
             0xA0,
@@ -284,6 +280,11 @@ fn nothing_else_writes_a_sum() {
         ),
     ] {
         cases.push((block_0(com), 0xFF, bytes, answer));
+    }
+    // The last page of 13h, with 0Fh for itself or for an earlier one.
+    for (held, differed) in [(mixed(1), false), (vec![0xFF; 256], true)] {
+        let last = awaiting(0x13, 0x300, 0x3FF, differed);
+        cases.push((last, 0xFF, page(&held, 0x03), pair(0x06, 0x0F)));
     }
     cases.push((
         Phase::Setup,

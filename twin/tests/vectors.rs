@@ -285,8 +285,11 @@ fn block_0_with_a_ramp() {
         bench.say_hex("01 07 13 00 00 00 FF 03 00 E4 03"),
         status(0x06)
     );
-    assert_eq!(bench.say(&ramp_frame), pair(0x06, 0x06));
-    assert_eq!(bench.say(&ramp_frame), pair(0x06, 0x0F));
+    // Page 0 is equal and the others are blank: the last page tells (02 §2).
+    for _ in 0..3 {
+        assert_eq!(bench.say(&ramp_frame), pair(0x06, 0x06));
+    }
+    assert_eq!(bench.say(&page(&ramp(), 0x03)), pair(0x06, 0x0F));
     assert_eq!(bench.chip.phase, Phase::Ready);
 }
 

@@ -1,4 +1,5 @@
 -- What a complete frame does: its reply, the chip's record after it, flash and the kept sums. No room, collector or array is in it.
+use mathlib.Core.Bool.{false}
 use mathlib.Core.List.{List}
 use Prim.Native.Nat.{ℕ}
 use Rattle.chip_core.specs.declared.Core.{Core}
@@ -54,8 +55,9 @@ effect d m = record { reply = d .reply; core = d .core; memory = m }
 abbrev pub entered : Core → Phase → Core
 entered k f = record { options = k .options; rate = k .rate; phase = f }
 
+-- A command that awaits data begins without a difference.
 abbrev pub awaiting : ℕ → ℕ → ℕ → Core → Core
-awaiting cmd next last k = entered k (Awaiting (record { command = cmd; next = next; last = last }))
+awaiting cmd next last k = entered k (Awaiting (record { command = cmd; next = next; last = last; differed = false }))
 
 abbrev pub acknowledge : ℕ
 acknowledge = 0x06

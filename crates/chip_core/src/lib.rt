@@ -5,11 +5,12 @@ ghost use Rattle.chip_core.specs.Hearing.{hearing};
 use chip_options::Options;
 use chip_reply::Reply;
 
-// What phase 4 carries. Next and last address are 0 from A0h.
+// What phase 4 carries. Next and last address are 0 from A0h. Whether a page of 13h has differed is remembered for the last page's status: document 02, §2.
 pub struct Awaited {
     pub command: u8,
     pub next: usize,
     pub last: usize,
+    pub differed: bool,
 }
 
 // The phases of the document, 1 to 4.
@@ -87,6 +88,7 @@ pub fn awaiting(core: Core, command: u8, next: usize, last: usize) -> Core
             command,
             next,
             last,
+            differed: false,
         }),
     }
 }

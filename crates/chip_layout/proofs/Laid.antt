@@ -1,4 +1,4 @@
--- Laws about what is written where a state lies: whatever is collected, the first 25 bytes of a state are written back the same, so a new count, or one byte more,
+-- Laws about what is written where a state lies: whatever is collected, the first 25 bytes of a state and its last are written back the same, so a new count, or one byte more,
 -- is all that a gap or a byte that is only added changes; and what an accepted or refused call may rely on.
 -- Assumes nothing.
 use mathlib.Core.Bool.{Bool, false, true}
@@ -6,9 +6,10 @@ use mathlib.Core.List.{List, [], _++_, _∷_, append-assoc}
 use mathlib.Core.Path.{_∙_, _≡_, ap, refl, sym}
 use Prim.Native.Nat.{_%_, _+_, _-_, _/_, _<_, _≤_, suc, zero, ℕ}
 use native.Mathlib.Omega.{arith}
+use lib.Dec.{eqb}
 use lib.ListN.{drop, getD, length, length-append, length-drop, replicate, set, take, take-append-drop}
-use lib.Seq.{drop-cons, drop-drop, getD-drop, getD-take, length-take-le, take-add, take-all}
-use borrow.Author.Tests.{le-ltb, leb-true, lt-ltb, ltb-true, ne-eqb}
+use lib.Seq.{drop-cons, drop-drop, drop-length, getD-drop, getD-take, length-take-le, set-append-left, take-add}
+use borrow.Author.Tests.{eqb-true, le-ltb, leb-true, lt-ltb, ltb-true, ne-eqb}
 use Rattle.chip_core.specs.declared.Awaited.{Awaited}
 use Rattle.chip_layout.specs.Admission.{chipAcceptance, chipAcceptanceBy, chipAdmission}
 use Rattle.chip_layout.specs.InPlace.{byteLaid, countLaid, isAdded}
@@ -26,8 +27,8 @@ use Rattle.frame.specs.declared.collector.Collector.{Collector}
 use Rattle.lent.proofs.Laws.{all-is, part-put}
 use Rattle.lent.specs.Lent.{Left, allAre, left, putOf}
 use Rattle.lent.specs.declared.Room.{Room}
-use Rattle.numbers.proofs.Laws.{low-2, low-long, low-number, number-4, number-8, number-below}
-use Rattle.numbers.specs.Numbers.{lowFirst, numberAt}
+use Rattle.numbers.proofs.Laws.{bit-is, low-2, low-long, low-number, number-4, number-8, number-below}
+use Rattle.numbers.specs.Numbers.{bit, lowFirst, numberAt}
 use Rattle.part.specs.declared.Part.{Part}
 use Rattle.part.specs.declared.refusal.Refusal.{Refusal}
 use Rattle.part.specs.declared.refusal.Verdict.the-variants.{Accepted, Refused}
@@ -37,6 +38,9 @@ use Rattle.words.specs.Words.{_and_, _from_to_, _or_, if_then_else_}
 -- In phases 1 to 3 nothing is awaited, in bytes as in the record.
 abbrev NothingAwaited : List ℕ → Type 0
 NothingAwaited bs = allAre 0x00 (take 17 (drop 8 bs)) ≡ true
+
+no-difference : (n : ℕ) → n ≡ 0 → false ≡ eqb n 1
+no-difference n e = rw e
 
 zeros-at : (n i : ℕ) → _≡_ {A = ℕ} (getD (replicate n 0) i 0) 0
 zeros-at zero i = refl
@@ -60,12 +64,13 @@ zero-4 bs at e h k =
 zero-8 : (bs : List ℕ) (at : ℕ) → NothingAwaited bs → 8 ≤ at → at + 8 ≤ 25 → numberAt 8 at bs ≡ 0
 zero-8 bs at e h k = omega (arith, number-8 at bs, zero-4 bs at e h (omega arith), zero-4 bs (at + 4) e (omega arith) (omega arith))
 
-none-awaited : (bs : List ℕ) → NothingAwaited bs → nothingAwaited ≡ awaitedHeld bs
+none-awaited : (bs : List ℕ) → NothingAwaited bs → getD bs 293 0 ≡ 0 → nothingAwaited ≡ awaitedHeld bs
 unfolding awaitedHeld
-none-awaited bs e =
-    ap (λ (x : ℕ). record { command = x; next = 0; last = 0 }) (sym (zero-at bs 8 e (omega arith) (omega arith)))
-    ∙ ap (λ (x : ℕ). record { command = getD bs 8 0; next = x; last = 0 }) (sym (zero-8 bs 9 e (omega arith) (omega arith)))
-    ∙ ap (λ (x : ℕ). record { command = getD bs 8 0; next = numberAt 8 9 bs; last = x }) (sym (zero-8 bs 17 e (omega arith) (omega arith)))
+none-awaited bs e z =
+    ap (λ (x : ℕ). record { command = x; next = 0; last = 0; differed = false }) (sym (zero-at bs 8 e (omega arith) (omega arith)))
+    ∙ ap (λ (x : ℕ). record { command = getD bs 8 0; next = x; last = 0; differed = false }) (sym (zero-8 bs 9 e (omega arith) (omega arith)))
+    ∙ ap (λ (x : ℕ). record { command = getD bs 8 0; next = numberAt 8 9 bs; last = x; differed = false }) (sym (zero-8 bs 17 e (omega arith) (omega arith)))
+    ∙ ap (λ (b : Bool). record { command = getD bs 8 0; next = numberAt 8 9 bs; last = numberAt 8 17 bs; differed = b }) (no-difference (getD bs 293 0) z)
 
 -- A phase from 1 to 4 is written back, and so is what it awaits.
 phase-back : (n : ℕ) (w : Awaited) → 1 ≤ n → n ≤ 4 → phaseNumber (phaseIn n w) ≡ n
@@ -132,50 +137,73 @@ head-back bs q cmd each h e f =
     ∙ ap (λ (x : ℕ). take 6 bs ++ (getD bs 6 0 ∷ getD bs 7 0 ∷ x ∷ [])) f
     ∙ sym (take-add 6 3 bs ∙ ap (λ (l : List ℕ). take 6 bs ++ take 3 l) (three-at bs h))
 
-pieces : (bs : List ℕ) (w : Awaited) (q n : ℕ) (cs : List ℕ) → ((i : ℕ) → getD bs i 0 < 256) → length bs ≡ 293 → w ≡ awaitedHeld bs → q ≡ getD bs 7 0
-    → headOf (optionsIn bs) (getD bs 6 0) q (w .command) ++ lowFirst 8 (w .next) ++ lowFirst 8 (w .last) ++ lowFirst 8 n ++ cs ≡ take 25 bs ++ lowFirst 8 n ++ cs
+-- The last byte.
+last-back : (bs : List ℕ) (w : Awaited) → length bs ≡ stateSize → getD bs 293 0 ≤ 1 → w ≡ awaitedHeld bs → bit (w .differed) ∷ [] ≡ drop 293 bs
 unfolding awaitedHeld
-pieces bs w q n cs each h e f =
+last-back bs w h k e =
+    ap (λ (x : Awaited). bit (x .differed) ∷ []) e ∙ ap (λ (x : ℕ). x ∷ []) (bit-is (getD bs 293 0) k)
+    ∙ sym (drop-cons bs 293 0 (omega arith) ∙ ap (λ (l : List ℕ). getD bs 293 0 ∷ l) (ap (λ (n : ℕ). drop n bs) (sym h) ∙ drop-length bs))
+
+pieces : (bs : List ℕ) (w : Awaited) (q n : ℕ) (cs : List ℕ) → ((i : ℕ) → getD bs i 0 < 256) → length bs ≡ stateSize → getD bs 293 0 ≤ 1 → w ≡ awaitedHeld bs
+    → q ≡ getD bs 7 0
+    → headOf (optionsIn bs) (getD bs 6 0) q (w .command) ++ lowFirst 8 (w .next) ++ lowFirst 8 (w .last) ++ lowFirst 8 n ++ cs ++ bit (w .differed) ∷ []
+    ≡ take 25 bs ++ lowFirst 8 n ++ cs ++ drop 293 bs
+unfolding awaitedHeld
+pieces bs w q n cs each h g e f =
     let next : lowFirst 8 (w .next) ≡ take 8 (drop 9 bs) = ap (λ (x : Awaited). lowFirst 8 (x .next)) e ∙ low-number 8 9 bs each (omega arith) in
     let last : lowFirst 8 (w .last) ≡ take 8 (drop 17 bs) = ap (λ (x : Awaited). lowFirst 8 (x .last)) e ∙ low-number 8 17 bs each (omega arith) in
-    ap (λ (l : List ℕ). l ++ lowFirst 8 n ++ cs)
+    ap (λ (l : List ℕ). l ++ lowFirst 8 n ++ cs ++ bit (w .differed) ∷ [])
     (joined (head-back bs q (w .command) each (omega arith) f (ap (λ (x : Awaited). x .command) e)) next last ∙ three-taken 9 8 8 bs)
+    ∙ ap (λ (l : List ℕ). take 25 bs ++ lowFirst 8 n ++ cs ++ l) (last-back bs w h g e)
 
--- Whatever is collected, the first 25 bytes are written back the same.
+-- Whatever is collected, the first 25 bytes and the last are written back the same.
 pub laid-anew : (bs : List ℕ) (n : ℕ) (cs : List ℕ) → Below 256 bs → length bs ≡ stateSize → isState bs ≡ true
-    → chipBytes (record { core = coreIn bs; collector = collecting cs n }) ≡ take 25 bs ++ lowFirst 8 n ++ cs
+    → chipBytes (record { core = coreIn bs; collector = collecting cs n }) ≡ take 25 bs ++ lowFirst 8 n ++ cs ++ drop 293 bs
 unfolding isState chipBytes _from_to_ _or_
 laid-anew bs n cs b long e =
     let range = and-left _ _ e in
+    let back = and-right _ _ e in
     let low : 1 ≤ getD bs 7 0 = leb-true _ _ (and-left _ _ range) in
     let high : getD bs 7 0 ≤ 4 = leb-true _ _ (and-right _ _ range) in
-    let kind = and-right _ _ e in
-    let w : awaitedOf (phaseIn (getD bs 7 0) (awaitedHeld bs)) ≡ awaitedHeld bs = awaited-back (getD bs 7 0) (awaitedHeld bs) low high (λ x. none-awaited bs (or-else (ne-eqb _ _ x) kind)) in
-    pieces bs (awaitedOf (phaseIn (getD bs 7 0) (awaitedHeld bs))) (phaseNumber (phaseIn (getD bs 7 0) (awaitedHeld bs))) n cs (λ i. below-at i (omega arith) b) long w
+    let bound : getD bs 293 0 ≤ 1 = leb-true _ _ (and-left _ _ back) in
+    let kind = and-right _ _ back in
+    let w : awaitedOf (phaseIn (getD bs 7 0) (awaitedHeld bs)) ≡ awaitedHeld bs =
+    awaited-back (getD bs 7 0) (awaitedHeld bs) low high
+    (λ x. let none = or-else (ne-eqb _ _ x) kind in none-awaited bs (and-left _ _ none) (eqb-true _ _ (and-right _ _ none))) in
+    pieces bs (awaitedOf (phaseIn (getD bs 7 0) (awaitedHeld bs))) (phaseNumber (phaseIn (getD bs 7 0) (awaitedHeld bs))) n cs (λ i. below-at i (omega arith) b) long bound w
     (phase-back (getD bs 7 0) (awaitedHeld bs) low high)
   where
     or-else : {t u : Bool} → t ≡ false → t or u ≡ true → u ≡ true
     or-else {t} {u} f e = sym (ap (λ (x : Bool). x or u) f) ∙ e
 
--- What is collected, as it stands in the bytes.
-pub collected-is : (bs : List ℕ) → length bs ≡ stateSize → collectorIn bs ≡ collecting (drop 33 bs) (numberAt 8 25 bs)
+-- What is collected, as it stands in the bytes, and what stands from there on.
+abbrev heldBytes : List ℕ → List ℕ
+heldBytes bs = take 260 (drop 33 bs)
+
+collected-is : (bs : List ℕ) → collectorIn bs ≡ collecting (heldBytes bs) (numberAt 8 25 bs)
 unfolding collectorIn
-collected-is bs h =
-    ap {B = Collector} (λ (l : List ℕ). record { bytes = l; len = numberAt 8 25 bs }) (take-all 260 (drop 33 bs) (rw length-drop (omega arith)))
+collected-is bs = refl
+
+held-on : (bs : List ℕ) → heldBytes bs ++ drop 293 bs ≡ drop 33 bs
+held-on bs = ap (λ (l : List ℕ). heldBytes bs ++ l) (sym (drop-drop 260 33 bs)) ∙ take-append-drop 260 (drop 33 bs)
 
 pub collected-long : (bs : List ℕ) → length bs ≡ stateSize → length (collectorIn bs .bytes) ≡ 260
 unfolding collectorIn
 collected-long bs h = length-take-le 260 (drop 33 bs) (rw length-drop (omega arith))
 
 collector-laid : (bs : List ℕ) (c : Collector) (n : ℕ) (cs : List ℕ) → Below 256 bs → length bs ≡ stateSize → isState bs ≡ true → c ≡ collecting cs n
-    → take 25 bs ++ lowFirst 8 n ++ cs ≡ chipBytes (record { core = coreIn bs; collector = c })
-collector-laid bs c n cs b h e f = sym (ap (λ (x : Collector). chipBytes (record { core = coreIn bs; collector = x })) f ∙ laid-anew bs n cs b h e)
+    → take 25 bs ++ lowFirst 8 n ++ (cs ++ drop 293 bs) ≡ chipBytes (record { core = coreIn bs; collector = c })
+collector-laid bs c n cs b h e f =
+    sym (ap (λ (x : Collector). chipBytes (record { core = coreIn bs; collector = x })) f ∙ laid-anew bs n cs b h e
+    ∙ append-assoc (take 25 bs ++ lowFirst 8 n) cs (drop 293 bs))
 
 -- A gap: only the count is new.
 pub gap-laid : (bs : List ℕ) → Below 256 bs → length bs ≡ stateSize → isState bs ≡ true
     → countLaid 0 bs ≡ chipBytes (record { core = coreIn bs; collector = dropped (collectorIn bs) })
 unfolding countLaid
-gap-laid bs b h e = collector-laid bs (dropped (collectorIn bs)) 0 (drop 33 bs) b h e (ap dropped (collected-is bs h) ∙ dropped-leaves (collecting (drop 33 bs) (numberAt 8 25 bs)))
+gap-laid bs b h e =
+    ap (λ (l : List ℕ). take 25 bs ++ lowFirst 8 0 ++ l) (sym (held-on bs))
+    ∙ collector-laid bs (dropped (collectorIn bs)) 0 (heldBytes bs) b h e (ap dropped (collected-is bs) ∙ dropped-leaves (collecting (heldBytes bs) (numberAt 8 25 bs)))
 
 -- A byte that is only added: the count and that byte.
 set-after : (xs ys : List ℕ) (n i b : ℕ) → length xs ≡ n → set (xs ++ ys) (n + i) b ≡ xs ++ set ys i b
@@ -195,10 +223,12 @@ unfolding countLaid
 byte-laid bs b w h e k =
     let n : ℕ = numberAt 8 25 bs in
     let x : length (take 25 bs ++ lowFirst 8 (n + 1)) ≡ 33 = rw (length-append, length-take-le 25 bs (omega arith), low-long 8 (n + 1)) in
-    let l : length (drop 33 bs) ≡ 260 = rw length-drop (omega arith) in
-    byte-put b bs k ∙ set-after (take 25 bs ++ lowFirst 8 (n + 1)) (drop 33 bs) 33 n b x
-    ∙ collector-laid bs (added (collectorIn bs) (b ∷ [])) (n + 1) (set (drop 33 bs) n b) w h e
-    (ap (λ (c : Collector). added c (b ∷ [])) (collected-is bs h) ∙ added-leaves (collecting (drop 33 bs) n) b l k)
+    let l : length (heldBytes bs) ≡ 260 = length-take-le 260 (drop 33 bs) (rw length-drop (omega arith)) in
+    let s : set (drop 33 bs) n b ≡ set (heldBytes bs) n b ++ drop 293 bs =
+    ap (λ (y : List ℕ). set y n b) (sym (held-on bs)) ∙ set-append-left (heldBytes bs) (drop 293 bs) n b (omega arith) in
+    byte-put b bs k ∙ set-after (take 25 bs ++ lowFirst 8 (n + 1)) (drop 33 bs) 33 n b x ∙ ap (λ (y : List ℕ). take 25 bs ++ lowFirst 8 (n + 1) ++ y) s
+    ∙ collector-laid bs (added (collectorIn bs) (b ∷ [])) (n + 1) (set (heldBytes bs) n b) w h e
+    (ap (λ (c : Collector). added c (b ∷ [])) (collected-is bs) ∙ added-leaves (collecting (heldBytes bs) n) b l k)
 
 -- Where the next byte is only added, there is a place for it, and the frame begun lacks it.
 pub added-within : (bs : List ℕ) → Below 256 bs → isAdded bs ≡ true → numberAt 8 25 bs < 260

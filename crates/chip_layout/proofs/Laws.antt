@@ -1,4 +1,4 @@
--- Laws about the layout: the five pieces of a state; what an admitted call may rely on; what a verdict on it reads, and what the verdict's number says.
+-- Laws about the layout: the six pieces of a state; what an admitted call may rely on; what a verdict on it reads, and what the verdict's number says.
 -- Assumes nothing.
 use mathlib.Core.Bool.{not, true}
 use mathlib.Core.List.{List, [], _++_, _∷_}
@@ -6,7 +6,7 @@ use mathlib.Core.Path.{_∙_, _≡_, ap, refl, sym}
 use Prim.Native.Nat.{_+_, _<_, ℕ}
 use native.Mathlib.Omega.{arith}
 use lib.Dec.{eqb, ltb}
-use lib.ListN.{drop, getD, length, length-append, take}
+use lib.ListN.{drop, getD, length, length-append, set, take}
 use lib.Seq.{getD-drop, getD-take}
 use borrow.Author.Tests.{eqb-true, not-false}
 use Rattle.chip_state.proofs.Laws.{verdict-bare, verdict-left}
@@ -18,8 +18,8 @@ use Rattle.chip_layout.specs.Layout.{awaitedOf, chipIn, collectorIn, cor
 use Rattle.chip_core.specs.declared.Awaited.{Awaited}
 use Rattle.chip_core.specs.declared.Core.{Core}
 use Rattle.numbers.proofs.Laws.{low-long}
-use Rattle.numbers.specs.Numbers.{lowFirst, numberAt}
-use Rattle.lent.proofs.Laws.{Written, written-full, written-put, written-start}
+use Rattle.numbers.specs.Numbers.{bit, lowFirst, numberAt}
+use Rattle.lent.proofs.Laws.{Written, written-byte, written-full, written-put, written-start}
 use Rattle.lent.specs.Lent.{left, putOf}
 use Rattle.lent.specs.declared.Room.{Room}
 use Rattle.chip_options.proofs.Laws.{option-bytes}
@@ -39,12 +39,12 @@ unfolding headOf
 head-long o rate phase cmd = rw (option-bytes o)
 
 -- The pieces of a state, put one after the other, are the state.
-pub layout-is : (c : Chip) (w : Awaited) (q : ℕ) (first next last count r k l m n o : List ℕ) (a b d e f : Room) → left a k ≡ putOf r 0 first → left b l ≡ putOf k 9 next
+pub layout-is : (c : Chip) (w : Awaited) (q z : ℕ) (first next last count r k l m n o : List ℕ) (a b d e f : Room) → left a k ≡ putOf r 0 first → left b l ≡ putOf k 9 next
     → left d m ≡ putOf l 17 last → left e n ≡ putOf m 25 count → left f o ≡ putOf n 33 (c .collector .bytes) → w ≡ awaitedOf (c .core .phase)
     → q ≡ phaseNumber (c .core .phase) → first ≡ headOf (c .core .options) (c .core .rate) q (w .command) → next ≡ lowFirst 8 (w .next) → last ≡ lowFirst 8 (w .last)
-    → count ≡ lowFirst 8 (c .collector .len) → length r ≡ stateSize → length (c .collector .bytes) ≡ 260 → o ≡ chipBytes c
+    → count ≡ lowFirst 8 (c .collector .len) → z ≡ bit (w .differed) → length r ≡ stateSize → length (c .collector .bytes) ≡ 260 → set o 293 z ≡ chipBytes c
 unfolding chipBytes
-layout-is c w q first next last count r k l m n o a b d e f s t u v z A B g h i j x y =
+layout-is c w q z first next last count r k l m n o a b d e f s t u v y A B g h i j P x D =
     let G : length first ≡ 9 = ap length g ∙ head-long _ _ _ _ in
     let H : length next ≡ 8 = ap length h ∙ low-long 8 _ in
     let I : length last ≡ 8 = ap length i ∙ low-long 8 _ in
@@ -53,8 +53,9 @@ layout-is c w q first next last count r k l m n o a b d e f s t u v z A B g h i 
     let L : Written (first ++ next) r l = written-put 9 next K t (omega arith) (omega arith) in
     let M : Written (first ++ next ++ last) r m = written-put 17 last L u (simp length-append (omega arith)) (omega arith) in
     let N : Written (first ++ next ++ last ++ count) r n = written-put 25 count M v (simp length-append (omega arith)) (omega arith) in
-    let O : Written (first ++ next ++ last ++ count ++ c .collector .bytes) r o = written-put 33 (c .collector .bytes) N z (simp length-append (omega arith)) (omega arith) in
-    rw (← A, ← B, ← g, ← h, ← i, ← j) (written-full O (simp length-append (omega arith)))
+    let O : Written (first ++ next ++ last ++ count ++ c .collector .bytes) r o = written-put 33 (c .collector .bytes) N y (simp length-append (omega arith)) (omega arith) in
+    let S : Written (first ++ next ++ last ++ count ++ c .collector .bytes ++ z ∷ []) r (set o 293 z) = written-byte 293 z O (simp length-append (omega arith)) (omega arith) in
+    rw (← A, ← B, ← g, ← h, ← i, ← j, ← P) (written-full S (simp length-append (omega arith)))
 
 -- A call that is accepted has a state.
 admitted : (p : Part) (state : List ℕ) (code «data» : ℕ) → chipAdmission p state code «data» ≡ Accepted → isState state ≡ true

@@ -18,7 +18,7 @@ pub mod admission;
 pub mod in_place;
 
 // How many bytes a state has.
-pub const STATE_SIZE: usize = 293;
+pub const STATE_SIZE: usize = 294;
 
 // The bytes of a state are known to be there: they are read without a test for each.
 fn number4(bytes: &[u8], at: usize) -> u32
@@ -37,7 +37,7 @@ fn number8(bytes: &[u8], at: usize) -> usize
     (low as usize) + 4294967296 * (high as usize)
 }
 
-// Whether nothing is said to be awaited.
+// Whether neither command nor address is said to be awaited.
 fn is_nothing_awaited(state: &[u8]) -> bool
     requires { ⌜ length (now state) ≡ stateSize ⌝ }
     ensures { λ r. ⌜ r ≡ allAre 0x00 (take 17 (drop 8 (now (state .entry)))) ⌝ }
@@ -50,16 +50,23 @@ fn is_state(state: &[u8]) -> bool
     ensures { λ r. ⌜ r ≡ isState (now (state .entry)) ⌝ }
 {
     let n = state[7];
+    let differed = state[293];
     if n < 1 {
         return false;
     }
     if 4 < n {
         return false;
     }
+    if 1 < differed {
+        return false;
+    }
     if n == 4 {
         return true;
     }
-    is_nothing_awaited(state)
+    if is_nothing_awaited(state) {
+        return differed == 0;
+    }
+    false
 }
 
 fn phase_in(n: u8, w: Awaited) -> Phase
@@ -87,6 +94,7 @@ fn awaited_held(state: &[u8]) -> Awaited
         command: state[8],
         next,
         last,
+        differed: state[293] == 1,
     }
 }
 
@@ -140,6 +148,7 @@ fn nothing_awaited() -> Awaited
         command: 0x00,
         next: 0,
         last: 0,
+        differed: false,
     }
 }
 
@@ -186,11 +195,13 @@ fn lay(chip: Chip, state: &mut [u8])
     let last = numbers::low8(awaited.last);
     let count = numbers::low8(collector.len);
     let bytes = collector.bytes;
+    let differed = numbers::bit(awaited.differed);
     lent::put(state, 0, &first);
     lent::put(state, 9, &next);
     lent::put(state, 17, &last);
     lent::put(state, 25, &count);
     lent::put(state, 33, &bytes);
+    state[293] = differed;
 }
 
 // The chip's state into the lent bytes.

@@ -4,12 +4,12 @@ use mathlib.Core.List.{List, []}
 use Prim.Native.Nat.{_+_, ℕ}
 use lib.Dec.{eqb, ltb}
 use lib.ListN.{drop, getD, take}
-use Rattle.chip_core.specs.Effect.{Effect, Flash, Memory, awaiting, bytesIn, effect, entered, says, told, withBytes, withFlash}
+use Rattle.chip_core.specs.Effect.{Effect, Flash, Memory, bytesIn, effect, entered, says, told, withBytes, withFlash}
 use Rattle.chip_core.specs.Effect.{acknowledge, parameterError, protectError, verifyError, writeError}
 use Rattle.chip_core.specs.declared.Awaited.{Awaited}
 use Rattle.chip_core.specs.declared.Core.{Core}
 use Rattle.chip_core.specs.declared.Done.{Done}
-use Rattle.chip_core.specs.declared.Phase.the-variants.{Ready}
+use Rattle.chip_core.specs.declared.Phase.the-variants.{Awaiting, Ready}
 use Rattle.chip_flash.specs.Flash.{blank}
 use Rattle.chip_sums.specs.Sums.{resummed}
 use Rattle.frame.specs.Frame.{payload}
@@ -54,9 +54,12 @@ unfoldable pub pageStored : Place → List ℕ → Flash → Flash
 pageStored Outside ds m = m
 pageStored (In a offset block page) ds m = withBytes a m (putOf (bytesIn a m) offset ds .bytes)
 
--- After a page that went well the next one is awaited; "After the last page the chip is ready."
+-- After a page that went well the next one is awaited; "After the last page the chip is ready." What is remembered stays.
+abbrev pub pageAfter : Awaited → Awaited
+pageAfter w = record { command = w .command; next = w .next + pageSize; last = w .last; differed = w .differed }
+
 unfoldable pub nextPage : Awaited → Core → Core
-nextPage w k = if isLastPage w then ready k else awaiting (w .command) (w .next + pageSize) (w .last) k
+nextPage w k = if isLastPage w then ready k else entered k (Awaiting (pageAfter w))
 
 -- 40h: "the second is 06h and the page is stored if flash there was all FFh; else 1Ch, nothing stored, command over.
 -- After the last stored page a further status reply 06h follows."
@@ -69,11 +72,19 @@ programPage p k w at ds m =
     if not (blank (pageIn at (m .flash))) then effect (pair acknowledge writeError (ready k)) m
     else effect (told (storedReply w) (nextPage w k)) (resummed p at (withFlash m (pageStored at ds (m .flash))))
 
--- 13h: "the second is 06h if equal, else 0Fh and the command is over"
+-- 13h (document 02, §2): "The awaited-data record must remember whether a difference has occurred."
+unfoldable pub compared : Awaited → Bool → Awaited
+compared w equal = record { command = w .command; next = w .next; last = w .last; differed = not equal or w .differed }
+
+-- "every earlier good page gets 06h in its second status, and the last one gets 0Fh if any page differed"; 000, 3.5.3: an error on the way shows as ACK too, and
+-- "最終データのベリファイ結果にすべてのエラーが反映されます" (the last data's result reflects every error).
+unfoldable pub verifyStatus : Awaited → ℕ
+verifyStatus w = if isLastPage w and w .differed then verifyError else acknowledge
+
 unfoldable pub verifyPage : Core → Awaited → Place → List ℕ → Flash → Done
 verifyPage k w at ds m =
-    if not (same (pageIn at m) ds) then pair acknowledge verifyError (ready k)
-    else pair acknowledge acknowledge (nextPage w k)
+    let after = compared w (same (pageIn at m) ds) in
+    pair acknowledge (verifyStatus after) (nextPage after k)
 
 -- A0h's data, "those 8 bytes": the options and two reserved bytes.
 -- "05h if .. the reserved bytes are not FFh ..; then 10h if a 0 flag would become 1; else stored, 06h."

@@ -7,7 +7,8 @@ ghost use Rattle.chip_flash.specs.Flash.{blank};
 ghost use Rattle.chip_options.specs.Options.{goodOptions};
 ghost use Rattle.part.specs.Part.{placeOf};
 ghost use Rattle.chip_core.specs.Effect.{effect, flash, memory};
-ghost use Rattle.chip_pages.specs.Pages.{isLastPage, footerOf, lengthOf, pageIn, pageStored, nextPage, programPage, verifyPage};
+ghost use Rattle.chip_pages.specs.Pages.{isLastPage, footerOf, lengthOf, pageIn, pageStored, nextPage, programPage};
+ghost use Rattle.chip_pages.specs.Pages.{compared, verifyStatus, verifyPage};
 ghost use Rattle.chip_pages.specs.Pages.{securityData, badData, goodData, dataDoes};
 use chip_core::Awaited;
 use chip_core::Core;
@@ -61,6 +62,7 @@ fn next_page(w: Awaited, core: Core) -> Core
         command: w.command,
         next: w.next + part::page_size(),
         last: w.last,
+        differed: w.differed,
     }))
 }
 
@@ -143,6 +145,33 @@ fn program_page(
     }
 }
 
+// The record after a page of 13h was compared.
+fn compared(w: Awaited, equal: bool) -> Awaited
+    ensures { λ r. ⌜ r ≡ compared w equal ⌝ }
+{
+    if equal {
+        return w;
+    }
+    Awaited {
+        command: w.command,
+        next: w.next,
+        last: w.last,
+        differed: true,
+    }
+}
+
+fn verify_status(w: Awaited) -> u8
+    ensures { λ r. ⌜ r ≡ verifyStatus w ⌝ }
+{
+    if is_last_page(w) {
+        if w.differed {
+            return 0x0F;
+        }
+        return 0x06;
+    }
+    0x06
+}
+
 fn verify_page<'a>(
     part: Part,
     core: Core,
@@ -154,17 +183,13 @@ fn verify_page<'a>(
     ensures { λ r. ⌜ r ≡ verifyPage core w (placeOf part (w .next)) (now (bytes .entry)) (flash (now (code .entry)) (now («data» .entry))) ⌝ }
 {
     let place = part.place(w.next);
-    if lent::is_same(page_bytes(place, code, data), bytes) {
-        let after = next_page(w, core);
-        return Done {
-            reply: Reply::Pair(0x06, 0x06),
-            core: after,
-        };
-    }
-    let after = core.entered(Phase::Ready);
+    let equal = lent::is_same(page_bytes(place, code, data), bytes);
+    let after = compared(w, equal);
+    let status = verify_status(after);
+    let next = next_page(after, core);
     Done {
-        reply: Reply::Pair(0x06, 0x0F),
-        core: after,
+        reply: Reply::Pair(0x06, status),
+        core: next,
     }
 }
 

@@ -22,7 +22,7 @@ use Rattle.chip_core.specs.declared.Hearing.the-variants.{HearsCommands, HearsD
 use Rattle.chip_core.specs.declared.Phase.{Phase}
 use Rattle.chip_core.specs.declared.Phase.the-variants.{Awaiting, ModeByte, Ready, Setup}
 use Rattle.chip_flash.specs.Flash.{eraseOf, erased}
-use Rattle.chip_pages.specs.Pages.{badData, dataDoes, goodData, nextPage, pageStored, programPage, verifyPage}
+use Rattle.chip_pages.specs.Pages.{badData, compared, dataDoes, goodData, nextPage, pageStored, programPage, verifyPage}
 use Rattle.chip_reply.specs.declared.Reply.{Reply}
 use Rattle.chip_state.specs.Refusals.{goodAwaited, goodPhase, goodState}
 use Rattle.chip_state.proofs.Laws.{accepts}
@@ -157,15 +157,15 @@ module _ (j : Job) (k : Core) (m : Memory) (d : described (j .part) ≡ true) (n
   command-does f ok = if-all (Keeps j k m) _ (λ t. as-was _) (λ t. if-all (Keeps j k m) _ (λ u. as-was _) (λ u. reading-does f (ok (not-false _ t))))
 
   -- A data frame, while pages of the job are awaited.
+  goes-on : (w : Awaited) → w .command ≢ 0xA0 → j .start ≤ w .next → w .last ≤ j .end → Within j (nextPage w k .phase)
+  unfolding nextPage
+  goes-on w other low high = if-all (λ (c : Core). Within j (c .phase)) _ (λ t. atReady) (λ t. atPages _ other (omega arith) high)
+
+  same-options : (w : Awaited) → nextPage w k .options ≡ k .options
+  unfolding nextPage
+  same-options w = if-all (λ (c : Core). c .options ≡ k .options) _ (λ t. refl) (λ t. refl)
+
   module _ (w : Awaited) (awaited : goodAwaited p w ≡ true) (other : w .command ≢ 0xA0) (low : j .start ≤ w .next) (high : w .last ≤ j .end) where
-    goes-on : Within j (nextPage w k .phase)
-    unfolding nextPage
-    goes-on = if-all (λ (c : Core). Within j (c .phase)) _ (λ t. atReady) (λ t. atPages _ other (omega arith) high)
-
-    same-options : nextPage w k .options ≡ k .options
-    unfolding nextPage
-    same-options = if-all (λ (c : Core). c .options ≡ k .options) _ (λ t. refl) (λ t. refl)
-
     page-ends : w .next + 256 ≤ w .last + 1
     page-ends =
         let t = good-walk p w awaited (ne-eqb (w .command) 0xA0 other) in
@@ -179,14 +179,14 @@ module _ (j : Job) (k : Core) (m : Memory) (d : described (j .part) ≡ true) (n
     stored (In a offset block page) e ds l = put-outside j a (w .next) offset ds (m .flash) (place-lies p (w .next) a offset block page e .is) low (omega (arith, page-ends))
 
     data-does : (f : List ℕ) → Keeps j k m (dataDoes p k w f m)
-    unfolding dataDoes goodData badData programPage verifyPage
+    unfolding dataDoes goodData badData programPage verifyPage compared
     data-does f =
         if-all (Keeps j k m) _ (λ t. if-all (λ x. Keeps j k m (effect x m)) _ (λ u. moved _ _ refl atReady) (λ u. moved _ _ refl atReady))
         (λ t. if-all (Keeps j k m) _ (λ u. absurd (other (eqb-true _ _ u)))
         (λ u. if-all (Keeps j k m) _
         (λ v. if-all (Keeps j k m) _ (λ x. moved _ _ refl atReady)
-        (λ x. record { outside = rw (resummed-flash p) (stored _ refl (payload f) (page-long w f u (not-false _ t))); options = same-options; within = goes-on }))
-        (λ v. if-all (λ x. Keeps j k m (effect x m)) _ (λ x. moved _ _ refl atReady) (λ x. moved _ _ same-options goes-on))))
+        (λ x. record { outside = rw (resummed-flash p) (stored _ refl (payload f) (page-long w f u (not-false _ t))); options = same-options w; within = goes-on w other low high }))
+        (λ v. moved _ _ (same-options _) (goes-on _ other low high))))
 
   -- A frame in its phase.
   frame-does : (f : Phase) → k .phase ≡ f → goodPhase p f ≡ true → (g : List ℕ) → (AwaitsCommand f → goodFor aCommand g ≡ true → JobCommand j g)

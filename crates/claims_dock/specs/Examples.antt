@@ -121,6 +121,10 @@ blockWell =
     ∷ both 0x06 0x06
     ∷ []
 
+-- A blank block, up to 13h.
+abbrev pub toVerify : List Heard
+toVerify = say 0x06 ∷ say 0x06 ∷ both 0x06 0x06 ∷ both 0x06 0x06 ∷ both 0x06 0x06 ∷ third 0x06 ∷ say 0x06 ∷ []
+
 -- The most that two blocks and one retry can take: the last page of block 1 comes damaged the first time.
 unfoldable pub worst : List Heard
 worst = setupWell ++ blockWell ++ both 0x06 0x06 ∷ blockWell ++ both 0x06 0x07 ∷ blockWell ++ both 0x06 0x06 ∷ []
@@ -170,7 +174,9 @@ places =
     ∷ after (setupWell ++ say 0x06 ∷ say 0x06 ∷ both 0x06 0x06 ∷ both 0x06 0x06 ∷ both 0x06 0x06 ∷ both 0x06 0x06 ∷ []) (failedAt Unreadable 0x40 (It 3) 0x00 (It 0))
     -- a middle page with a third status is none of its frames
     ∷ after (setupWell ++ say 0x06 ∷ say 0x06 ∷ third 0x06 ∷ []) (failedAt Unreadable 0x40 (It 0) 0x00 (It 0))
-    -- 13h, in block 1
+    -- 13h: 0Fh on a middle page fails the job too, though a chip that follows document 02, §2 says it on the last alone
+    ∷ after (setupWell ++ toVerify ++ both 0x06 0x06 ∷ both 0x06 0x0F ∷ []) (failedAt UnexpectedStatus 0x13 (It 1) 0x0F (It 0))
+    -- the last page, in block 1
     ∷ after (setupWell ++ blockWell ++ both 0x06 0x06 ∷ blockWell ++ both 0x06 0x0F ∷ []) (failedAt UnexpectedStatus 0x13 (It 3) 0x0F (It 1))
     ∷ after (setupWell ++ blockWell ++ both 0x06 0x06 ∷ blockWell ++ both 0x06 0x06 ∷ []) (Over Finished)
     -- what comes after the end changes nothing

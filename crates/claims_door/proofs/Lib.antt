@@ -5,3 +5,4 @@ pub mod DockBack
 pub mod DockRefused
 pub mod DockEnded
 pub mod Described
+pub mod Laid

@@ -3,3 +3,4 @@ pub mod Kept
 pub mod Docked
 pub mod Ended
 pub mod Described
+pub mod Laid

@@ -8,7 +8,7 @@ use lib.Dec.{eqb, leb}
 use borrow.Author.Tests.{eq-eqb, eqb-true, le-leb, leb-true}
 use Rattle.chip_state.specs.Refusals.{goodAwaited, goodPlaces, sameArea}
 use Rattle.chip_pages.proofs.Laws.{not-last}
-use Rattle.chip_pages.specs.Pages.{isLastPage}
+use Rattle.chip_pages.specs.Pages.{isLastPage, pageAfter}
 use Rattle.chip_core.specs.declared.Awaited.{Awaited}
 use Rattle.part.proofs.Laws.{LiesIn, Spot, block-page, in-order, lies-place, place-lies, range-good, stretch-whole}
 use Rattle.part.specs.Part.{blockSize, described, first, pageSize, placeIn, placeOf, rangeOf}
@@ -95,9 +95,9 @@ good-walk p w g n =
     places-walk p w (placeOf p (w .next)) (placeOf p (w .last)) (and-left (paged w) _ r) (leb-true _ _ (and-left _ _ q)) refl refl
     (and-right (leb (w .next) (w .last)) _ q)
 
--- The pages that 40h and 13h await.
+-- The pages that 40h and 13h await, from the first on.
 abbrev pub pagesOf : ℕ → ℕ → ℕ → Awaited
-pagesOf cmd start end = record { command = cmd; next = start; last = end }
+pagesOf cmd start end = record { command = cmd; next = start; last = end; differed = false }
 
 pub range-awaited : (p : Part) (cmd start end : ℕ) (a : Area) (block count : ℕ) → described p ≡ true → paged (pagesOf cmd start end) ≡ true
     → rangeOf p start end ≡ Blocks a block count → goodAwaited p (pagesOf cmd start end) ≡ true
@@ -116,12 +116,12 @@ range-awaited p cmd start end a block count d c e =
 
 -- After a page that is not the last.
 pub next-awaited : (p : Part) (w : Awaited) → described p ≡ true → goodAwaited p w ≡ true → eqb (w .command) 0xA0 ≡ false → isLastPage w ≡ false
-    → goodAwaited p (pagesOf (w .command) (w .next + 256) (w .last)) ≡ true
+    → goodAwaited p (pageAfter w) ≡ true
 next-awaited p w d g n l =
     let s = good-walk p w g n in
     let k = s .walk in
     let m : w .next + 256 ≤ w .last = not-last w l in
-    walk-good p (pagesOf (w .command) (w .next + 256) (w .last)) (s .area) d (s .command)
+    walk-good p (pageAfter w) (s .area) d (s .command)
     (record {
       here = record { low = omega (arith, k .here .low); high = omega (arith, k .there .high) };
       there = k .there;

@@ -15,7 +15,7 @@ use Rattle.chip_commands.specs.Commands.{commandDoes, readingDoes, work}
 use Rattle.chip_core.specs.Effect.{Effect, Flash, Memory, bytesIn, effect, entered, withBytes, withFlash}
 use Rattle.chip_sums.proofs.Laws.{resummed-flash}
 use Rattle.chip_sums.specs.Sums.{resummed}
-use Rattle.chip_pages.specs.Pages.{badData, dataDoes, goodData, nextPage, pageStored, programPage, securityData, verifyPage}
+use Rattle.chip_pages.specs.Pages.{badData, compared, dataDoes, goodData, nextPage, pageIn, pageStored, programPage, securityData, verifyPage}
 use Rattle.commands.specs.declared.Command.{Command}
 use Rattle.commands.specs.declared.Command.the-variants.{BlankCheck, BlockErase, Checksum, Programming, RateSet, Reset, SecurityGet, SecurityRelease, SecuritySet, SignatureGet, Verify}
 use Rattle.commands.specs.declared.Reading.{Reading}
@@ -26,6 +26,7 @@ use Rattle.chip_core.specs.declared.Done.{Done}
 use Rattle.chip_core.specs.declared.Phase.the-variants.{Awaiting}
 use Rattle.chip_flash.proofs.Laws.{erase-of-long}
 use Rattle.lent.proofs.Laws.{put-long}
+use Rattle.lent.specs.Lent.{same}
 use Rattle.chip_options.proofs.Laws.{released-good}
 use Rattle.part.specs.Part.{blockSize, described, rangeOf}
 use Rattle.part.specs.Rate.{acceptsRate}
@@ -138,11 +139,11 @@ module _ (p : Part) (k : Core) (part : described p ≡ true) (good : GoodCore p 
   command-keeps f m = if-all (Keeps p m) _ (λ t. stays-so m good) (λ t. if-all (Keeps p m) _ (λ u. stays-so m good) (λ u. reading-keeps _ m))
 
   -- The pages and A0h's data.
-  module _ (w : Awaited) (awaited : goodAwaited p w ≡ true) where
-    goes-on : eqb (w .command) 0xA0 ≡ false → GoodCore p (nextPage w k)
-    unfolding nextPage
-    goes-on n = if-all (GoodCore p) _ (λ t. made-ready good) (λ t. awaits _ (next-awaited p w part awaited n t))
+  goes-on : (w : Awaited) → goodAwaited p w ≡ true → eqb (w .command) 0xA0 ≡ false → GoodCore p (nextPage w k)
+  unfolding nextPage
+  goes-on w g n = if-all (GoodCore p) _ (λ t. made-ready good) (λ t. awaits _ (next-awaited p w part g n t))
 
+  module _ (w : Awaited) (awaited : goodAwaited p w ≡ true) where
     put-page : (at : Place) (ds : List ℕ) (m : Memory) {d : Done} → GoodCore p (d .core) → Keeps p m (effect d (withFlash m (pageStored at ds (m .flash))))
     unfolding pageStored
     put-page Outside ds m g = record { good = g; code = refl; extra = refl }
@@ -150,11 +151,11 @@ module _ (p : Part) (k : Core) (part : described p ≡ true) (good : GoodCore p 
 
     programs : eqb (w .command) 0xA0 ≡ false → (at : Place) (ds : List ℕ) (m : Memory) → Keeps p m (programPage p k w at ds m)
     unfolding programPage
-    programs n at ds m = if-all (Keeps p m) _ (λ t. stays-so m (made-ready good)) (λ t. sum-keeps at (put-page at ds m (goes-on n)))
+    programs n at ds m = if-all (Keeps p m) _ (λ t. stays-so m (made-ready good)) (λ t. sum-keeps at (put-page at ds m (goes-on w awaited n)))
 
     compares : eqb (w .command) 0xA0 ≡ false → (at : Place) (ds : List ℕ) (m : Flash) → GoodDone p (verifyPage k w at ds m)
-    unfolding verifyPage
-    compares n at ds m = if-all (GoodDone p) _ (λ t. done-so (made-ready good)) (λ t. done-so (goes-on n))
+    unfolding verifyPage compared goodAwaited
+    compares n at ds m = done-so (goes-on (compared w (same (pageIn at m) ds)) awaited n)
 
     secures : (f : List ℕ) → GoodDone p (securityData p k f)
     unfolding securityData goodPhase

@@ -1,4 +1,5 @@
 -- Worked noise, on the part of document 01's examples: inputs that meet the premises of demand 3's claims, and one that does not.
+use mathlib.Core.Bool.{false}
 use mathlib.Core.List.{List, [], _++_, _∷_, map}
 use Prim.Native.Nat.{ℕ}
 use lib.ListN.{drop, replicate, set, take}
@@ -23,7 +24,7 @@ longNoise =
 
 -- The chip of the examples while 40h over the block at 0400h awaits its second page.
 abbrev pub secondPage : Awaited
-secondPage = record { command = 0x40; next = 0x0500; last = 0x07FF }
+secondPage = record { command = 0x40; next = 0x0500; last = 0x07FF; differed = false }
 
 abbrev pub writingChip : Outcome
 writingChip =

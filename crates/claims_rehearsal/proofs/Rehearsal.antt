@@ -15,7 +15,7 @@ use Rattle.chip_commands.specs.Commands.{allowedIn, commandDoes, readingDoes, w
 use Rattle.commands.specs.Commands.{comOf, commandTable, fitted, informationOf, payloadOf, readCommand, readIn}
 use Rattle.chip_work.specs.Work.{blankCheck, blockErase, checksum, erasedIn, forbidden, programming, rateSet, securityRelease, verify}
 use Rattle.chip_sums.specs.Sums.{allSummed, blockSum, flashVerdict, rangeBytes, resummed, slot, summedBy, summedTo, workedOut}
-use Rattle.chip_pages.specs.Pages.{badData, dataDoes, footerOf, goodData, isLastPage, lengthOf, nextPage, pageIn, pageStored, programPage, securityData, storedReply, verifyPage}
+use Rattle.chip_pages.specs.Pages.{badData, compared, dataDoes, footerOf, goodData, isLastPage, lengthOf, nextPage, pageIn, pageStored, programPage, securityData, storedReply, verifyPage, verifyStatus}
 use Rattle.chip_flash.specs.Flash.{blank, eraseOf, sumOfBytes}
 use Rattle.dock_flow.specs.Flow.{afterAnswer, afterHeard, afterSetup, afterStatus, afterWork, blockFrom, inBlock, next, retried, saysNotBlank, setupFrom}
 use Rattle.dock_flow.specs.Frames.{firstOfBlock, frameAt, handOf, handed, lastOfBlock, lastPage, pageFooter, queryWith, storedForm, workFrame}
@@ -48,7 +48,7 @@ old-sums = refl
 rehearsal : remainsOf rehearsed (replicate 2048 0x42 ++ rehearsalImage ++ replicate 4096 0x42) oldData ≡ remains (finishedAfter 27) (readyAt 0x03)
 unfolding byteIn frameDoes heardByte modeByte reactTo settled stepOf allowedIn commandDoes readingDoes work hearing blank eraseOf sumOfBytes fixedBits
     freshOptions goodOptions isFresh lastBlock optionBytes optionsIn raises released rises security badData dataDoes footerOf goodData isLastPage lengthOf
-    nextPage pageIn pageStored programPage securityData storedReply verifyPage framesOf payloads saidOf goodAwaited goodBegun goodCollected goodCore goodPhase
+    nextPage pageIn pageStored programPage securityData storedReply compared verifyStatus verifyPage framesOf payloads saidOf goodAwaited goodBegun goodCollected goodCore goodPhase
     goodPlaces goodState verdictOf blankCheck blockErase checksum erasedIn forbidden programming allSummed blockSum rangeBytes resummed slot summedTo rateSet securityRelease verify cable exchange
     speaks holds isSummed remainsOf mixed rehearsalImage rehearsed theChip comOf commandTable fitted informationOf payloadOf readCommand readIn askOf asked beginOf freshDock
     hearOf standing starting turning carriedBy deciding exactly matching rateMatches readAnswer readable shape signatureMatches statuses afterAnswer
@@ -79,7 +79,7 @@ rehearsal-sums = ap (λ (x : Remains). x .sums) rehearsal
 data-rehearsal : remainsOf rehearsedData oldCode theDataImage ≡ remains (finishedAfter 15) (readyAt 0x00)
 unfolding byteIn frameDoes heardByte modeByte reactTo settled stepOf allowedIn commandDoes readingDoes work hearing blank eraseOf sumOfBytes fixedBits
     freshOptions goodOptions isFresh lastBlock optionBytes optionsIn raises released rises security badData dataDoes footerOf goodData isLastPage lengthOf
-    nextPage pageIn pageStored programPage securityData storedReply verifyPage framesOf payloads saidOf goodAwaited goodBegun goodCollected goodCore goodPhase
+    nextPage pageIn pageStored programPage securityData storedReply compared verifyStatus verifyPage framesOf payloads saidOf goodAwaited goodBegun goodCollected goodCore goodPhase
     goodPlaces goodState verdictOf blankCheck blockErase checksum erasedIn forbidden programming allSummed blockSum rangeBytes resummed slot summedTo rateSet securityRelease verify cable exchange
     speaks holds isSummed remainsOf mixed rehearsedData theChip theDataImage comOf commandTable fitted informationOf payloadOf readCommand readIn askOf asked beginOf freshDock
     hearOf standing starting turning carriedBy deciding exactly matching rateMatches readAnswer readable shape signatureMatches statuses afterAnswer

@@ -26,7 +26,7 @@ use Rattle.replay_play.specs.Play.{answering, endedBy, eventsOf, goesOn, playBy
 use Rattle.chip_reply.specs.Reply.{framesOf, payloads, saidOf}
 use Rattle.words.specs.Words.{_and_, _from_to_, _or_, if_then_else_}
 use Rattle.chip_flash.specs.Flash.{blank, eraseOf, sumOfBytes}
-use Rattle.chip_pages.specs.Pages.{badData, dataDoes, footerOf, goodData, isLastPage, lengthOf, nextPage, pageIn, pageStored, programPage, securityData, storedReply, verifyPage}
+use Rattle.chip_pages.specs.Pages.{badData, compared, dataDoes, footerOf, goodData, isLastPage, lengthOf, nextPage, pageIn, pageStored, programPage, securityData, storedReply, verifyPage, verifyStatus}
 use Rattle.frame.specs.Framing.{frames, framing}
 use Rattle.part.specs.Signature.{signature}
 use Rattle.chip_core.specs.Hearing.{hearing}
@@ -41,7 +41,7 @@ record Computed : Type 0 where
 computed : Computed
 unfolding byteIn frameDoes freshChip heardByte modeByte reactTo settled stepOf allowedIn commandDoes readingDoes work hearing blank eraseOf sumOfBytes
     fixedBits freshOptions goodOptions isFresh lastBlock optionBytes optionsIn raises released rises security badData dataDoes footerOf goodData isLastPage
-    lengthOf nextPage pageIn pageStored programPage securityData storedReply verifyPage framesOf payloads saidOf goodAwaited goodBegun goodCollected goodCore
+    lengthOf nextPage pageIn pageStored programPage securityData storedReply compared verifyStatus verifyPage framesOf payloads saidOf goodAwaited goodBegun goodCollected goodCore
     goodPhase goodPlaces goodState verdictOf blankCheck blockErase checksum erasedIn forbidden programming rateSet securityRelease verify digitsIn
     lastLine linesIn printed commandTable fitted readCommand readIn fresh hear heard holding complete counted framed full isFrame payload frames framing
     fitting judgeOf summed less lessAll sumOf allAre putAt putOf same lowFirst numberAt blockOf blockSize described endsBlock lastOf liesIn pageOf placeIn

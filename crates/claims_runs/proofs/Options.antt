@@ -151,7 +151,7 @@ module _ (p : Part) (k : Core) (m : Memory) (f : List ℕ) where
       (λ t. if-all (Sets p k (Awaiting w) f) _ (λ u. secures w (eqb-true _ _ u))
       (λ u. if-all (Sets p k (Awaiting w) f) _
       (λ v. if-all (Sets p k (Awaiting w) f) _ (λ x. leaves-them refl) (λ x. leaves-them (goes-on w)))
-      (λ v. if-all (λ d. Sets p k (Awaiting w) f (effect d m)) _ (λ x. leaves-them refl) (λ x. leaves-them (goes-on w)))))
+      (λ v. leaves-them (goes-on _))))
 
   frame-does : (ph : Phase) → k .phase ≡ ph → Sets p k ph f (frameDoes (hearing ph) p k f m)
   unfolding frameDoes hearing

@@ -9,14 +9,14 @@ use lib.ListN.{length}
 use Rattle.chip.specs.Run.{onward}
 use Rattle.chip.specs.Step.{Reaction, frameDoes, reaction, silent}
 use Rattle.chip_commands.specs.Commands.{commandDoes, readingDoes, work}
-use Rattle.chip_core.specs.Effect.{Effect, Memory, effect, told}
+use Rattle.chip_core.specs.Effect.{Effect, acknowledge, Memory, effect, told}
 use Rattle.chip_core.specs.Hearing.{hearing}
 use Rattle.chip_core.specs.declared.Awaited.{Awaited}
 use Rattle.chip_core.specs.declared.Core.{Core}
 use Rattle.chip_core.specs.declared.Phase.{Phase}
 use Rattle.chip_core.specs.declared.Phase.the-variants.{Awaiting, ModeByte, Ready, Setup}
 use Rattle.chip_options.specs.declared.Options.{Options}
-use Rattle.chip_pages.specs.Pages.{badData, dataDoes, goodData, programPage, ready, securityData, storedReply, verifyPage}
+use Rattle.chip_pages.specs.Pages.{badData, dataDoes, goodData, isLastPage, nextPage, pair, programPage, ready, securityData, storedReply, verifyPage, verifyStatus}
 use Rattle.chip_reply.specs.Reply.{framesOf, payloads}
 use Rattle.chip_reply.specs.declared.Reply.{Reply}
 use Rattle.chip_reply.specs.declared.Reply.the-variants.{LastStored, Pair, Rate, Security, Signature, Silence, Status, Sum}
@@ -149,6 +149,14 @@ module _ (p : Part) (k : Core) (m : Memory) where
   unfolding storedReply denies _and_
   stored-allowed w = if-all (λ r. denies r ≡ false) _ (λ t. refl) (λ t. refl)
 
+  compares : (w : Awaited) → Same (ready k) m (effect (pair acknowledge (verifyStatus w) (nextPage w k)) m)
+  unfolding verifyStatus nextPage denies _and_ if_then_else_
+  compares w = go (isLastPage w) refl
+    where
+      go : (l : Bool) → isLastPage w ≡ l → Same (ready k) m (effect (pair acknowledge (verifyStatus w) (nextPage w k)) m)
+      go true e = rw e (stays (ready k) m _)
+      go false e = rw e (allows refl)
+
   data-does : (w : Awaited) (f : List ℕ) → Same (ready k) m (dataDoes p k w f m)
   unfolding dataDoes goodData badData securityData programPage verifyPage denies _and_
   data-does w f =
@@ -158,7 +166,7 @@ module _ (p : Part) (k : Core) (m : Memory) where
       (λ v. if-all (λ d. Same (ready k) m (effect d m)) _ (λ w. stays (ready k) m _) (λ w. allows refl)))
       (λ u. if-all (Same (ready k) m) _
       (λ v. if-all (Same (ready k) m) _ (λ x. stays (ready k) m _) (λ x. allows (stored-allowed w)))
-      (λ v. if-all (λ d. Same (ready k) m (effect d m)) _ (λ x. stays (ready k) m _) (λ x. allows refl))))
+      (λ v. compares _)))
 
   -- A frame in its phase.
   over : (f : Phase) (l : Core) (x : Effect) → l .options ≡ k .options → l .rate ≡ k .rate → l .phase ≡ phaseOver f → SameRecord l (x .core) m (x .memory)

@@ -205,7 +205,7 @@ module _ (p : Part) (L : Type 0) (f : List ℕ) (k : Core) (m : Memory) (s e : �
       (λ v. if-two (λ x y. Beside p L (effect x m) (effect y m)) _ (λ x. so _ _ m refl) (λ x. anew _ _ refl)))
       (λ u. if-two (Beside p L) _
       (λ v. if-two (Beside p L) _ (λ x. so _ _ m refl) (λ x. next-page w _ _ (stored-plain w)))
-      (λ v. if-two (λ x y. Beside p L (effect x m) (effect y m)) _ (λ x. so _ _ m refl) (λ x. next-page w _ m refl))))
+      (λ v. next-page _ _ m refl)))
 
 -- Both commands are allowed in phase 3 alone.
 record Opens (f : List ℕ) (k : Core) : Type 0 where

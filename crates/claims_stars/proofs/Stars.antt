@@ -22,7 +22,7 @@ use Rattle.part.specs.Part.{blockOf, blockSize, described, endsBlock, lastOf, l
 use Rattle.part.specs.Refusal.{firstOf}
 use Rattle.chip_reply.specs.Reply.{framesOf, payloads, saidOf}
 use Rattle.words.specs.Words.{_and_, _from_to_, _or_, if_then_else_}
-use Rattle.chip_pages.specs.Pages.{badData, dataDoes, footerOf, goodData, isLastPage, lengthOf, nextPage, pageIn, pageStored, programPage, securityData, storedReply, verifyPage}
+use Rattle.chip_pages.specs.Pages.{badData, compared, dataDoes, footerOf, goodData, isLastPage, lengthOf, nextPage, pageIn, pageStored, programPage, securityData, storedReply, verifyPage, verifyStatus}
 use Rattle.frame.specs.Framing.{frames, framing}
 use Rattle.part.specs.Rate.{acceptsRate, modeOf}
 use Rattle.part.specs.Signature.{signature}
@@ -31,7 +31,7 @@ use Rattle.chip_core.specs.Hearing.{hearing}
 pub stars : map (λ (x : Example). x .gives) table ≡ map (λ (x : Example). x .printed) table
 unfolding answers heardBack byteIn frameDoes heardByte modeByte reactTo settled stepOf allowedIn commandDoes readingDoes work hearing blank eraseOf sumOfBytes
     fixedBits freshOptions goodOptions isFresh lastBlock optionBytes optionsIn raises released rises security badData dataDoes footerOf goodData isLastPage
-    lengthOf nextPage pageIn pageStored programPage securityData storedReply verifyPage framesOf payloads saidOf goodAwaited goodBegun goodCollected goodCore
+    lengthOf nextPage pageIn pageStored programPage securityData storedReply compared verifyStatus verifyPage framesOf payloads saidOf goodAwaited goodBegun goodCollected goodCore
     goodPhase goodPlaces goodState verdictOf blankCheck blockErase checksum erasedIn forbidden programming rangeBytes rateSet securityRelease verify replyBy
     table commandTable fitted readCommand readIn fresh hear heard holding complete counted framed full isFrame payload frames framing fitting judgeOf summed
     less lessAll sumOf allAre putAt putOf same lowFirst numberAt blockOf blockSize described endsBlock lastOf liesIn pageOf placeIn placeOf rangeOf
@@ -41,7 +41,7 @@ stars = refl
 pub in-order : map (λ (x : Example). x .gives) order ≡ map (λ (x : Example). x .printed) order
 unfolding answers heardBack byteIn frameDoes heardByte modeByte reactTo settled stepOf allowedIn commandDoes readingDoes work hearing blank eraseOf sumOfBytes
     fixedBits goodOptions isFresh lastBlock optionBytes optionsIn raises released rises security badData dataDoes footerOf goodData isLastPage lengthOf
-    nextPage pageIn pageStored programPage securityData storedReply verifyPage framesOf payloads saidOf goodAwaited goodBegun goodCollected goodCore goodPhase
+    nextPage pageIn pageStored programPage securityData storedReply compared verifyStatus verifyPage framesOf payloads saidOf goodAwaited goodBegun goodCollected goodCore goodPhase
     goodPlaces goodState verdictOf blankCheck blockErase checksum erasedIn forbidden programming rangeBytes rateSet securityRelease verify order replyBy
     commandTable fitted readCommand readIn fresh hear heard holding complete counted framed full isFrame payload frames framing fitting judgeOf summed less
     lessAll sumOf allAre putAt putOf same lowFirst numberAt blockOf blockSize described endsBlock lastOf liesIn pageOf placeIn placeOf rangeOf startsBlock

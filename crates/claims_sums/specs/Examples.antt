@@ -1,4 +1,5 @@
 -- Worked sums, on the part of document 01's examples: a wrong sum stays until its block is touched.
+use mathlib.Core.Bool.{false}
 use mathlib.Core.List.{List, [], _∷_, map}
 use mathlib.Core.Path.{_≡_}
 use Prim.Native.Nat.{ℕ}
@@ -48,7 +49,7 @@ eraseThree = map Byte (0x01 ∷ 0x04 ∷ 0x22 ∷ 0x00 ∷ 0x0C ∷ 0x00 ∷ 0xC
 
 -- A page of AAh for 0900h, in block 2, while 40h over that block awaits it. Its sum is 0000h less 768 times FFh and 256 times AAh.
 abbrev pub pageInBlockTwo : Awaited
-pageInBlockTwo = record { command = 0x40; next = 0x0900; last = 0x0BFF }
+pageInBlockTwo = record { command = 0x40; next = 0x0900; last = 0x0BFF; differed = false }
 
 abbrev pub sumsWithPage : List ℕ
 sumsWithPage = dataDoes thePart (readyChip .chip .core) pageInBlockTwo (dataFrame (replicate 256 0xAA) More) (withSpoiled readyChip .memory) .memory .sums

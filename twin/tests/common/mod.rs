@@ -60,6 +60,16 @@ pub fn mixed(number: usize) -> Vec<u8> {
         .collect()
 }
 
+/// Phase 4, with or without a difference remembered.
+pub const fn awaiting(command: u8, next: usize, last: usize, differed: bool) -> Phase {
+    Phase::Awaiting {
+        command,
+        next,
+        last,
+        differed,
+    }
+}
+
 pub fn status(code: u8) -> Vec<Vec<u8>> {
     vec![frame(0x02, &[code], 0x03)]
 }
@@ -111,11 +121,7 @@ impl Bench {
 
     pub fn awaiting(command: u8, next: usize, last: usize) -> Bench {
         let mut bench = Bench::ready();
-        bench.chip.phase = Phase::Awaiting {
-            command,
-            next,
-            last,
-        };
+        bench.chip.phase = awaiting(command, next, last, false);
         bench
     }
 

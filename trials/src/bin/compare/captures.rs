@@ -1,7 +1,7 @@
 //! Random captures through zc_replay and through the twin: the same reply bytes, frames and end, the same room, state and flash after it (01 "Replay"), and after
-//! every call the same kept sums, which are wrong at the start of half of the captures (02 §1).
+//! every call the same kept sums, which are wrong at the start of half of the captures (02 §1). Some calls end within a 13h that has met a difference (02 §2).
 
-use trials::chip::{described, layout};
+use trials::chip::{described, layout, DIFFERED};
 use trials::door::{self, BAD_RECORD, OUTPUT, OUTPUT_FULL, ROOM, STATE, SUMS};
 use twin::chip::{step, Answer};
 use twin::random::{random_capture, Generator};
@@ -187,7 +187,12 @@ fn by_door(
                 left.bad = true;
                 return Ok(left);
             }
-            OUTPUT_FULL if played > 0 => coverage.count("captures, in pieces for want of output"),
+            OUTPUT_FULL if played > 0 => {
+                coverage.count("captures, in pieces for want of output");
+                if left.state[DIFFERED] == 1 {
+                    coverage.count("captures, in pieces after a difference");
+                }
+            }
             _ => return Err(format!("zc_replay told {told:?} after {played} records")),
         }
     }

@@ -1,8 +1,8 @@
 //! The chip: the twin, the proved chip by single events and the proved chip by stretches (zc_feed), given the same; after every event the answer, the whole
-//! room, the 293 bytes of state with the options among them, all code and data flash and the 72 kept sums are compared (01 "Frames" to "Refusal numbers",
-//! 02 §1).
+//! room, the 294 bytes of state with the options among them, all code and data flash and the 72 kept sums are compared (01 "Frames" to "Refusal numbers",
+//! 02 §1, §2).
 
-use trials::chip::{described, layout};
+use trials::chip::{described, layout, DIFFERED};
 use trials::door::{self, Told, OUTPUT, ROOM, STATE, UNTOLD};
 use twin::chip::{step, Answer, Chip, Event, Phase};
 use twin::frame::{counted, LONGEST};
@@ -14,6 +14,7 @@ use twin::sums::{Sums, SUMS};
 use crate::coverage::Coverage;
 use crate::script;
 use crate::sums;
+use crate::verify;
 
 /// What differs, as text, with the call that it came from.
 pub type Difference = String;
@@ -228,15 +229,15 @@ impl<'a> Trio<'a> {
                 hex_line(&before)
             ));
         }
-        let answer = &room_twin[..told.bytes as usize];
+        let said = statuses(&room_twin[..told.bytes as usize]);
         if told.frames > 0 {
-            self.count_answer(phase, &before, answer);
+            self.count_answer(phase, &before, &said);
         }
         if let Some(wrong) = wrong {
-            let said = statuses(answer);
             let Trio { part, coverage, .. } = self;
             sums::count(coverage, part, &wrong, event, phase, &before, &said);
         }
+        self.count_difference(event, phase, &before, &said);
         Ok((told, room_proved))
     }
 
@@ -252,17 +253,14 @@ impl<'a> Trio<'a> {
     }
 
     /// Which frame was answered, and what was said.
-    fn count_answer(&mut self, phase: Phase, before: &[u8; STATE], answer: &[u8]) {
-        let said = statuses(answer);
-        let said_text: Vec<String> = said.iter().map(|status| format!("{status:02X}h")).collect();
-        let said_text = said_text.join(" ");
+    fn count_answer(&mut self, phase: Phase, before: &[u8; STATE], said: &[u8]) {
         let name = match phase {
             Phase::Awaiting { command: 0xA0, .. } => "data of A0h".to_string(),
             Phase::Awaiting { command, .. } => format!("page of {command:02X}h"),
             _ if script::COMMANDS.contains(&before[35]) => format!("{:02X}h", before[35]),
             _ => "another COM".to_string(),
         };
-        self.coverage.count(&format!("{name}, {said_text}"));
+        self.coverage.count(&format!("{name}, {}", said_text(said)));
         for status in said {
             self.coverage.count(&format!("status, {status:02X}h"));
         }
@@ -295,6 +293,12 @@ fn phase_index(phase: Phase) -> usize {
         Phase::Awaiting { command: 0x13, .. } => 4,
         Phase::Awaiting { .. } => 5,
     }
+}
+
+/// The statuses of an answer, as a table has them.
+pub fn said_text(said: &[u8]) -> String {
+    let texts: Vec<String> = said.iter().map(|status| format!("{status:02X}h")).collect();
+    texts.join(" ")
 }
 
 fn text_of(event: Event) -> String {
@@ -362,9 +366,9 @@ fn first<T: PartialEq>(left: &[T], right: &[T]) -> usize {
 
 pub const ORDER: [u8; 5] = [1, 2, 3, 9, 4];
 
-/// How refusal 1 and refusal 9 are provoked; the last two of 9 are bytes that are no state, which the twin's types cannot hold.
+/// How refusal 1 and refusal 9 are provoked; the last four of 9 are bytes that are no state, which the twin's types cannot hold.
 pub const BAD_PARTS: [&str; 3] = ["code blocks", "data blocks", "clock"];
-pub const BAD_STATES: [&str; 16] = [
+pub const BAD_STATES: [&str; 18] = [
     "collected in phase 1",
     "another header",
     "as many as the frame needs",
@@ -381,8 +385,12 @@ pub const BAD_STATES: [&str; 16] = [
     "not both in one area",
     "phase byte",
     "awaited in phases 1 to 3",
+    "byte 293 over 1",
+    "byte 293 in phases 1 to 3",
 ];
 const NO_STATE: usize = 14;
+const OVER_1: usize = 16;
+const OUTSIDE_PHASE_4: usize = 17;
 
 /// Which call is refused.
 pub const CALLS: [&str; 5] = ["zc_byte", "zc_gap", "zc_power_on", "zc_feed", "zc_replay"];
@@ -406,24 +414,50 @@ impl Trio<'_> {
         choice: &mut Generator,
         faults: &[u8],
     ) -> Result<(), Difference> {
-        let has = |number: u8| faults.contains(&number);
-        let (part, bad_part, mut code, mut data) = self.lent(choice, faults);
         let mut chip = self.twin.state.clone();
         if choice.chance(30) {
             chip = script::good_chip(choice, &self.part);
         }
         let mut way = 0;
-        if has(9) {
+        if faults.contains(&9) {
             way = choice.below(BAD_STATES.len());
             spoil_chip(choice, &self.part, &mut chip, way);
         }
         let mut state = layout(&chip);
-        if has(9) && way >= NO_STATE {
+        if faults.contains(&9) && way >= NO_STATE {
             spoil_bytes(choice, &mut state, way);
         }
+        self.refused_as(choice, faults, &chip, state, way)
+    }
+
+    /// A call with these faults, and with the chip's bytes but for a number in byte 293 that is refused with 9.
+    pub fn refused_byte_293(
+        &mut self,
+        choice: &mut Generator,
+        faults: &[u8],
+        chip: &Chip,
+        held: u8,
+    ) -> Result<(), Difference> {
+        let way = if held > 1 { OVER_1 } else { OUTSIDE_PHASE_4 };
+        let mut state = layout(chip);
+        state[DIFFERED] = held;
+        self.refused_as(choice, &[faults, &[9]].concat(), chip, state, way)
+    }
+
+    /// A call with these faults on these bytes, which give cause for 9 by that way; where they are a state, it is the chip's.
+    fn refused_as(
+        &mut self,
+        choice: &mut Generator,
+        faults: &[u8],
+        chip: &Chip,
+        mut state: [u8; STATE],
+        way: usize,
+    ) -> Result<(), Difference> {
+        let (part, bad_part, mut code, mut data) = self.lent(choice, faults);
         let any = choice.below(32);
         let short = choice.pick(&[0, 31, any]);
-        let mut room = vec![self.fill; if has(4) { short } else { ROOM }];
+        let room = if faults.contains(&4) { short } else { ROOM };
+        let mut room = vec![self.fill; room];
 
         let event = match choice.below(4) {
             0 => Event::Gap,
@@ -437,7 +471,7 @@ impl Trio<'_> {
             choice.pick(&[&[][..], &[0; RECORD][..], &[2; RECORD][..], &[0; 3][..]]);
         let mut output = vec![self.fill; choice.pick(&[0, OUTPUT - 1, OUTPUT])];
         let many = choice.chance(50);
-        let expected = self.expected(&part, &chip, event, (&code, &data, &room), way, faults)?;
+        let expected = self.expected(&part, chip, event, (&code, &data, &room), way, faults)?;
 
         let described = described(&part);
         let mut sums = sums::spoiled(choice, &self.twin.sums);
@@ -519,6 +553,9 @@ impl Trio<'_> {
         if expected == 9 {
             self.coverage
                 .count(&format!("refusal 9 by, {}", BAD_STATES[way]));
+        }
+        if expected == 9 && way >= OVER_1 {
+            verify::count_refused(self.coverage, &kept.0, CALLS[call]);
         }
         Ok(())
     }
@@ -650,10 +687,12 @@ fn spoil_chip(choice: &mut Generator, part: &Part, chip: &mut Chip, way: usize) 
         part.block_size(Area::Code),
         part.page_size(),
     );
+    let differed = choice.chance(30);
     let awaiting = |command: u8, next: usize, last: usize| Phase::Awaiting {
         command,
         next,
         last,
+        differed,
     };
     let command = choice.pick(&[0x40, 0x13]);
     // A phase of this kind is good with an empty collector.
@@ -750,15 +789,26 @@ fn spoil_chip(choice: &mut Generator, part: &Part, chip: &mut Chip, way: usize) 
     }
 }
 
-/// Bytes that are no state.
+/// Bytes that are no state, by that way alone.
 fn spoil_bytes(choice: &mut Generator, state: &mut [u8; STATE], way: usize) {
     match way {
         NO_STATE => state[7] = choice.pick(&[0, 5, 6, 0x80, 0xFF]),
+        OVER_1 => state[DIFFERED] = choice.pick(&[2, 3, 0x80, 0xFF]),
+        OUTSIDE_PHASE_4 => {
+            in_no_phase_4(choice, state);
+            state[DIFFERED] = 1;
+        }
         _ => {
-            state[7] = choice.pick(&[1, 2, 3]);
-            state[8..25].fill(0);
+            in_no_phase_4(choice, state);
             let at = choice.between(8, 24);
             state[choice.pick(&[8, at, 24])] = choice.pick(&[0x01, 0x40, 0xFF]);
         }
     }
+}
+
+/// One of phases 1 to 3, with nothing awaited and nothing collected.
+fn in_no_phase_4(choice: &mut Generator, state: &mut [u8; STATE]) {
+    state[7] = choice.pick(&[1, 2, 3]);
+    state[8..33].fill(0);
+    state[DIFFERED] = 0;
 }

@@ -1,6 +1,6 @@
 //! Directed events: every COM with every fault of a frame in every phase, every pair of edge addresses, every page, one byte amiss in every place of a page,
-//! every flag byte and every window edge for A0h, protection by every flag byte that the chip accepts, every block's kept sum, and every set of faults of a
-//! refused call (01 "Frames", "Phases", "Commands", "Refusal numbers", 02 §1).
+//! every flag byte and every window edge for A0h, protection by every flag byte that the chip accepts, every block's kept sum, every set of faults of a refused
+//! call (01 "Frames", "Phases", "Commands", "Refusal numbers", 02 §1), and what 13h tells late (02 §2).
 
 use twin::chip::{
     Chip, Event, Phase, BLANK_CHECK, BLOCK_ERASE, CHECKSUM, ERASED, PROGRAM, SECURITY_RELEASE,
@@ -13,6 +13,7 @@ use twin::replay::replay_part;
 
 use crate::chip::{Difference, Trio, ORDER};
 use crate::coverage::Coverage;
+use crate::late;
 use crate::script;
 
 fn parts() -> [Part; 3] {
@@ -40,25 +41,31 @@ pub fn run(coverage: &mut Coverage) -> Result<(u64, u64), Difference> {
         protection(&mut trio)?;
         kept_sums(&mut trio, &mut choice)?;
         faults(&mut trio, &mut choice)?;
+        late::run(&mut trio, &mut choice)?;
         let (events, refused) = trio.finish();
         counts = (counts.0 + events, counts.1 + refused);
     }
     Ok(counts)
 }
 
-fn standing(trio: &Trio, phase: Phase) -> Chip {
+pub fn standing(trio: &Trio, phase: Phase) -> Chip {
     let mut chip = Chip::fresh(&trio.part).expect("a described part");
     chip.phase = phase;
     chip
 }
 
-fn phases(part: &Part) -> [Phase; 6] {
-    let (block, page) = (part.block_size(Area::Code), part.page_size());
-    let awaiting = |command: u8, next: usize, last: usize| Phase::Awaiting {
+/// Phase 4 with no difference met.
+fn awaiting(command: u8, next: usize, last: usize) -> Phase {
+    Phase::Awaiting {
         command,
         next,
         last,
-    };
+        differed: false,
+    }
+}
+
+pub fn phases(part: &Part) -> [Phase; 6] {
+    let (block, page) = (part.block_size(Area::Code), part.page_size());
     [
         Phase::ModeByte,
         Phase::Setup,
@@ -164,23 +171,12 @@ fn every_page(trio: &mut Trio, choice: &mut Generator) -> Result<(), Difference>
     for area in [Area::Code, Area::Data] {
         let end = part.end(area);
         for next in (part.start(area)..end).step_by(size) {
-            let footer = if next + size == end {
-                LAST_FOOTER
-            } else {
-                MORE_FOOTER
-            };
+            let footer = script::footer(&part, next, end - 1);
             let page: Vec<u8> = (0..size)
                 .map(|at| (at * 7 + next / size * 31) as u8)
                 .collect();
             for command in [PROGRAM, VERIFY, PROGRAM] {
-                trio.hand_in(standing(
-                    trio,
-                    Phase::Awaiting {
-                        command,
-                        next,
-                        last: end - 1,
-                    },
-                ));
+                trio.hand_in(standing(trio, awaiting(command, next, end - 1)));
                 trio.bytes(&data_frame(&page, footer), 32)?;
             }
         }
@@ -195,7 +191,7 @@ fn one_byte(trio: &mut Trio) -> Result<(), Difference> {
     let code = part.size(Area::Code);
     let blank = vec![ERASED; code + part.size(Area::Data)];
     let page: Vec<u8> = (0..size).map(|at| (at * 5 + 1) as u8).collect();
-    let next = 2 * size;
+    let (next, last) = (2 * size, part.block_size(Area::Code) - 1);
     for at in 0..size {
         for command in [PROGRAM, VERIFY] {
             let mut flash = blank.clone();
@@ -204,14 +200,7 @@ fn one_byte(trio: &mut Trio) -> Result<(), Difference> {
             }
             flash[next + at] ^= 0x80;
             trio.hand_in_flash(flash[..code].to_vec(), flash[code..].to_vec());
-            trio.hand_in(standing(
-                trio,
-                Phase::Awaiting {
-                    command,
-                    next,
-                    last: part.block_size(Area::Code) - 1,
-                },
-            ));
+            trio.hand_in(standing(trio, awaiting(command, next, last)));
             trio.bytes(&data_frame(&page, MORE_FOOTER), 32)?;
         }
     }
@@ -244,14 +233,9 @@ fn one_byte(trio: &mut Trio) -> Result<(), Difference> {
 
 /// A0h's data: every flag byte over every stored one, and every edge of the window.
 fn options(trio: &mut Trio) -> Result<(), Difference> {
-    let awaiting = Phase::Awaiting {
-        command: SECURITY_SET,
-        next: 0,
-        last: 0,
-    };
     let last = trio.part.code_blocks as u16 - 1;
     let send = |trio: &mut Trio, stored: u8, data: &[u8], footer: u8| {
-        let mut chip = standing(trio, awaiting);
+        let mut chip = standing(trio, awaiting(SECURITY_SET, 0, 0));
         chip.options.flags = stored;
         trio.hand_in(chip);
         trio.bytes(&data_frame(data, footer), 32)
@@ -353,12 +337,7 @@ fn kept_sums(trio: &mut Trio, choice: &mut Generator) -> Result<(), Difference> 
                     (Phase::Ready, command_frame(&body[..4]))
                 };
                 let paged = |command: u8, next: usize, footer: u8| {
-                    let phase = Phase::Awaiting {
-                        command,
-                        next,
-                        last: end,
-                    };
-                    (phase, data_frame(&page, footer))
+                    (awaiting(command, next, end), data_frame(&page, footer))
                 };
                 let last_page = end + 1 - size;
                 for (phase, frame) in [
@@ -393,16 +372,18 @@ fn kept_sums(trio: &mut Trio, choice: &mut Generator) -> Result<(), Difference> 
     Ok(())
 }
 
+/// The sets of these faults, from the empty one on.
+pub fn sets_of(faults: &[u8]) -> impl Iterator<Item = Vec<u8>> + '_ {
+    (0..1 << faults.len()).map(move |set: usize| {
+        let in_set = |(bit, _): &(usize, &u8)| set >> bit & 1 == 1;
+        let faults = faults.iter().enumerate().filter(in_set);
+        faults.map(|(_, number)| *number).collect()
+    })
+}
+
 /// Every set of the five faults, so that each refusal is met alone and before each that comes after it; zc_sums with every set of its three.
 fn faults(trio: &mut Trio, choice: &mut Generator) -> Result<(), Difference> {
-    for set in 1..1 << ORDER.len() {
-        let in_set = |(bit, _): &(usize, u8)| set >> bit & 1 == 1;
-        let faults: Vec<u8> = ORDER
-            .into_iter()
-            .enumerate()
-            .filter(in_set)
-            .map(|(_, number)| number)
-            .collect();
+    for faults in sets_of(&ORDER).skip(1) {
         let of_sums = faults.iter().all(|number| *number <= 3);
         for _ in 0..40 {
             trio.refused_with(choice, &faults)?;

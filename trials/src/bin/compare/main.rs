@@ -7,8 +7,10 @@ mod chip;
 mod coverage;
 mod directed;
 mod dock;
+mod late;
 mod script;
 mod sums;
+mod verify;
 
 use std::env;
 use std::process::ExitCode;
@@ -241,6 +243,7 @@ fn chip_tables(coverage: &Coverage) -> Vec<String> {
     refusals.push(row("refusal 9 by", &BAD_STATES));
     missing.extend(coverage.table("refusals of the chip", &refusals));
     missing.extend(sums::table(coverage));
+    missing.extend(verify::table(coverage));
     let numbers = |low: u32, high: u32| (low..=high).map(|number| number.to_string()).collect();
     let parts = [
         ("code blocks".to_string(), numbers(8, 64)),
@@ -252,7 +255,12 @@ fn chip_tables(coverage: &Coverage) -> Vec<String> {
         row("zc_feed", &["calls", "bytes"]),
         row(
             "captures",
-            &["whole", "bad record", "in pieces for want of output"],
+            &[
+                "whole",
+                "bad record",
+                "in pieces for want of output",
+                "in pieces after a difference",
+            ],
         ),
         row("captures by sums", &["right", "wrong"]),
     ];

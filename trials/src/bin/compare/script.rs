@@ -99,6 +99,7 @@ fn good_phase(choice: &mut Generator, part: &Part) -> Phase {
                 command: SECURITY_SET,
                 next,
                 last,
+                differed: choice.chance(30),
             }
         }
         _ => {
@@ -111,6 +112,7 @@ fn good_phase(choice: &mut Generator, part: &Part) -> Phase {
                 command: choice.pick(&[PROGRAM, VERIFY]),
                 next: start + page * size,
                 last,
+                differed: choice.chance(30),
             }
         }
     }
@@ -168,6 +170,7 @@ pub fn heard(
             command,
             next,
             last,
+            ..
         } => match choice.below(40) {
             0 => any_command(choice, part),
             _ => page(choice, part, command, next, last, code, data),
@@ -259,6 +262,24 @@ fn options_data(choice: &mut Generator, part: &Part, chip: &Chip) -> Vec<u8> {
     data_frame(&data, footer)
 }
 
+/// The page of flash at this address.
+pub fn held<'a>(part: &Part, next: usize, code: &'a [u8], data: &'a [u8]) -> &'a [u8] {
+    let size = part.page_size();
+    match next.checked_sub(part.start(Area::Data)) {
+        Some(offset) => &data[offset..offset + size],
+        None => &code[next..next + size],
+    }
+}
+
+/// The footer of the page at this address, in a range that ends there.
+pub fn footer(part: &Part, next: usize, last: usize) -> u8 {
+    if next + part.page_size() - 1 == last {
+        LAST_FOOTER
+    } else {
+        MORE_FOOTER
+    }
+}
+
 fn page(
     choice: &mut Generator,
     part: &Part,
@@ -269,10 +290,7 @@ fn page(
     data: &[u8],
 ) -> Vec<u8> {
     let size = part.page_size();
-    let held = match next.checked_sub(part.start(Area::Data)) {
-        Some(offset) => &data[offset..offset + size],
-        None => &code[next..next + size],
-    };
+    let held = held(part, next, code, data);
     let any = choice.byte();
     let mut page: Vec<u8> = match choice.below(10) {
         0 => vec![any; size],
@@ -288,11 +306,7 @@ fn page(
     if choice.chance(3) {
         page.truncate(choice.pick(&[1, 8, 255]));
     }
-    let expected = if next + size - 1 == last {
-        LAST_FOOTER
-    } else {
-        MORE_FOOTER
-    };
+    let expected = footer(part, next, last);
     let other = expected ^ LAST_FOOTER ^ MORE_FOOTER;
     let footer = if choice.chance(96) { expected } else { other };
     data_frame(&page, footer)
