@@ -2,4 +2,5 @@ pub mod Rules
 pub mod Step
 pub mod AsBefore
 pub mod Said
+pub mod Verify
 pub mod Examples

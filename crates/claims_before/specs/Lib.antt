@@ -3,4 +3,5 @@ pub mod Before
 pub mod Asked
 pub mod AsBefore
 pub mod Said
+pub mod Verify
 pub mod Examples
