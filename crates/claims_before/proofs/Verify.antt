@@ -24,8 +24,10 @@ use Rattle.chip_state.proofs.Laws.{accepts}
 use Rattle.chip_state.specs.Refusals.{goodPhase, goodState}
 use Rattle.claims_before.proofs.Rules.{PageTaken, equal-step, own-rules}
 use Rattle.claims_before.specs.Rules.{Rules, answersUnder, byteInUnder, dataDoesUnder, frameDoesUnder, goodDataUnder, onwardUnder, reactToUnder, rulesNow, runUnder, stepUnder}
-use Rattle.claims_before.specs.Verify.{AsBeforeVerify, PageCompared, RunAsBeforeVerify, SaysSecond, TellsEarly, TellsLate, early, late, rulesBeforeVerify, verifyPageBefore}
+use Rattle.claims_verify.specs.Compared.{PageCompared}
+use Rattle.claims_before.specs.Verify.{AsBeforeVerify, RunAsBeforeVerify, SaysSecond, TellsEarly, TellsLate, early, late, rulesBeforeVerify, verifyPageBefore}
 use Rattle.claims_fed.proofs.Frames.{no-frame}
+use Rattle.claims_fed.specs.Awaits.{goodFor}
 use Rattle.claims_frame.specs.Collecting.{collectsOn, take-up}
 use Rattle.claims_good.proofs.Awaited.{good-walk}
 use Rattle.claims_good.proofs.Core.{core-is}
@@ -68,7 +70,7 @@ is-13h p o w e ph n x =
     eqb-true _ _ (rw x at (good-walk p w (rw ph at g) n .command))
 
 pub as-before-verify : AsBeforeVerify
-unfolding stepOf stepUnder settled
+unfolding stepOf stepUnder settled goodFor
 as-before-verify p o v n = go (verdictIn p o) refl
   where
     k : Core
@@ -128,7 +130,7 @@ module _ (R : Rules) (p : Part) (k : Core) (hs : List ℕ) (m : Memory) (w : Awa
 says-second : {equal : Bool} (R : Rules) (p : Part) (o : Outcome) (v : Event) (w : Awaited) (s : ℕ) (f : Phase) → Stands p o → (q : PageCompared p o v w equal)
     → R .compares (o .chip .core) w (placeOf p (w .next)) (payload (q .frame)) (o .memory .flash) ≡ pair acknowledge s (entered (o .chip .core) f)
     → SaysSecond o (onwardUnder R p o v) s f
-unfolding stepUnder settled hearing saidOf payloads framesOf framed
+unfolding stepUnder settled hearing saidOf payloads framesOf framed goodFor
 says-second R p o v w s f st q e =
     let k : Core = o .chip .core in
     rw (st .accepted, frame-heard R p k _ (o .memory) w (q .frame) v (ap hearing (q .phase)) (q .taken), page-does R p k (heard (o .chip .collector)) (o .memory) w (q .frame) (q .command) (q .good), e)

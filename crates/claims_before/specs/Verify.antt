@@ -13,17 +13,15 @@ use Rattle.chip_core.specs.declared.Core.{Core}
 use Rattle.chip_core.specs.declared.Done.{Done}
 use Rattle.chip_core.specs.declared.Phase.{Phase}
 use Rattle.chip_core.specs.declared.Phase.the-variants.{Awaiting, Ready}
-use Rattle.chip_pages.specs.Pages.{footerOf, isLastPage, lengthOf, nextPage, pageIn, pair, programPage, ready}
+use Rattle.chip_pages.specs.Pages.{isLastPage, nextPage, pageIn, pair, programPage, ready}
 use Rattle.chip_work.specs.Work.{blockErase, checksum}
 use Rattle.claims_before.specs.Rules.{Rules, answersUnder, onwardUnder, runUnder}
 use Rattle.claims_fed.specs.Fed.{saysFrame}
 use Rattle.claims_good.specs.Good.{Stands, uttered}
 use Rattle.claims_runs.specs.Options.{Never}
-use Rattle.claims_runs.specs.Taken.{takenBy}
-use Rattle.frame.specs.Frame.{payload}
-use Rattle.frame.specs.Judgement.{fitting, isGood, judgeOf}
+use Rattle.claims_verify.specs.Compared.{PageCompared}
 use Rattle.lent.specs.Lent.{same}
-use Rattle.part.specs.Part.{pageSize, placeOf}
+use Rattle.part.specs.Part.{pageSize}
 use Rattle.part.specs.declared.Part.{Part}
 use Rattle.part.specs.declared.Place.{Place}
 use Rattle.words.specs.Words.{if_then_else_}
@@ -37,15 +35,6 @@ verifyPageBefore k w at ds m =
 -- The rules of the chip before §2, which replaced 13h's alone.
 abbrev pub rulesBeforeVerify : Rules
 rulesBeforeVerify = record { erases = blockErase; sums = checksum; stores = programPage; compares = verifyPageBefore }
-
--- The event completes a good page of 13h while w is awaited; whether it equals flash there is `equal`.
-pub record PageCompared (p : Part) (o : Outcome) (v : Event) (w : Awaited) (equal : Bool) : Type 0 where
-  pub frame : List ℕ
-  pub phase : o .chip .core .phase ≡ Awaiting w
-  pub command : w .command ≡ 0x13
-  pub taken : takenBy o v ≡ frame ∷ []
-  pub good : isGood (fitting (lengthOf w) frame (judgeOf (footerOf w) frame)) ≡ true
-  pub result : same (pageIn (placeOf p (w .next)) (o .memory .flash)) (payload frame) ≡ equal
 
 -- Where the two differ: a page that differs and is not the last, whose difference was told too early; and a last page that is equal after one that was not, to which
 -- the difference is told now.

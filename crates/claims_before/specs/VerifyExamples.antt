@@ -4,40 +4,34 @@ use mathlib.Core.List.{List, [], _++_, _∷_, map}
 use mathlib.Core.Path.{_≡_}
 use Prim.Native.Nat.{ℕ}
 use lib.ListN.{replicate, take}
-use Rattle.chip.specs.Run.{before, bytesSaid, onward, run}
+use Rattle.chip.specs.Run.{bytesSaid, onward, run}
 use Rattle.chip.specs.Step.{Outcome}
 use Rattle.chip.specs.declared.Event.{Event}
 use Rattle.chip.specs.declared.Event.the-variants.{Byte}
 use Rattle.chip_core.specs.declared.Awaited.{Awaited}
-use Rattle.chip_core.specs.declared.Phase.the-variants.{Awaiting}
-use Rattle.chip_options.specs.Options.{freshOptions}
 use Rattle.claims_before.specs.Rules.{onwardUnder}
 use Rattle.claims_before.specs.Verify.{TellsOtherwise, rulesBeforeVerify}
 use Rattle.claims_good.specs.Good.{Stands}
-use Rattle.claims_stars.specs.Table.{freshMemory, thePart}
-use Rattle.frame.specs.Collector.{fresh}
+use Rattle.claims_stars.specs.Table.{thePart}
+use Rattle.claims_verify.specs.Examples.{acknowledgedTwice, blockAwaited, chipAwaiting, verifyFailed}
 
--- A chip that has heard all of a page but its footer, the 260th byte.
-abbrev pub comparingChip : Awaited → Outcome
-comparingChip w =
-    before (record { core = record { options = freshOptions thePart; rate = 0x00; phase = Awaiting w }; collector = fresh }) freshMemory (replicate 32 0x00)
-
+-- A chip that has heard all of a page's frame but its footer, the 260th byte.
 abbrev pub atFooter : Awaited → List ℕ → Outcome
-atFooter w page = run thePart (map Byte (take 259 page)) (comparingChip w)
+atFooter w frame = run thePart (map Byte (take 259 frame)) (chipAwaiting w)
 
 -- The first page, and in it 00h for FFh.
 abbrev pub firstCompared : Awaited
-firstCompared = record { command = 0x13; next = 0x0400; last = 0x07FF; differed = false }
+firstCompared = blockAwaited false
 
-unfoldable pub differingPage : List ℕ
-differingPage = 0x02 ∷ 0x00 ∷ 0x00 ∷ replicate 255 0xFF ++ 0xFF ∷ 0x17 ∷ []
+unfoldable pub differentFrame : List ℕ
+differentFrame = 0x02 ∷ 0x00 ∷ 0x00 ∷ replicate 255 0xFF ++ 0xFF ∷ 0x17 ∷ []
 
 -- The last page, after one that differed: it is equal.
 abbrev pub lastCompared : Awaited
 lastCompared = record { command = 0x13; next = 0x0700; last = 0x07FF; differed = true }
 
-unfoldable pub equalPage : List ℕ
-equalPage = 0x02 ∷ 0x00 ∷ replicate 256 0xFF ++ 0x00 ∷ 0x03 ∷ []
+unfoldable pub equalFrame : List ℕ
+equalFrame = 0x02 ∷ 0x00 ∷ replicate 256 0xFF ++ 0x00 ∷ 0x03 ∷ []
 
 -- Each footer is an input on which the rules differ, to a chip that stands: the premises of both claims are met.
 pub record OtherwiseMet (o : Outcome) (v : Event) : Type 0 where
@@ -45,23 +39,16 @@ pub record OtherwiseMet (o : Outcome) (v : Event) : Type 0 where
   pub otherwise : TellsOtherwise thePart o v
 
 abbrev pub FirstMet : Type 0
-FirstMet = OtherwiseMet (atFooter firstCompared differingPage) (Byte 0x17)
+FirstMet = OtherwiseMet (atFooter firstCompared differentFrame) (Byte 0x17)
 
 abbrev pub LastMet : Type 0
-LastMet = OtherwiseMet (atFooter lastCompared equalPage) (Byte 0x03)
-
--- 06h 06h, and 06h 0Fh.
-abbrev pub said0606h : List ℕ
-said0606h = 0x02 ∷ 0x02 ∷ 0x06 ∷ 0x06 ∷ 0xF2 ∷ 0x03 ∷ []
-
-abbrev pub said060Fh : List ℕ
-said060Fh = 0x02 ∷ 0x02 ∷ 0x06 ∷ 0x0F ∷ 0xE9 ∷ 0x03 ∷ []
+LastMet = OtherwiseMet (atFooter lastCompared equalFrame) (Byte 0x03)
 
 abbrev pub saidIn : Outcome → List ℕ
 saidIn o = bytesSaid (o .answer) (o .room)
 
 pub record VerifySaid : Type 0 where
-  pub first : saidIn (onward thePart (atFooter firstCompared differingPage) (Byte 0x17)) ≡ said0606h
-  pub firstBefore : saidIn (onwardUnder rulesBeforeVerify thePart (atFooter firstCompared differingPage) (Byte 0x17)) ≡ said060Fh
-  pub last : saidIn (onward thePart (atFooter lastCompared equalPage) (Byte 0x03)) ≡ said060Fh
-  pub lastBefore : saidIn (onwardUnder rulesBeforeVerify thePart (atFooter lastCompared equalPage) (Byte 0x03)) ≡ said0606h
+  pub first : saidIn (onward thePart (atFooter firstCompared differentFrame) (Byte 0x17)) ≡ acknowledgedTwice
+  pub firstBefore : saidIn (onwardUnder rulesBeforeVerify thePart (atFooter firstCompared differentFrame) (Byte 0x17)) ≡ verifyFailed
+  pub last : saidIn (onward thePart (atFooter lastCompared equalFrame) (Byte 0x03)) ≡ verifyFailed
+  pub lastBefore : saidIn (onwardUnder rulesBeforeVerify thePart (atFooter lastCompared equalFrame) (Byte 0x03)) ≡ acknowledgedTwice

@@ -1,0 +1,5 @@
+pub mod Told
+pub mod Whole
+pub mod Remembers
+pub mod Unseen
+pub mod Examples

@@ -1,0 +1,4 @@
+pub mod Compared
+pub mod Told
+pub mod Remembers
+pub mod Examples
