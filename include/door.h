@@ -183,6 +183,9 @@ static inline uint8_t zc_chip_phase(const uint8_t state[ZC_STATE]) { return stat
 /* How many bytes are collected; they begin at state + 33. */
 static inline uint64_t zc_chip_collected(const uint8_t state[ZC_STATE]) { return zc_get4(state + 25) | (uint64_t)zc_get4(state + 29) << 32; }
 
+/* Whether a page of the 13h under way has differed from flash (0 or 1), which the wire tells with the last page alone. */
+static inline uint8_t zc_chip_differed(const uint8_t state[ZC_STATE]) { return state[293]; }
+
 static inline uint8_t zc_dock_stage(const uint8_t dock[ZC_DOCK]) { return dock[0]; }
 static inline uint32_t zc_dock_retries(const uint8_t dock[ZC_DOCK]) { return zc_get4(dock + 2); }
 static inline uint32_t zc_dock_frames(const uint8_t dock[ZC_DOCK]) { return zc_get4(dock + 6); }
