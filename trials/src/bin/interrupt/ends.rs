@@ -28,8 +28,7 @@ pub enum Stand {
         retries: usize,
     },
     Failed {
-        cause: Cause,
-        block: Option<usize>,
+        named: Named,
         frames: usize,
         retries: usize,
     },
@@ -39,8 +38,18 @@ pub enum Stand {
 
 impl Stand {
     pub fn failed_by(self, by: Cause) -> bool {
-        matches!(self, Stand::Failed { cause, .. } if cause == by)
+        matches!(self, Stand::Failed { named, .. } if named.cause == by)
     }
+}
+
+/// What a failure names.
+#[derive(Clone, Copy)]
+pub struct Named {
+    pub cause: Cause,
+    pub block: Option<usize>,
+    pub command: u8,
+    pub page: Option<usize>,
+    pub status: u8,
 }
 
 #[derive(Clone, Copy, PartialEq, Eq)]
@@ -96,13 +105,21 @@ impl Proved<'_> {
             4 => Cause::Timeout,
             other => panic!("the dock's state has {other} for why it failed"),
         };
-        let block = match self.dock[10] {
+        let number = |at: usize| match self.dock[at] {
             0 => None,
-            _ => Some(u32::from_le_bytes(self.dock[11..15].try_into().unwrap()) as usize),
+            _ => {
+                let bytes = self.dock[at + 1..at + 5].try_into().unwrap();
+                Some(u32::from_le_bytes(bytes) as usize)
+            }
         };
         Stand::Failed {
-            cause,
-            block,
+            named: Named {
+                cause,
+                block: number(10),
+                command: self.dock[21],
+                page: number(15),
+                status: self.dock[22],
+            },
             frames,
             retries,
         }
@@ -334,13 +351,18 @@ pub fn stand_of(told: Result<Report, u8>) -> Stand {
             frames,
             retries,
         } => Stand::Failed {
-            cause: match failure.cause {
-                dock::Cause::Status => Cause::Status,
-                dock::Cause::Mismatch => Cause::Mismatch,
-                dock::Cause::Unreadable => Cause::Unreadable,
-                dock::Cause::Timeout => Cause::Timeout,
+            named: Named {
+                cause: match failure.cause {
+                    dock::Cause::Status => Cause::Status,
+                    dock::Cause::Mismatch => Cause::Mismatch,
+                    dock::Cause::Unreadable => Cause::Unreadable,
+                    dock::Cause::Timeout => Cause::Timeout,
+                },
+                block: failure.block.map(|block| block as usize),
+                command: failure.command,
+                page: failure.page.map(|page| page as usize),
+                status: failure.status,
             },
-            block: failure.block.map(|block| block as usize),
             frames: frames as usize,
             retries: retries as usize,
         },

@@ -1,6 +1,8 @@
 //! A job interrupted at every place, and what is left each time.
 
-use crate::ends::{go_on, heard, Cause, Ends, Stand};
+use twin::chip::{UNEQUAL, VERIFY};
+
+use crate::ends::{go_on, heard, Cause, Ends, Named, Stand};
 use crate::job::*;
 
 /// A moment of the undamaged job at which bytes go to the chip: the mode byte, or a frame that has been handed out and whose gap is past.
@@ -122,19 +124,25 @@ impl<'a, E: Ends<'a>> Trial<'a, E> {
                 tally.finished_wrong += u64::from(ends.flash().range(self.job) != self.job.image);
             }
             Stand::Failed {
-                cause,
-                block,
+                named,
                 frames,
                 retries,
             } => {
-                tally.failed[cause as usize] += 1;
+                tally.failed[named.cause as usize] += 1;
                 self.judge_counts(asked, frames, retries, tally);
-                tally.named_wrong += u64::from(block != moment.reached);
+                tally.named_wrong += u64::from(named.block != moment.reached);
+                tally.told_wrong += u64::from(named.cause == Cause::Status && !self.late(named));
                 self.judge_left(&ends, moment.reached, tally);
                 self.again(ends, tally);
             }
             Stand::GoesOn | Stand::Endless => tally.counts_wrong += 1,
         }
+    }
+
+    /// A difference that 13h met: told with the last page of its block (02 §2).
+    fn late(&self, named: Named) -> bool {
+        let last = self.job.block_size() / part().page_size() - 1;
+        (named.command, named.page, named.status) == (VERIFY, Some(last), UNEQUAL)
     }
 
     /// Frames are counted here too; retries are as the dock told them.
@@ -238,6 +246,7 @@ pub struct Tally {
     after: u64,
     finished_wrong: u64,
     named_wrong: u64,
+    told_wrong: u64,
     counts_wrong: u64,
     /// Runs that left a kept sum other than the one worked out afresh (02 §1), and runs of the whole job again that did. It must be 0 and has no row.
     pub sums_wrong: u64,
@@ -247,7 +256,7 @@ pub struct Tally {
     pub most_retries: usize,
 }
 
-pub const MUST_BE_0: [&str; 8] = [
+pub const MUST_BE_0: [&str; 9] = [
     "bytes of flash changed outside the job's range",
     "options changed",
     "blocks before the one reached that do not hold the image",
@@ -255,6 +264,7 @@ pub const MUST_BE_0: [&str; 8] = [
     "anything else in the block reached",
     "finished, and the range does not hold the image",
     "failed, and another block is named than the one reached",
+    "failed by a status, and it is another than 0Fh on the last page of 13h",
     "frames or retries past what is allowed, or frames miscounted",
 ];
 
@@ -268,6 +278,7 @@ impl Tally {
             self.reached[Left::Other as usize],
             self.finished_wrong,
             self.named_wrong,
+            self.told_wrong,
             self.counts_wrong,
         ]
     }
