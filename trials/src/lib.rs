@@ -5,3 +5,4 @@ pub mod door;
 
 pub mod chip;
 pub mod dock;
+pub mod traffic;

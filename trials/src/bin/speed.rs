@@ -7,7 +7,8 @@ use std::time::Instant;
 use trials::chip::{layout, Door};
 use trials::dock::work;
 use trials::door::{self, DOCK, FRAME_ROOM};
-use twin::chip::{step, Answer, Chip, Event, ERASED, PROGRAM, VERIFY};
+use trials::traffic::{capture, opening, page, page_frames, traffic};
+use twin::chip::{step, Answer, Chip, Event, ERASED, PROGRAM};
 use twin::dock;
 use twin::frame::{LAST_FOOTER, MORE_FOOTER};
 use twin::part::{Area, Part};
@@ -16,79 +17,6 @@ use twin::replay::{judge_record, replay_part, Player, Record, CARRIED, RECORD};
 use twin::sums::Sums;
 
 const RUNS: usize = 15;
-
-fn page(round: usize, block: usize, number: usize) -> Vec<u8> {
-    (0..replay_part().page_size())
-        .map(|at| (at * 7 + number * 31 + block * 13 + round) as u8)
-        .collect()
-}
-
-/// One round over every code block: erase it, write its pages, verify its pages.
-fn round_of_frames(round: usize) -> Vec<Vec<u8>> {
-    let mut frames = Vec::new();
-    let part = replay_part();
-    let (size, pages) = (part.block_size(Area::Code), part.pages_of_block(Area::Code));
-    for block in 0..part.blocks(Area::Code) {
-        let (start, end) = (block * size, block * size + size - 1);
-        frames.push(command_frame(&[
-            0x22,
-            start as u8,
-            (start >> 8) as u8,
-            (start >> 16) as u8,
-        ]));
-        for command in [PROGRAM, VERIFY] {
-            frames.push(command_frame(&range_body(command, start, end)));
-            for number in 0..pages {
-                let footer = if number + 1 == pages {
-                    LAST_FOOTER
-                } else {
-                    MORE_FOOTER
-                };
-                frames.push(data_frame(&page(round, block, number), footer));
-            }
-        }
-    }
-    frames
-}
-
-fn opening() -> Vec<u8> {
-    let mut bytes = vec![0x3A];
-    bytes.extend(command_frame(&[0x9A, 0x00, 0x21]));
-    bytes
-}
-
-/// Page traffic of so many rounds.
-fn traffic(rounds: usize) -> Vec<u8> {
-    let mut bytes = opening();
-    for round in 0..rounds {
-        bytes.extend(round_of_frames(round).concat());
-    }
-    bytes
-}
-
-/// The same as capture records: a gap before each frame, up to six bytes to a record; so many records.
-fn capture(records: usize) -> Vec<u8> {
-    let mut bytes = Vec::new();
-    let mut carry = |frame: &[u8]| {
-        bytes.extend([0; RECORD]);
-        for part in frame.chunks(CARRIED) {
-            let mut record = [0; RECORD];
-            record[0] = 0x01;
-            record[1] = part.len() as u8;
-            record[2..2 + part.len()].copy_from_slice(part);
-            bytes.extend(record);
-        }
-    };
-    carry(&[0x3A]);
-    carry(&opening()[1..]);
-    let mut round = 0;
-    while round * replay_part().blocks(Area::Code) * 360 < records {
-        round_of_frames(round).iter().for_each(|frame| carry(frame));
-        round += 1;
-    }
-    bytes.truncate(records * RECORD);
-    bytes
-}
 
 /// A 40h over all code flash, and its pages.
 fn pages() -> Vec<u8> {
@@ -564,8 +492,8 @@ fn main() {
         &pages,
         RUNS,
     );
-    let small = capture(10_000);
-    let large = capture(1_000_000);
+    let small = capture(page_frames(), CARRIED, 10_000);
+    let large = capture(page_frames(), CARRIED, 1_000_000);
     let few = least(
         "replay of 10,000 records",
         10_000,

@@ -1,0 +1,87 @@
+//! Page traffic of a bench, and frames of any kind as a capture (01 "Replay").
+
+use std::iter;
+
+use twin::chip::{BLOCK_ERASE, PROGRAM, RATE_SET, VERIFY};
+use twin::frame::{LAST_FOOTER, MORE_FOOTER};
+use twin::part::Area;
+use twin::random::{command_frame, data_frame, range_body};
+use twin::replay::{replay_part, RECORD};
+
+/// What a page is written with, in no round, block or place the same.
+pub fn page(round: usize, block: usize, number: usize) -> Vec<u8> {
+    (0..replay_part().page_size())
+        .map(|at| (at * 7 + number * 31 + block * 13 + round) as u8)
+        .collect()
+}
+
+/// One round over every code block: erase it, write its pages, verify its pages.
+fn round_of_frames(round: usize) -> Vec<Vec<u8>> {
+    let mut frames = Vec::new();
+    let part = replay_part();
+    let (size, pages) = (part.block_size(Area::Code), part.pages_of_block(Area::Code));
+    for block in 0..part.blocks(Area::Code) {
+        let (start, end) = (block * size, block * size + size - 1);
+        frames.push(command_frame(&[
+            BLOCK_ERASE,
+            start as u8,
+            (start >> 8) as u8,
+            (start >> 16) as u8,
+        ]));
+        for command in [PROGRAM, VERIFY] {
+            frames.push(command_frame(&range_body(command, start, end)));
+            for number in 0..pages {
+                let footer = if number + 1 == pages {
+                    LAST_FOOTER
+                } else {
+                    MORE_FOOTER
+                };
+                frames.push(data_frame(&page(round, block, number), footer));
+            }
+        }
+    }
+    frames
+}
+
+/// What makes a fresh chip ready: the mode byte, and 9Ah.
+fn opening_frames() -> [Vec<u8>; 2] {
+    [vec![0x3A], command_frame(&[RATE_SET, 0x00, 0x21])]
+}
+
+pub fn opening() -> Vec<u8> {
+    opening_frames().concat()
+}
+
+/// The frames of page traffic, round after round without end.
+pub fn page_frames() -> impl Iterator<Item = Vec<u8>> {
+    (0..).flat_map(round_of_frames)
+}
+
+/// Page traffic of so many rounds.
+pub fn traffic(rounds: usize) -> Vec<u8> {
+    let rounds = (0..rounds).flat_map(round_of_frames);
+    iter::once(opening()).chain(rounds).flatten().collect()
+}
+
+/// A fresh chip made ready, and then these frames, which must not run out: a gap before each, up to so many bytes to a record; so many records.
+pub fn capture(frames: impl Iterator<Item = Vec<u8>>, carried: usize, records: usize) -> Vec<u8> {
+    opening_frames()
+        .into_iter()
+        .chain(frames)
+        .flat_map(|frame| recorded(&frame, carried))
+        .take(records)
+        .flatten()
+        .collect()
+}
+
+fn recorded(frame: &[u8], carried: usize) -> Vec<[u8; RECORD]> {
+    let mut records = vec![[0; RECORD]];
+    for part in frame.chunks(carried) {
+        let mut record = [0; RECORD];
+        record[0] = 0x01;
+        record[1] = part.len() as u8;
+        record[2..2 + part.len()].copy_from_slice(part);
+        records.push(record);
+    }
+    records
+}
