@@ -85,3 +85,11 @@ fn recorded(frame: &[u8], carried: usize) -> Vec<[u8; RECORD]> {
     }
     records
 }
+
+/// How many bytes the records of a capture carry.
+pub fn carried_bytes(capture: &[u8]) -> usize {
+    capture
+        .chunks(RECORD)
+        .map(|record| usize::from(record[1]))
+        .sum()
+}

@@ -1,16 +1,18 @@
-//! The proved chip and the proved dock against the twin, in one process and on the same bytes: ratios of the least of several runs each. After every pair of
-//! runs both have said the same bytes and hold the same flash, kept sums and state.
+//! The proved chip and the proved dock against the twin, in one process and on the same bytes: ratios of the least of several runs each. Replay is also set
+//! beside a control, which works the SUM of what it has collected out anew at every byte (02 §3). After every turn all have said the same bytes and hold the same
+//! flash, kept sums and state.
 
 use std::hint::black_box;
+use std::iter;
 use std::time::Instant;
 
 use trials::chip::{layout, Door};
 use trials::dock::work;
 use trials::door::{self, DOCK, FRAME_ROOM};
-use trials::traffic::{capture, opening, page, page_frames, traffic};
-use twin::chip::{step, Answer, Chip, Event, ERASED, PROGRAM};
+use trials::traffic::{capture, carried_bytes, opening, page, page_frames, traffic};
+use twin::chip::{step, Answer, Chip, Event, ACK, ERASED, NACK, PROGRAM, RESET};
 use twin::dock;
-use twin::frame::{LAST_FOOTER, MORE_FOOTER};
+use twin::frame::{sum, LAST_FOOTER, MORE_FOOTER};
 use twin::part::{Area, Part};
 use twin::random::{command_frame, data_frame, range_body};
 use twin::replay::{judge_record, replay_part, Player, Record, CARRIED, RECORD};
@@ -278,7 +280,8 @@ fn door_replay(capture: &[u8]) -> Said {
     from_door(door, said)
 }
 
-fn twin_replay(capture: &[u8]) -> Said {
+/// The twin's chip through a capture; it is shown to `after` at every byte it has heard.
+fn twin_plays(capture: &[u8], after: impl Fn(&Chip)) -> Said {
     let (mut player, mut room, mut said) = (Player::fresh(), [0; 32], Vec::new());
     for record in capture.chunks_exact(RECORD) {
         let record = record.try_into().expect("eight bytes");
@@ -290,11 +293,25 @@ fn twin_replay(capture: &[u8]) -> Said {
                 for &byte in &bytes[..count] {
                     let n = hear(&mut player, Event::Byte(byte), &mut room);
                     said.extend_from_slice(&room[..n]);
+                    after(&player.chip);
                 }
             }
         }
     }
     from_twin(player, said)
+}
+
+fn twin_replay(capture: &[u8]) -> Said {
+    twin_plays(capture, |_| ())
+}
+
+/// What 02 §3 saw: "The frame SUM is worked out anew for every byte collected", from LEN to the newest.
+fn control_replay(capture: &[u8]) -> Said {
+    twin_plays(capture, |chip| {
+        if let [_, len, rest @ ..] = &chip.collected[..chip.count] {
+            black_box(sum(*len, black_box(rest)));
+        }
+    })
 }
 
 /// A job over every code block, and what a chip that holds something else answers to its frames.
@@ -396,133 +413,240 @@ fn said_by_dock(bytes: Vec<u8>, state: &[u8]) -> Said {
     }
 }
 
-/// Nanoseconds of the quickest of so many runs, the two taking turns; they must have done the same.
-fn least(
+type Run<'a> = &'a dyn Fn(&[u8]) -> Said;
+
+/// Nanoseconds of the quickest of so many runs of each, all taking turns; they must have done the same.
+fn quickest<const N: usize>(name: &str, each: [Run; N], input: &[u8], runs: usize) -> [f64; N] {
+    let mut quick = [f64::MAX; N];
+    for _ in 0..runs {
+        let turn = each.map(|run| {
+            let start = Instant::now();
+            let said = black_box(run(black_box(input)));
+            (start.elapsed().as_nanos() as f64, said)
+        });
+        for (quick, (time, said)) in quick.iter_mut().zip(&turn) {
+            *quick = quick.min(*time);
+            same(name, &turn[0].1, said);
+        }
+    }
+    quick
+}
+
+fn same(name: &str, a: &Said, b: &Said) {
+    assert!(
+        a.bytes == b.bytes && a.code == b.code && a.data == b.data,
+        "{name}: not the same"
+    );
+    assert!(a.state == b.state, "{name}: not the same state");
+    assert!(a.sums == b.sums, "{name}: not the same sums");
+}
+
+fn listed(numbers: impl IntoIterator<Item = f64>) -> String {
+    let each: Vec<String> = numbers.into_iter().map(|it| format!("{it:.2}")).collect();
+    let (last, others) = each.split_last().expect("one number at least");
+    format!("{} and {last}", others.join(", "))
+}
+
+/// What so many units took, as a time for each.
+fn a_unit(times: &[f64], units: usize, unit: &str) -> String {
+    let each = times.iter().map(|time| time / units as f64);
+    format!("{} ns a {unit}", listed(each))
+}
+
+/// A row: proved over twin, and the times.
+fn print_row(name: &str, times: &[f64], told: &str) {
+    println!("{name:60} {:8.2}   ({told})", times[0] / times[1]);
+}
+
+fn row(
     name: &str,
-    units: usize,
-    unit: &str,
-    proved: impl Fn(&[u8]) -> Said,
-    other: impl Fn(&[u8]) -> Said,
+    (units, unit): (usize, &str),
+    each: [Run; 2],
     input: &[u8],
     runs: usize,
-) -> f64 {
-    let (mut quick, mut quick_other) = (f64::MAX, f64::MAX);
-    for _ in 0..runs {
-        let start = Instant::now();
-        let a = black_box(proved(black_box(input)));
-        quick = quick.min(start.elapsed().as_nanos() as f64);
-        let start = Instant::now();
-        let b = black_box(other(black_box(input)));
-        quick_other = quick_other.min(start.elapsed().as_nanos() as f64);
-        assert!(
-            a.bytes == b.bytes && a.code == b.code && a.data == b.data,
-            "{name}: not the same"
-        );
-        assert!(a.state == b.state, "{name}: not the same state");
-        assert!(a.sums == b.sums, "{name}: not the same sums");
+) -> [f64; 2] {
+    let times = quickest(name, each, input, runs);
+    print_row(name, &times, &a_unit(&times, units, unit));
+    times
+}
+
+const RECORDS: usize = 10_000;
+
+/// What a capture is of: page traffic, or Resets alone, of so many bytes of payload, and the one status that each is answered.
+#[derive(Clone, Copy)]
+enum Traffic {
+    Pages,
+    Resets { payload: usize, status: u8 },
+}
+
+/// Resets cost a chip least beside the collecting: one status is said, and nothing else is done. LEN is judged after the SUM, so a Reset of LEN 00h is read as
+/// whole as one of LEN 01h, and then unfit: 15h (01 "Frames").
+const TRAFFICS: [(&str, Traffic); 3] = [
+    ("page traffic", Traffic::Pages),
+    (
+        "LEN 00h frames",
+        Traffic::Resets {
+            payload: 256,
+            status: NACK,
+        },
+    ),
+    (
+        "5-byte frames",
+        Traffic::Resets {
+            payload: 1,
+            status: ACK,
+        },
+    ),
+];
+
+fn reset(payload: usize) -> Vec<u8> {
+    let mut body: Vec<u8> = (0..payload).map(|at| at as u8).collect();
+    body[0] = RESET;
+    command_frame(&body)
+}
+
+impl Traffic {
+    fn recorded(self, carried: usize) -> Vec<u8> {
+        match self {
+            Traffic::Pages => capture(page_frames(), carried, RECORDS),
+            Traffic::Resets { payload, .. } => {
+                capture(iter::repeat(reset(payload)), carried, RECORDS)
+            }
+        }
     }
-    println!(
-        "{name:58} {:8.2}   ({:.2} and {:.2} ns a {unit})",
-        quick / quick_other,
-        quick / units as f64,
-        quick_other / units as f64
-    );
-    quick
+
+    /// Each whole Reset has had its answer, and nothing else has been said after the 9Ah's.
+    fn check_replies(self, capture: &[u8], said: &[u8]) {
+        let Traffic::Resets { payload, status } = self else {
+            return;
+        };
+        let resets = (carried_bytes(capture) - opening().len()) / reset(payload).len();
+        let mut due = data_frame(&[ACK, replay_part().clock as u8, 0x00], LAST_FOOTER);
+        due.extend(data_frame(&[status], LAST_FOOTER).repeat(resets));
+        assert!(said == due, "a Reset of {payload} bytes: another answer");
+    }
+}
+
+/// What proved, twin and control took for a capture that carries so many bytes.
+struct Took {
+    times: [f64; 3],
+    bytes: usize,
+}
+
+impl Took {
+    fn a_byte(&self, which: usize) -> f64 {
+        self.times[which] / self.bytes as f64
+    }
+}
+
+fn replay_row(name: &str, traffic: Traffic, carried: usize) -> Took {
+    let capture = traffic.recorded(carried);
+    let name = format!("replay of 10,000 records, {}: {name}", at_most(carried));
+    let each: [Run; 3] = [&door_replay, &twin_replay, &control_replay];
+    let times = quickest(&name, each, &capture, RUNS);
+    traffic.check_replies(&capture, &door_replay(&capture).bytes);
+    let bytes = carried_bytes(&capture);
+    let a_record = a_unit(&times, RECORDS, "record");
+    let a_byte = a_unit(&times, bytes, "byte");
+    print_row(&name, &times, &format!("{a_record}; {a_byte}"));
+    Took { times, bytes }
+}
+
+fn at_most(carried: usize) -> String {
+    match carried {
+        1 => "1 byte each".to_string(),
+        more => format!("up to {more} bytes each"),
+    }
+}
+
+/// All rows of 10,000 records, and whether a byte costs more in a longer frame; hands back the first row's times.
+fn replay_rows() -> [f64; 3] {
+    println!("replay (zc_replay): proved over twin, then proved, twin and control; the control works the SUM out anew at every byte");
+    let sizes = [CARRIED, 1];
+    let took =
+        sizes.map(|carried| TRAFFICS.map(|(name, traffic)| replay_row(name, traffic, carried)));
+    for (carried, [_, long, short]) in sizes.iter().zip(&took) {
+        let name = format!(
+            "a byte of LEN 00h over one of 5-byte frames, {}",
+            at_most(*carried)
+        );
+        let grown = (0..3).map(|which| long.a_byte(which) / short.a_byte(which));
+        let sums = [long, short].map(|took| took.a_byte(2) - took.a_byte(1));
+        println!(
+            "{name:63}   proved, twin and control {}; control less twin {} ns a byte",
+            listed(grown),
+            listed(sums)
+        );
+    }
+    took[0][0].times
 }
 
 fn main() {
     let bytes = traffic(10);
     let n = bytes.len();
     println!(
-        "proved over twin, {n} bytes of page traffic, least of {RUNS} runs{:12} ratio",
+        "proved over twin, {n} bytes of page traffic, least of {RUNS} runs{:14} ratio",
         ""
     );
-    least(
-        "the step itself (zp_steps), twin by value",
-        n,
-        "byte",
-        pace_steps,
-        twin_steps,
-        &bytes,
-        RUNS,
-    );
-    least(
-        "a byte at a time (zc_byte), twin by value",
-        n,
-        "byte",
-        door_bytes,
-        twin_by_value,
-        &bytes,
-        RUNS,
-    );
-    least(
-        "a byte at a time, twin by reference",
-        n,
-        "byte",
-        door_bytes,
-        twin_bytes,
-        &bytes,
-        RUNS,
-    );
-    least(
-        "a gap at a time: the door and the refusals alone",
-        n,
-        "call",
-        door_gaps,
-        twin_gaps,
-        &bytes,
-        RUNS,
-    );
-    least(
-        "stretches (zc_feed), twin a byte at a time by reference",
-        n,
-        "byte",
-        door_feed,
-        twin_bytes,
-        &bytes,
-        RUNS,
-    );
-    let pages = pages();
-    least(
+    let rows: [(&str, &str, [Run; 2]); 5] = [
+        (
+            "the step itself (zp_steps), twin by value",
+            "byte",
+            [&pace_steps, &twin_steps],
+        ),
+        (
+            "a byte at a time (zc_byte), twin by value",
+            "byte",
+            [&door_bytes, &twin_by_value],
+        ),
+        (
+            "a byte at a time, twin by reference",
+            "byte",
+            [&door_bytes, &twin_bytes],
+        ),
+        (
+            "a gap at a time: the door and the refusals alone",
+            "call",
+            [&door_gaps, &twin_gaps],
+        ),
+        (
+            "stretches (zc_feed), twin a byte at a time by reference",
+            "byte",
+            [&door_feed, &twin_bytes],
+        ),
+    ];
+    for (name, unit, each) in rows {
+        row(name, (n, unit), each, &bytes, RUNS);
+    }
+    row(
         "a page stored (zc_feed), twin a byte at a time",
-        STORES * replay_part().size(Area::Code) / replay_part().page_size(),
-        "page",
-        door_pages,
-        twin_pages,
-        &pages,
+        (
+            STORES * replay_part().size(Area::Code) / replay_part().page_size(),
+            "page",
+        ),
+        [&door_pages, &twin_pages],
+        &pages(),
         RUNS,
     );
-    let small = capture(page_frames(), CARRIED, 10_000);
+    let few = replay_rows();
     let large = capture(page_frames(), CARRIED, 1_000_000);
-    let few = least(
-        "replay of 10,000 records",
-        10_000,
-        "record",
-        door_replay,
-        twin_replay,
-        &small,
-        RUNS,
-    );
-    let many = least(
-        "replay of 1,000,000 records",
-        1_000_000,
-        "record",
-        door_replay,
-        twin_replay,
+    let many = row(
+        "replay of 1,000,000 records: page traffic",
+        (1_000_000, "record"),
+        [&door_replay, &twin_replay],
         &large,
         3,
     );
     println!(
-        "1,000,000 records over 100 times 10,000 records, proved {:9.2}",
-        many / (100.0 * few)
+        "1,000,000 records over 100 times 10,000 records, proved {:13.3}   (twin {:.3})",
+        many[0] / (100.0 * few[0]),
+        many[1] / (100.0 * few[1])
     );
     let rehearsal = Rehearsal::new();
-    least(
+    row(
         "the dock: a frame asked for and its answer handed in",
-        JOBS * rehearsal.answers.len(),
-        "frame",
-        |_| rehearsal.by_door(),
-        |_| rehearsal.by_twin(),
+        (JOBS * rehearsal.answers.len(), "frame"),
+        [&|_| rehearsal.by_door(), &|_| rehearsal.by_twin()],
         &[],
         RUNS,
     );
