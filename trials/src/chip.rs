@@ -73,6 +73,13 @@ impl Door {
 
     /// How many records were played, and the bytes of their replies. The output may be too short for all of them.
     pub fn replay(&mut self, capture: &[u8], output: &mut [u8]) -> (usize, usize) {
+        let (played, told) = self.play(capture, output);
+        assert!(told.refusal == 0 || told.refusal == OUTPUT_FULL);
+        (played, told.bytes as usize)
+    }
+
+    /// The same for records of any kind: how many were played, and what the call told.
+    pub fn play(&mut self, capture: &[u8], output: &mut [u8]) -> (usize, Told) {
         let (played, told) = door::replay(
             &self.part,
             &mut self.state,
@@ -83,8 +90,7 @@ impl Door {
             &mut self.room,
             output,
         );
-        assert!(told.refusal == 0 || told.refusal == OUTPUT_FULL);
-        (played as usize, told.bytes as usize)
+        (played as usize, told)
     }
 }
 
