@@ -19,6 +19,8 @@ use twin::replay::{judge_record, replay_part, Player, Record, CARRIED, RECORD};
 use twin::sums::Sums;
 
 const RUNS: usize = 15;
+/// A run of a million records is long enough to be broken in upon; the least of three often was.
+const LONG_RUNS: usize = 9;
 
 /// A 40h over all code flash, and its pages.
 fn pages() -> Vec<u8> {
@@ -635,7 +637,7 @@ fn main() {
         (1_000_000, "record"),
         [&door_replay, &twin_replay],
         &large,
-        3,
+        LONG_RUNS,
     );
     println!(
         "1,000,000 records over 100 times 10,000 records, proved {:13.3}   (twin {:.3})",
