@@ -2,3 +2,4 @@ pub mod Runs
 pub mod Settling
 pub mod Saying
 pub mod Adding
+pub mod Quiet

@@ -8,14 +8,13 @@ use Prim.Native.Nat.{ℕ}
 use native.Mathlib.Omega.{arith}
 use lib.ListN.{length}
 use Rattle.frame.proofs.Laws.Sum.{Below}
-use Rattle.frame.specs.Collector.{added, dropped, heard}
+use Rattle.frame.specs.Collector.{added}
 use Rattle.part.specs.Refusal.{number}
 use Rattle.part.specs.declared.Part.{Part}
 use Rattle.part.specs.declared.refusal.Refusal.{Refusal}
 use Rattle.part.specs.declared.refusal.Verdict.{Verdict}
 use Rattle.part.specs.declared.refusal.Verdict.the-variants.{Accepted, Refused}
 use Rattle.chip_core.specs.Effect.{Memory}
-use Rattle.chip_state.proofs.Laws.{accepts}
 use Rattle.chip_state.specs.Refusals.{verdictOn}
 use Rattle.chip_state.specs.declared.Chip.{Chip}
 use Rattle.chip_layout.proofs.Laid.{added-lacks, added-within, byte-laid, collected-long, gap-laid, left-to-chip, refused-before}
@@ -24,9 +23,10 @@ use Rattle.chip_layout.specs.Admission.{chipAcceptance, chipAdmission}
 use Rattle.chip_layout.specs.InPlace.{byteLaid, countLaid, isAdded}
 use Rattle.chip_layout.specs.Layout.{chipBytes, chipIn, collectorIn, coreIn, stateSize}
 use Rattle.chip.proofs.Adding.{byte-adds}
-use Rattle.chip.proofs.Settling.{at-gap, emptied, step-accepted, step-barred}
+use Rattle.chip.proofs.Quiet.{gap-drops}
+use Rattle.chip.proofs.Settling.{step-barred}
 use Rattle.chip.specs.Run.{before}
-use Rattle.chip.specs.Step.{Outcome, reaction, silent, stepOf}
+use Rattle.chip.specs.Step.{Outcome, stepOf}
 use Rattle.chip.specs.declared.Event.{Event}
 use Rattle.chip.specs.declared.Event.the-variants.{Byte, Gap}
 use Rattle.chip_door.specs.Calls.{answeredBy, stepTold, steppedBy, steppedThrough}
@@ -63,12 +63,6 @@ held-accepted : (p : Part) (s : List ℕ) (m : Memory) (room : List ℕ) → acc
     → verdictOn p (held s) (length (m .flash .codeFlash)) (length (m .flash .dataFlash)) (length room) ≡ Accepted
 held-accepted p s m room e =
     ap (λ (c : Chip). verdictOn p c (length (m .flash .codeFlash)) (length (m .flash .dataFlash)) (length room)) (sym (chip-in-is s)) ∙ chip-accepts p s _ _ _ e
-
-gap-drops : (p : Part) (c : Chip) (m : Memory) (room : List ℕ) → verdictOn p c (length (m .flash .codeFlash)) (length (m .flash .dataFlash)) (length room) ≡ Accepted
-    → before (record { core = c .core; collector = dropped (c .collector) }) m room ≡ stepOf p c Gap m room
-gap-drops p c m room a =
-    step-accepted _ (reaction [] (silent (c .core) m)) p c Gap Gap m room a refl (at-gap p (c .core) (heard (c .collector)) m)
-    (emptied p (c .collector) (dropped (c .collector)) (c .core) (c .core) m room refl (accepts a .roomy))
 
 -- A gap.
 pub gap-steps : (p : Part) (told s : List ℕ) (m : Memory) (room : List ℕ) → Below 256 s → length s ≡ stateSize → acceptanceAt p s m room ≡ Accepted

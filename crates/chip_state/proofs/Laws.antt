@@ -1,7 +1,7 @@
 -- Laws of the chip's refusals, over plain variables: what an accepted call gives, and that one byte more, where the frame begun still lacks some, is accepted too.
 -- Assumes nothing.
 use mathlib.Core.Bool.{Bool, false, not, true}
-use mathlib.Core.List.{[], _∷_}
+use mathlib.Core.List.{List, [], _++_, _∷_}
 use mathlib.Core.Path.{_∙_, _≡_, ap, refl, sym}
 use Prim.Native.Nat.{_%_, _+_, _-_, _<_, _≤_, suc, ℕ}
 use native.Mathlib.Decide.{decLt}
@@ -9,13 +9,13 @@ use native.Mathlib.Nat.{mod-eq-of-lt, mod-lt, mod-self, suc-mod}
 use native.Mathlib.Numerals.{add-one}
 use native.Mathlib.Omega.{arith}
 use lib.Dec.{eqb, ltb}
-use lib.ListN.{getD, length}
+use lib.ListN.{List·getD-append, getD, length, length-append}
 use borrow.Author.Tests.{eq-eqb, eqb-true, le-ltb, lt-ltb, ltb-false, ltb-true, ne-eqb, not-false, not-true}
 use Rattle.chip_core.specs.declared.Core.{Core}
 use Rattle.chip_options.proofs.Laws.{options-bare}
 use Rattle.chip_state.specs.Refusals.{goodAwaited, goodBegun, goodCollected, goodCore, goodPhase, goodPlaces, goodState, verdictOf}
 use Rattle.chip_state.specs.declared.Handed.{Handed}
-use Rattle.frame.proofs.Laws.Frame.{full-not, full-short}
+use Rattle.frame.proofs.Laws.Frame.{full-not, full-short, full-yes}
 use Rattle.frame.specs.Frame.{complete, counted, full, headerByte}
 use Rattle.frame.specs.declared.Header.{Header}
 use Rattle.frame.specs.declared.Header.the-variants.{Command, Data}
@@ -25,7 +25,7 @@ use Rattle.chip_core.specs.declared.Hearing.the-variants.{HearsCommands, HearsD
 use Rattle.chip_core.specs.declared.Awaited.{Awaited}
 use Rattle.chip_core.specs.declared.Phase.{Phase}
 use Rattle.chip_core.specs.declared.Phase.the-variants.{Awaiting, ModeByte, Ready, Setup}
-use Rattle.frame.proofs.Laws.Collector.{complete-within}
+use Rattle.frame.proofs.Laws.Collector.{complete-within, heard-at, length-heard}
 use Rattle.frame.specs.Collector.{heard}
 use Rattle.frame.specs.declared.collector.Collector.{Collector}
 use Rattle.part.proofs.Laws.{block-size-bare, described-bare, first-on, none-held, passed, passes, place-bare, size-bare}
@@ -192,5 +192,129 @@ one-more-accepted p k h e n s c =
       codeLong = a .codeLong;
       dataLong = a .dataLong;
       state = more-good p k (h .count) (h .head) (h .len) n s c (a .state);
+      roomy = a .roomy;
+    })
+
+-- What is collected, where something is, is the front of a frame: what that gives, and what makes it so.
+pub record Front (h : Header) (n head len : ℕ) : Type 0 where
+  pub within : n < 260
+  pub heads : head ≡ headerByte h
+  pub lacks : full n len ≡ false
+
+front : (h : Header) (n head len : ℕ) → 1 ≤ n → goodBegun h n head len ≡ true → Front h n head len
+unfolding goodBegun _or_
+front h n head len k e =
+    let f : ltb n 260 and eqb head (headerByte h) and not (full n len) ≡ true = go (eqb n 0) (ne-eqb n 0 (λ q. omega arith)) e in
+    record { within = ltb-true _ _ (and-left _ _ f); heads = eqb-true _ _ (and-left _ _ (and-right _ _ f)); lacks = not-true _ (and-right _ _ (and-right _ _ f)) }
+  where
+    go : (t : Bool) → t ≡ false → t or ltb n 260 and eqb head (headerByte h) and not (full n len) ≡ true → ltb n 260 and eqb head (headerByte h) and not (full n len) ≡ true
+    go true z e = absurd (let z : _≡_ {A = ℕ} 0 1 = cc in omega arith)
+    go false z e = e
+
+front-good : (h : Header) (n head len : ℕ) → Front h n head len → goodBegun h n head len ≡ true
+unfolding goodBegun
+front-good h n head len b = or-right (eqb n 0) (and-both (lt-ltb n 260 (b .within)) (and-both (eq-eqb _ _ (b .heads)) (ap not (b .lacks))))
+
+-- Of which frame, by what is heard.
+pub data FrontFor : Hearing → ℕ → ℕ → ℕ → Type 0 where
+  ofCommand : {n head len : ℕ} → Front Command n head len → FrontFor HearsCommands n head len
+  ofData : {w : Awaited} {n head len : ℕ} → Front Data n head len → FrontFor (HearsData w) n head len
+
+pub front-for : (f : Hearing) (n head len : ℕ) → 1 ≤ n → goodCollected f n head len ≡ true → FrontFor f n head len
+unfolding goodCollected
+front-for HearsNothing n head len k e = absurd (let z : n ≡ 0 = eqb-true n 0 e in omega arith)
+front-for HearsCommands n head len k e = ofCommand (front Command n head len k e)
+front-for (HearsData w) n head len k e = ofData (front Data n head len k e)
+
+-- Nothing collected is good, whatever is heard; and what comes first of what is good.
+pub none-good : (f : Hearing) (head len : ℕ) → goodCollected f 0 head len ≡ true
+unfolding goodCollected goodBegun _or_
+none-good HearsNothing head len = refl
+none-good HearsCommands head len = refl
+none-good (HearsData w) head len = refl
+
+full-less : (n m x : ℕ) → m ≤ n → full n x ≡ false → full m x ≡ false
+full-less n m x k e = go (decLt m (counted x + 4))
+  where
+    go : Dec (m < counted x + 4) → full m x ≡ false
+    go (yes u) = full-not m x u
+    go (no u) = absurd (let z : _≡_ {A = Bool} true false = sym (full-yes n x (omega arith) (omega arith)) ∙ e in let y : _≡_ {A = ℕ} 0 1 = cc in omega arith)
+
+front-cut : (h : Header) (xs ys : List ℕ) → 1 ≤ length xs → Front h (length (xs ++ ys)) (getD (xs ++ ys) 0 0) (getD (xs ++ ys) 1 0)
+    → Front h (length xs) (getD xs 0 0) (getD xs 1 0)
+front-cut h xs ys k b =
+    let l : length (xs ++ ys) ≡ length xs + length ys = length-append xs ys in
+    record {
+      within = omega (arith, b .within, l);
+      heads = sym (List·getD-append xs ys 0 0 (omega arith)) ∙ b .heads;
+      lacks = go (decLt (length xs) 2);
+    }
+  where
+    go : Dec (length xs < 2) → full (length xs) (getD xs 1 0) ≡ false
+    go (yes u) = full-short _ _ u
+    go (no u) =
+        let e : getD (xs ++ ys) 1 0 ≡ getD xs 1 0 = List·getD-append xs ys 0 1 (omega arith) in
+        full-less (length (xs ++ ys)) (length xs) (getD xs 1 0) (rw length-append (omega arith)) (ap (λ (x : ℕ). full (length (xs ++ ys)) x) (sym e) ∙ b .lacks)
+
+pub collected-cut : (f : Hearing) (xs ys : List ℕ) → 1 ≤ length xs → goodCollected f (length (xs ++ ys)) (getD (xs ++ ys) 0 0) (getD (xs ++ ys) 1 0) ≡ true
+    → goodCollected f (length xs) (getD xs 0 0) (getD xs 1 0) ≡ true
+unfolding goodCollected
+collected-cut f xs ys k e = go f (front-for f _ _ _ (rw length-append (omega arith)) e)
+  where
+    go : (f : Hearing) → FrontFor f (length (xs ++ ys)) (getD (xs ++ ys) 0 0) (getD (xs ++ ys) 1 0) → goodCollected f (length xs) (getD xs 0 0) (getD xs 1 0) ≡ true
+    go f (ofCommand b) = front-good Command _ _ _ (front-cut Command xs ys k b)
+    go f (ofData b) = front-good Data _ _ _ (front-cut Data xs ys k b)
+
+-- No more is collected in a good state than has places, and the bytes that are heard tell whether the state is good.
+front-within : (f : Hearing) (n head len : ℕ) → FrontFor f n head len → n < 260
+front-within f n head len (ofCommand x) = x .within
+front-within f n head len (ofData x) = x .within
+
+pub good-within : (f : Hearing) (n head len : ℕ) → goodCollected f n head len ≡ true → n < 260
+good-within f n head len e = go (decLt n 1)
+  where
+    go : Dec (n < 1) → n < 260
+    go (yes k) = omega arith
+    go (no k) = front-within f n head len (front-for f n head len (omega arith) e)
+
+pub heard-good : (f : Hearing) (d : Collector) → d .len ≤ length (d .bytes) → goodCollected f (length (heard d)) (getD (heard d) 0 0) (getD (heard d) 1 0) ≡ true
+    → goodCollected f (d .len) (getD (d .bytes) 0 0) (getD (d .bytes) 1 0) ≡ true
+unfolding goodCollected
+heard-good f d w e = go (decLt (d .len) 1)
+  where
+    n : length (heard d) ≡ d .len
+    n = length-heard d w
+
+    as-front : (h : Header) → 0 < d .len → Front h (length (heard d)) (getD (heard d) 0 0) (getD (heard d) 1 0) → Front h (d .len) (getD (d .bytes) 0 0) (getD (d .bytes) 1 0)
+    as-front h k x =
+        record {
+          within = omega (arith, x .within, n);
+          heads = sym (heard-at d 0 k) ∙ x .heads;
+          lacks = go (decLt (d .len) 2);
+        }
+      where
+        go : Dec (d .len < 2) → full (d .len) (getD (d .bytes) 1 0) ≡ false
+        go (yes u) = full-short _ _ u
+        go (no u) = ap (λ (i : ℕ). full i (getD (d .bytes) 1 0)) (sym n) ∙ ap (λ (i : ℕ). full (length (heard d)) i) (sym (heard-at d 1 (omega arith))) ∙ x .lacks
+
+    on : (f : Hearing) → 0 < d .len → FrontFor f (length (heard d)) (getD (heard d) 0 0) (getD (heard d) 1 0) → goodCollected f (d .len) (getD (d .bytes) 0 0) (getD (d .bytes) 1 0) ≡ true
+    on f k (ofCommand x) = front-good Command _ _ _ (as-front Command k x)
+    on f k (ofData x) = front-good Data _ _ _ (as-front Data k x)
+
+    go : Dec (d .len < 1) → goodCollected f (d .len) (getD (d .bytes) 0 0) (getD (d .bytes) 1 0) ≡ true
+    go (yes k) = let z : d .len ≡ 0 = omega arith in rw z (none-good f _ _)
+    go (no k) = on f (omega arith) (front-for f _ _ _ (omega (arith, n)) e)
+
+-- Where a call is accepted, the same with something else collected that is good is accepted too.
+pub collected-accepted : (p : Part) (k : Core) (h : Handed) (n head len : ℕ) → verdictOf p k h ≡ Accepted → goodCollected (hearing (k .phase)) n head len ≡ true
+    → verdictOf p k (record { count = n; head = head; len = len; code = h .code; «data» = h .«data»; room = h .room }) ≡ Accepted
+unfolding goodState
+collected-accepted p k h n head len e g =
+    let a = accepts e in
+    accepted (record {
+      part = a .part;
+      codeLong = a .codeLong;
+      dataLong = a .dataLong;
+      state = and-both g (and-right (goodCollected (hearing (k .phase)) (h .count) (h .head) (h .len)) _ (a .state));
       roomy = a .roomy;
     })

@@ -1,9 +1,9 @@
 -- The chip's refusals: document 01, "Refusal numbers" (chip), and which states are good.
 use mathlib.Core.Bool.{Bool, false, not, true}
-use mathlib.Core.List.{[], _∷_}
+use mathlib.Core.List.{List, [], _∷_}
 use Prim.Native.Nat.{_%_, _+_, ℕ}
 use lib.Dec.{eqb, leb, ltb}
-use lib.ListN.{getD}
+use lib.ListN.{getD, length}
 use Rattle.chip_state.specs.declared.Chip.{Chip}
 use Rattle.chip_state.specs.declared.Handed.{Handed}
 use Rattle.chip_core.specs.declared.Awaited.{Awaited}
@@ -63,6 +63,10 @@ unfoldable pub goodCollected : Hearing → ℕ → ℕ → ℕ → Bool
 goodCollected HearsNothing count head len = eqb count 0
 goodCollected HearsCommands count head len = goodBegun Command count head len
 goodCollected (HearsData w) count head len = goodBegun Data count head len
+
+-- The same of the bytes that are collected.
+abbrev pub goodHeard : Phase → List ℕ → Bool
+goodHeard f hs = goodCollected (hearing f) (length hs) (getD hs 0 0) (getD hs 1 0)
 
 unfoldable pub goodCore : Part → Core → Bool
 goodCore p k = leb (k .rate) 0x03 and goodOptions p (k .options) and goodPhase p (k .phase)

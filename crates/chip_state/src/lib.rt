@@ -147,7 +147,8 @@ fn is_good_begun(header: Header, count: usize, head: u8, len: u8) -> bool
     false
 }
 
-fn is_good_collected(hears: Hearing, count: usize, head: u8, len: u8) -> bool
+// What is collected, by what the phase hears.
+pub fn is_good_collected(hears: Hearing, count: usize, head: u8, len: u8) -> bool
     ensures { λ r. ⌜ r ≡ goodCollected hears count head len ⌝ }
 {
     match hears {

@@ -9,9 +9,7 @@ use lib.Dec.{eqb, ltb}
 use lib.ListN.{getD, length, length-append, length-drop}
 use lib.Seq.{getD-take}
 use borrow.Author.Tests.{eq-eqb, eqb-false, eqb-true, lt-ltb, ltb-true}
-use Rattle.chip_state.specs.Refusals.{goodBegun, goodCollected}
-use Rattle.chip_core.specs.declared.Hearing.{Hearing}
-use Rattle.chip_core.specs.declared.Hearing.the-variants.{HearsCommands, HearsData, HearsNothing}
+use Rattle.chip_state.specs.Refusals.{goodBegun}
 use Rattle.frame.proofs.Laws.Collector.{complete-within, heard-none, length-heard}
 use Rattle.frame.proofs.Laws.Frame.{counted-small, full-room}
 use Rattle.frame.proofs.Laws.Sum.{Below, below-append, below-at, below-drop, below-take, more, none}
@@ -101,10 +99,3 @@ pub below-hear : (h : Header) (hs : List ℕ) (b : ℕ) → b < 256 → Below 25
 unfolding hear
 below-hear h [] b k g = if-all (Below 256) _ (λ t. more k none) (λ t. none)
 below-hear h (x ∷ xs) b k g = below-append g (more k none)
-
--- Nothing collected is good, whatever is heard.
-pub none-good : (f : Hearing) (head len : ℕ) → goodCollected f 0 head len ≡ true
-unfolding goodCollected goodBegun
-none-good HearsNothing head len = refl
-none-good HearsCommands head len = or-left _ refl
-none-good (HearsData w) head len = or-left _ refl

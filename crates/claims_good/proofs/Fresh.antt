@@ -9,9 +9,8 @@ use lib.ListN.{length, length-replicate, replicate}
 use Rattle.chip.specs.Run.{before}
 use Rattle.chip.specs.Step.{freshChip}
 use Rattle.chip_state.specs.Refusals.{goodPhase, goodState}
-use Rattle.claims_good.proofs.Collected.{none-good}
 use Rattle.claims_good.proofs.Core.{GoodCore, is-core}
-use Rattle.chip_state.proofs.Laws.{accepted}
+use Rattle.chip_state.proofs.Laws.{accepted, none-good}
 use Rattle.part.specs.Part.{Arrays, blockSize, described, size}
 use Rattle.claims_good.specs.Good.{Stands}
 use Rattle.claims_stars.specs.Table.{freshMemory, thePart}

@@ -12,10 +12,10 @@ use Rattle.chip.specs.Step.{Outcome, Reaction, byteIn, frameDoes, heardByte, mo
 use Rattle.chip_state.specs.Refusals.{goodBegun, goodCollected, goodCore, goodPhase, goodState}
 use Rattle.chip.specs.declared.Event.{Event}
 use Rattle.chip.specs.declared.Event.the-variants.{Byte, Gap, PowerOn}
-use Rattle.claims_good.proofs.Collected.{Holds, begins-good, below-hear, below-heard, good-begins, hear-begins, holds, none-good}
+use Rattle.claims_good.proofs.Collected.{Holds, begins-good, below-hear, below-heard, good-begins, hear-begins, holds}
 use Rattle.claims_good.proofs.Core.{GoodCore, core-is, enters, is-core}
 use Rattle.claims_good.proofs.Effects.{Keeps, command-keeps, data-keeps, stays-so}
-use Rattle.chip_state.proofs.Laws.{accepted, accepts, begun}
+use Rattle.chip_state.proofs.Laws.{accepted, accepts, begun, none-good}
 use Rattle.claims_good.specs.Good.{AllProper, Proper, Stands, aByte, aGap, aPowerOn, andEvent, verdictIn}
 use Rattle.chip_core.specs.Hearing.{hearing}
 use Rattle.chip_core.specs.Effect.{Effect, Memory}

@@ -11,11 +11,10 @@ use Rattle.chip.specs.Run.{onward, run}
 use Rattle.chip.specs.Step.{Outcome, poweredOn, reactTo, stepOf}
 use Rattle.chip.specs.declared.Event.the-variants.{Gap, PowerOn}
 use Rattle.chip_state.specs.Refusals.{goodState}
-use Rattle.claims_good.proofs.Collected.{none-good}
 use Rattle.claims_good.proofs.Core.{core-is, is-core, made-ready}
 use Rattle.claims_good.proofs.Rooms.{leaves, reactionOf}
 use Rattle.claims_good.proofs.Stays.{stays}
-use Rattle.chip_state.proofs.Laws.{accepted, accepts}
+use Rattle.chip_state.proofs.Laws.{accepted, accepts, none-good}
 use Rattle.claims_good.specs.Good.{Stands, aGap, aPowerOn}
 use Rattle.claims_noise.proofs.Noise.{NoiseLeaves, from-nothing, gap-forgets, leftCore, leftIn, noise-heard, noise-leaves, run-last}
 use Rattle.claims_noise.proofs.Rooms.{as-if, run-by}
