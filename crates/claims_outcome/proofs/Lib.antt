@@ -29,4 +29,5 @@ pub mod ReplayCapture
 pub mod ReplayDoor
 pub mod ReplayHex
 pub mod ReplayPlay
+pub mod ReplayQuiet
 pub mod ReplayRecords

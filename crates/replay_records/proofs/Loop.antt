@@ -1,5 +1,6 @@
 -- How far the loop over a capture's records has come.
 -- Assumes nothing.
+use mathlib.Core.Bool.{false, true}
 use mathlib.Core.List.{List, [], _++_, _∷_, append-nil}
 use mathlib.Core.Path.{_∙_, _≡_, ap, subst, sym}
 use Prim.Native.Nat.{_+_, _-_, _<_, _≤_, ℕ}
@@ -14,9 +15,11 @@ use Rattle.replay_capture.specs.Capture.{recordSize, recordsIn}
 use Rattle.part.specs.Part.{Arrays}
 use Rattle.chip_state.specs.declared.Chip.{Chip}
 use Rattle.chip_core.specs.Effect.{Memory}
+use Rattle.chip_core.specs.declared.Core.{Core}
 use Rattle.part.specs.declared.Part.{Part}
 use Rattle.part.specs.declared.refusal.Refusal.{Refusal}
 use Rattle.replay_play.proofs.Laws.{Fits, play-fits}
+use Rattle.replay_quiet.specs.Quiet.{chipWith}
 use Rattle.replay_records.specs.Records.{Replaying, afterRecord, nextBy, replayOf, replayedFrom, whileWhole}
 use Rattle.replay_play.specs.Play.{RecordPlaying, playOf}
 use Rattle.replay_records.specs.declared.Ended.{Ended}
@@ -233,6 +236,15 @@ replayed-turn {p} {bs} {at} {end} {x} {t} {n} {k} u q a h g e z long =
           ∙ sym (goes p (recordsIn recordSize (q .most - 1) (drop (recordEnd at (length bs)) bs)) n k (u .ended) u x z)
           ∙ record-next u q h g e;
     })
+
+-- Nothing is known before the first verdict, and after a play.
+pub never : {A : Type 0} → false ≡ true → A
+never e = absurd (let z : _≡_ {A = ℕ} 0 1 = cc in omega arith)
+
+-- A record that is not quiet is played on the chip as it was.
+pub same-held : (p : Part) (bs held old : List ℕ) (k : Core) (n : ℕ) (m : Memory) (room output : List ℕ) (u : RecordPlaying) → u ≡ playOf p bs (chipWith k held n) m room output → held ≡ old
+    → u ≡ playOf p bs (chipWith k old n) m room output
+same-held p bs held old k n m room output u e h = e ∙ ap (λ (l : List ℕ). playOf p bs (chipWith k l n) m room output) h
 
 pub replayed-end : {p : Part} {bs : List ℕ} {at : ℕ} {x t : Replaying} → ReplayedFrom p bs at x t → length bs ≤ at → x ≡ t
 unfolding replayedFrom

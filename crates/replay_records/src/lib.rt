@@ -1,14 +1,24 @@
 // Replay of a capture into a chip: its records are played one after the other, their reply frames stand in the lent output. Document 01, "Replay".
 // Reading the capture and printing the frames is the program's.
 ghost use mathlib.Core.Path.{_≡_};
+ghost use mathlib.Core.Bool.{true};
 ghost use Prim.Native.Nat.{_<_};
+ghost use lib.ListN.{length};
 ghost use Rattle.chip_core.specs.Effect.{memory};
 ghost use Rattle.replay_records.specs.Records.{replayOf, replayPart, replaying};
-ghost use Rattle.replay_records.specs.inner.Loop.{recordEnd};
+ghost use Rattle.chip_state.specs.Refusals.{verdictOn};
+ghost use Rattle.part.specs.declared.refusal.Verdict.the-variants.{Accepted};
+ghost use Rattle.replay_play.specs.Play.{playOf};
+ghost use Rattle.replay_quiet.specs.Quiet.{chipWith};
+ghost use Rattle.replay_records.specs.inner.Loop.{recordEnd, turned};
+use chip_core::Core;
 use chip_state::Chip;
+use frame::collector::Collector;
 use part::Part;
 use part::refusal::Refusal;
 use replay_play::RecordEnded;
+use replay_quiet::Lengths;
+use replay_quiet::Quiet;
 
 // How a capture ended: with its last record; at a record that is not good; before one, for want of output; or at a call that the chip refused.
 pub enum Ended {
@@ -38,6 +48,81 @@ fn record_end(at: usize, len: usize) -> usize
     at + size
 }
 
+// What a record's turn came to: how it ended, the chip's record, how many bytes are collected, and whether the next call is known to be accepted.
+struct Turned {
+    ended: RecordEnded,
+    core: Core,
+    count: usize,
+    known: bool,
+}
+
+// One record, with the collected bytes where they lie: a quiet one is settled there, any other is played on the whole chip.
+fn turn(
+    known: bool,
+    part: Part,
+    core: Core,
+    held: &mut [u8; frame::LONGEST],
+    count: usize,
+    bytes: &[u8],
+    code: &mut [u8],
+    data: &mut [u8],
+    sums: &mut [u16; 72],
+    room: &mut [u8],
+    output: &mut [u8],
+) -> Turned
+    requires { ⌜ (length (now held) ≡ 260)
+        × (known ≡ true → verdictOn part (chipWith core (now held) count) (length (now code)) (length (now «data»)) (length (now room)) ≡ Accepted) ⌝ }
+    ensures { λ r. ⌜ (turned r (now (held .exit)) (memory (now (code .exit)) (now («data» .exit)) (now (sums .exit))) (now (room .exit)) (now (output .exit))
+        ≡ playOf part (now (bytes .entry)) (chipWith core (now (held .entry)) count) (memory (now (code .entry)) (now («data» .entry)) (now (sums .entry)))
+        (now (room .entry)) (now (output .entry)))
+        × (length (now (held .exit)) ≡ 260)
+        × (r .known ≡ true
+        → verdictOn part (chipWith (r .core) (now (held .exit)) (r .count)) (length (now (code .exit))) (length (now («data» .exit))) (length (now (room .exit)))
+        ≡ Accepted) ⌝ }
+{
+    let lengths = Lengths {
+        code: code.len(),
+        data: data.len(),
+        room: room.len(),
+        output: output.len(),
+    };
+    let quiet = replay_quiet::settle(known, part, core, held, count, bytes, lengths);
+    match quiet {
+        Quiet::Settled(n) => Turned {
+            ended: RecordEnded::Played {
+                bytes: 0,
+                frames: 0,
+            },
+            core,
+            count: n,
+            known: true,
+        },
+        Quiet::NotQuiet => {
+            let before = *held;
+            let chip = Chip {
+                core,
+                collector: Collector {
+                    bytes: before,
+                    len: count,
+                },
+            };
+            let t = replay_play::play(part, chip, bytes, code, data, sums, room, output);
+            let ended = t.ended;
+            let last = t.chip;
+            let core = last.core;
+            let collector = last.collector;
+            let after = collector.bytes;
+            *held = after;
+            Turned {
+                ended,
+                core,
+                count: collector.len,
+                known: false,
+            }
+        }
+    }
+}
+
 // A capture's records one after the other, up to the first that is not good. Where the output has no room for a further record's replies, the caller goes on
 // from that record with fresh output: nothing is lost.
 pub fn replay(
@@ -53,16 +138,23 @@ pub fn replay(
     ensures { λ r. ⌜ replaying r (memory (now (code .exit)) (now («data» .exit)) (now (sums .exit))) (now (room .exit)) (now (output .exit))
         ≡ replayOf part (now (capture .entry)) chip (memory (now (code .entry)) (now («data» .entry)) (now (sums .entry))) (now (room .entry)) (now (output .entry)) ⌝ }
 {
-    let mut last = chip;
+    let mut core = chip.core;
+    let collector = chip.collector;
+    let mut held = collector.bytes;
+    let mut count = collector.len;
+    let mut known = false;
     let mut at = 0;
     let mut records = 0;
     let mut bytes = 0;
     let mut frames = 0;
     while at < capture.len() {
         let end = record_end(at, capture.len());
-        let t = replay_play::play(
+        let t = turn(
+            known,
             part,
-            last,
+            core,
+            &mut held,
+            count,
             &capture[at..end],
             code,
             data,
@@ -70,7 +162,9 @@ pub fn replay(
             room,
             &mut output[bytes..],
         );
-        last = t.chip;
+        core = t.core;
+        count = t.count;
+        known = t.known;
         let ended = t.ended;
         match ended {
             RecordEnded::Played {
@@ -88,7 +182,13 @@ pub fn replay(
                     records,
                     bytes,
                     frames,
-                    chip: last,
+                    chip: Chip {
+                        core,
+                        collector: Collector {
+                            bytes: held,
+                            len: count,
+                        },
+                    },
                 };
             }
             RecordEnded::OutputShort => {
@@ -97,7 +197,13 @@ pub fn replay(
                     records,
                     bytes,
                     frames,
-                    chip: last,
+                    chip: Chip {
+                        core,
+                        collector: Collector {
+                            bytes: held,
+                            len: count,
+                        },
+                    },
                 };
             }
             RecordEnded::Refused(refusal) => {
@@ -106,7 +212,13 @@ pub fn replay(
                     records,
                     bytes,
                     frames,
-                    chip: last,
+                    chip: Chip {
+                        core,
+                        collector: Collector {
+                            bytes: held,
+                            len: count,
+                        },
+                    },
                 };
             }
         }
@@ -116,7 +228,13 @@ pub fn replay(
         records,
         bytes,
         frames,
-        chip: last,
+        chip: Chip {
+            core,
+            collector: Collector {
+                bytes: held,
+                len: count,
+            },
+        },
     }
 }
 
