@@ -82,6 +82,73 @@ fn show(frames: &[u8], text: &mut [u8]) -> bool
     io::write_all(STDOUT_FILENO, &text[0..used])
 }
 
+// The line on standard error that says how far a long capture is: whether it stands there, whether the reply lines come to a terminal too, where it
+// would stand in their way, and the number of records at which it is written next.
+struct Progress {
+    stands: bool,
+    is_among_lines: bool,
+    next: u64,
+}
+
+// How many records go by from one number to the next.
+const PACE: u64 = 65536;
+
+// Where standard error is no terminal, the next number is one that no capture reaches: so a turn of the loop compares once, and asks nothing.
+fn no_progress() -> Progress {
+    let is_among_lines = libc::isatty(STDOUT_FILENO) == 1;
+    let mut next = u64::MAX;
+    if libc::isatty(STDERR_FILENO) == 1 {
+        next = PACE;
+    }
+    Progress {
+        stands: false,
+        is_among_lines,
+        next,
+    }
+}
+
+// The line goes over the one before it, which is never the longer one, and stays open: so the next can go over it.
+fn show_progress(progress: Progress, records: u64) -> Progress {
+    if records < progress.next {
+        return progress;
+    }
+    io::write_all(STDERR_FILENO, b"\rreplay: ");
+    io::print_decimal(STDERR_FILENO, records);
+    io::write_all(STDERR_FILENO, b" records");
+    Progress {
+        stands: true,
+        is_among_lines: progress.is_among_lines,
+        next: std::num::wrapping_add_u64(records, PACE),
+    }
+}
+
+// Goes back to the start of the line and clears it, so that what is written next stands there alone.
+fn erase(progress: Progress) -> Progress {
+    if !progress.stands {
+        return progress;
+    }
+    io::write_all(STDERR_FILENO, b"\r\x1B[K");
+    Progress {
+        stands: false,
+        is_among_lines: progress.is_among_lines,
+        next: progress.next,
+    }
+}
+
+// Makes way for reply lines, where there are any and they come to a terminal; where they go elsewhere, the line can stay.
+fn make_way(progress: Progress, reply_bytes: usize) -> Progress {
+    if progress.is_among_lines && 0 < reply_bytes {
+        return erase(progress);
+    }
+    progress
+}
+
+// A message in place of the progress.
+fn say(progress: Progress, message: &[u8]) {
+    erase(progress);
+    io::write_all(STDERR_FILENO, message);
+}
+
 // How a buffer of the capture went: on to the next; up to a record that is not good; or no further.
 enum Going {
     On,
@@ -94,23 +161,24 @@ struct Went {
     chip: Chip,
     records: usize,
     frames: usize,
+    progress: Progress,
 }
 
 // Neither a refusal nor want of output occurs: the output is long enough for the buffer's records, and then it is proved (claims_replay).
-fn going_on(ended: Ended) -> Going {
+fn going_on(ended: Ended, progress: Progress) -> Going {
     match ended {
         Ended::Whole => Going::On,
         Ended::AtBadRecord => Going::Bad,
         Ended::OutputFull => {
-            io::write_all(
-                STDERR_FILENO,
+            say(
+                progress,
                 b"replay: the output was too short, which should not occur\n",
             );
             Going::Lost
         }
         Ended::Refused(refusal) => {
-            io::write_all(
-                STDERR_FILENO,
+            say(
+                progress,
                 b"replay: a call of the chip was refused, which should not occur; refusal ",
             );
             io::print_decimal(STDERR_FILENO, refusal.number() as u64);
@@ -120,10 +188,12 @@ fn going_on(ended: Ended) -> Going {
     }
 }
 
-fn told(is_shown: bool, going: Going) -> Going {
+// Erasing leaves errno as the failed write has set it, unless it fails too, and then there is nobody to read the message.
+fn told(is_shown: bool, going: Going, progress: Progress) -> Going {
     if is_shown {
         return going;
     }
+    erase(progress);
     os::fail(b"replay: standard output");
     Going::Lost
 }
@@ -139,6 +209,7 @@ fn turn(
     room: &mut [u8],
     output: &mut [u8],
     text: &mut [u8],
+    progress: Progress,
 ) -> Went
     requires { ⌜ 1024 ≤ length (now text) ⌝ }
 {
@@ -146,8 +217,8 @@ fn turn(
     let n = played.bytes;
     let after = played.chip;
     if output.len() < n {
-        io::write_all(
-            STDERR_FILENO,
+        say(
+            progress,
             b"replay: more replies than room for them, which should not occur\n",
         );
         return Went {
@@ -155,20 +226,24 @@ fn turn(
             chip: after,
             records: 0,
             frames: 0,
+            progress,
         };
     }
+    let progress = make_way(progress, n);
     let is_shown = show(&output[0..n], text);
     let ended = played.ended;
     Went {
-        going: told(is_shown, going_on(ended)),
+        going: told(is_shown, going_on(ended, progress), progress),
         chip: after,
         records: played.records,
         frames: played.frames,
+        progress,
     }
 }
 
 // The last line, a word and a number; a message where it cannot be written.
-fn last_line(word: &[u8], n: u64) {
+fn last_line(progress: Progress, word: &[u8], n: u64) {
+    erase(progress);
     let is_begun = io::write_all(STDOUT_FILENO, word);
     io::print_decimal(STDOUT_FILENO, n);
     let is_ended = io::write_all(STDOUT_FILENO, b"\n");
@@ -200,12 +275,14 @@ fn replay(fd: i32, name: &[u8]) {
     let mut text = io::large_buffer();
     let mut records = 0u64;
     let mut frames = 0u64;
+    let mut progress = no_progress();
     let mut turns = u64::MAX;
     while 0 < turns {
         turns = turns - 1;
         let filled = fill(fd, &mut capture);
         let n = filled.n;
         if !filled.well {
+            erase(progress);
             fail_at(name);
             return;
         }
@@ -219,6 +296,7 @@ fn replay(fd: i32, name: &[u8]) {
             &mut room,
             &mut output,
             &mut text,
+            progress,
         );
         chip = went.chip;
         records = std::num::wrapping_add_u64(records, went.records as u64);
@@ -227,12 +305,13 @@ fn replay(fd: i32, name: &[u8]) {
         match going {
             Going::On => {
                 if n < 2048 {
-                    last_line(b"END ", frames);
+                    last_line(went.progress, b"END ", frames);
                     return;
                 }
+                progress = show_progress(went.progress, records);
             }
             Going::Bad => {
-                last_line(b"BAD ", records);
+                last_line(went.progress, b"BAD ", records);
                 return;
             }
             Going::Lost => {
@@ -258,6 +337,10 @@ fn help() {
     io::write_all(
         STDOUT_FILENO,
         b"A record has 8 bytes: 00 and seven bytes 00 for a gap; or 01, a count from 1 to 6, that many bytes, then 00 up to 8 bytes.\n",
+    );
+    io::write_all(
+        STDOUT_FILENO,
+        b"A long capture shows its progress on standard error where that is a terminal: the number of records played, every 65,536.\n",
     );
 }
 
