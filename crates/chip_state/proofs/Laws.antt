@@ -159,42 +159,6 @@ pub data-collected : (w : Awaited) (count head len : ℕ) → goodCollected (Hea
 unfolding goodCollected
 data-collected w count head len = refl
 
--- One byte more than header and LEN, the frame not complete yet.
-more-begun : (h : Header) (n head len : ℕ) → 2 ≤ n → n + 1 < counted len + 4 → counted len ≤ 256 → goodBegun h n head len ≡ true → goodBegun h (n + 1) head len ≡ true
-unfolding goodBegun _or_
-more-begun h n head len k s c e =
-    let z : eqb n 0 ≡ false = ne-eqb n 0 (λ q. omega arith) in
-    let f : ltb n 260 and eqb head (headerByte h) and not (full n len) ≡ true = drop-or z e in
-    let g : eqb head (headerByte h) ≡ true = and-left _ _ (and-right (ltb n 260) _ f) in
-    or-right (eqb (n + 1) 0) (and-both (lt-ltb (n + 1) 260 (omega arith)) (and-both g (ap not (full-not (n + 1) len s))))
-  where
-    drop-or : {t u : Bool} → t ≡ false → t or u ≡ true → u ≡ true
-    drop-or {t} {u} f e = sym (ap (λ (x : Bool). x or u) f) ∙ e
-
-more-collected : (f : Hearing) (n head len : ℕ) → 2 ≤ n → n + 1 < counted len + 4 → counted len ≤ 256 → goodCollected f n head len ≡ true
-    → goodCollected f (n + 1) head len ≡ true
-unfolding goodCollected
-more-collected HearsNothing n head len k s c e = absurd (let z : n ≡ 0 = eqb-true n 0 e in omega arith)
-more-collected HearsCommands n head len k s c e = more-begun Command n head len k s c e
-more-collected (HearsData w) n head len k s c e = more-begun Data n head len k s c e
-
-more-good : (p : Part) (k : Core) (n head len : ℕ) → 2 ≤ n → n + 1 < counted len + 4 → counted len ≤ 256 → goodState p k n head len ≡ true
-    → goodState p k (n + 1) head len ≡ true
-unfolding goodState
-more-good p k n head len h s c e = and-both (more-collected (hearing (k .phase)) n head len h s c (and-left _ _ e)) (and-right (goodCollected (hearing (k .phase)) n head len) _ e)
-
-pub one-more-accepted : (p : Part) (k : Core) (h : Handed) → verdictOf p k h ≡ Accepted → 2 ≤ h .count → h .count + 1 < counted (h .len) + 4 → counted (h .len) ≤ 256
-    → verdictOf p k (record { count = h .count + 1; head = h .head; len = h .len; code = h .code; «data» = h .«data»; room = h .room }) ≡ Accepted
-one-more-accepted p k h e n s c =
-    let a = accepts e in
-    accepted (record {
-      part = a .part;
-      codeLong = a .codeLong;
-      dataLong = a .dataLong;
-      state = more-good p k (h .count) (h .head) (h .len) n s c (a .state);
-      roomy = a .roomy;
-    })
-
 -- What is collected, where something is, is the front of a frame: what that gives, and what makes it so.
 pub record Front (h : Header) (n head len : ℕ) : Type 0 where
   pub within : n < 260
@@ -318,3 +282,16 @@ collected-accepted p k h n head len e g =
       state = and-both g (and-right (goodCollected (hearing (k .phase)) (h .count) (h .head) (h .len)) _ (a .state));
       roomy = a .roomy;
     })
+
+-- One byte more than header and LEN, the frame not complete yet.
+more-collected : (f : Hearing) (n head len : ℕ) → n + 1 < counted len + 4 → counted len ≤ 256 → FrontFor f n head len → goodCollected f (n + 1) head len ≡ true
+unfolding goodCollected
+more-collected f n head len s c (ofCommand x) = front-good Command (n + 1) head len (record { within = omega arith; heads = x .heads; lacks = full-not (n + 1) len s })
+more-collected f n head len s c (ofData x) = front-good Data (n + 1) head len (record { within = omega arith; heads = x .heads; lacks = full-not (n + 1) len s })
+
+pub one-more-accepted : (p : Part) (k : Core) (h : Handed) → verdictOf p k h ≡ Accepted → 2 ≤ h .count → h .count + 1 < counted (h .len) + 4 → counted (h .len) ≤ 256
+    → verdictOf p k (record { count = h .count + 1; head = h .head; len = h .len; code = h .code; «data» = h .«data»; room = h .room }) ≡ Accepted
+one-more-accepted p k h e n s c =
+    let f = hearing (k .phase) in
+    let x = front-for f (h .count) (h .head) (h .len) (omega arith) (state-collected p k (h .count) (h .head) (h .len) f (accepts e .state) refl) in
+    collected-accepted p k h (h .count + 1) (h .head) (h .len) e (more-collected f (h .count) (h .head) (h .len) s c x)

@@ -24,8 +24,8 @@ use Rattle.replay_quiet.specs.declared.Quiet.the-variants.{NotQuiet, Set
 use Rattle.words.specs.Words.{_and_, _or_}
 
 -- A chip by its record, its collector's bytes and their count.
-abbrev pub chipWith : Core → List ℕ → ℕ → Chip
-chipWith k held count = record { core = k; collector = collecting held count }
+abbrev pub chipHeld : Core → List ℕ → ℕ → Chip
+chipHeld k held count = record { core = k; collector = collecting held count }
 
 -- hs is what has been heard, bs the record's bytes.
 unfoldable pub isQuiet : Record → Phase → List ℕ → List ℕ → Bool

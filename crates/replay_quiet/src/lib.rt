@@ -6,7 +6,7 @@ ghost use mathlib.Core.List.{_++_};
 ghost use Prim.Native.Nat.{_≤_};
 ghost use lib.ListN.{getD, length, take};
 ghost use Rattle.chip_state.specs.Refusals.{goodHeard};
-ghost use Rattle.replay_quiet.specs.Quiet.{acceptedIn, chipWith, settleOf, settling};
+ghost use Rattle.replay_quiet.specs.Quiet.{acceptedIn, chipHeld, settleOf, settling};
 use chip_core::Core;
 use chip_core::Phase;
 use chip_state::Handed;
@@ -63,7 +63,7 @@ fn is_accepted(
     lengths: Lengths,
 ) -> bool
     requires { ⌜ length (now held) ≡ 260 ⌝ }
-    ensures { λ r. ⌜ r ≡ acceptedIn known part (chipWith core (now (held .entry)) count) lengths ⌝ }
+    ensures { λ r. ⌜ r ≡ acceptedIn known part (chipHeld core (now (held .entry)) count) lengths ⌝ }
 {
     if known {
         return true;
@@ -94,7 +94,7 @@ pub fn settle(
     bytes: &[u8],
     lengths: Lengths,
 ) -> Quiet
-    ensures { λ r. ⌜ settling r (now (held .exit)) ≡ settleOf known part (chipWith core (now (held .entry)) count) (now (bytes .entry)) lengths ⌝ }
+    ensures { λ r. ⌜ settling r (now (held .exit)) ≡ settleOf known part (chipHeld core (now (held .entry)) count) (now (bytes .entry)) lengths ⌝ }
 {
     if lengths.output < 192 {
         return Quiet::NotQuiet;

@@ -19,7 +19,7 @@ use Rattle.chip_core.specs.declared.Core.{Core}
 use Rattle.part.specs.declared.Part.{Part}
 use Rattle.part.specs.declared.refusal.Refusal.{Refusal}
 use Rattle.replay_play.proofs.Laws.{Fits, play-fits}
-use Rattle.replay_quiet.specs.Quiet.{chipWith}
+use Rattle.replay_quiet.specs.Quiet.{chipHeld}
 use Rattle.replay_records.specs.Records.{Replaying, afterRecord, nextBy, replayOf, replayedFrom, whileWhole}
 use Rattle.replay_play.specs.Play.{RecordPlaying, playOf}
 use Rattle.replay_records.specs.declared.Ended.{Ended}
@@ -242,9 +242,9 @@ pub never : {A : Type 0} → false ≡ true → A
 never e = absurd (let z : _≡_ {A = ℕ} 0 1 = cc in omega arith)
 
 -- A record that is not quiet is played on the chip as it was.
-pub same-held : (p : Part) (bs held old : List ℕ) (k : Core) (n : ℕ) (m : Memory) (room output : List ℕ) (u : RecordPlaying) → u ≡ playOf p bs (chipWith k held n) m room output → held ≡ old
-    → u ≡ playOf p bs (chipWith k old n) m room output
-same-held p bs held old k n m room output u e h = e ∙ ap (λ (l : List ℕ). playOf p bs (chipWith k l n) m room output) h
+pub same-held : (p : Part) (bs held old : List ℕ) (k : Core) (n : ℕ) (m : Memory) (room output : List ℕ) (u : RecordPlaying) → u ≡ playOf p bs (chipHeld k held n) m room output → held ≡ old
+    → u ≡ playOf p bs (chipHeld k old n) m room output
+same-held p bs held old k n m room output u e h = e ∙ ap (λ (l : List ℕ). playOf p bs (chipHeld k l n) m room output) h
 
 pub replayed-end : {p : Part} {bs : List ℕ} {at : ℕ} {x t : Replaying} → ReplayedFrom p bs at x t → length bs ≤ at → x ≡ t
 unfolding replayedFrom

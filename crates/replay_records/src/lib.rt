@@ -9,8 +9,8 @@ ghost use Rattle.replay_records.specs.Records.{replayOf, replayPart, rep
 ghost use Rattle.chip_state.specs.Refusals.{verdictOn};
 ghost use Rattle.part.specs.declared.refusal.Verdict.the-variants.{Accepted};
 ghost use Rattle.replay_play.specs.Play.{playOf};
-ghost use Rattle.replay_quiet.specs.Quiet.{chipWith};
-ghost use Rattle.replay_records.specs.inner.Loop.{recordEnd, turned};
+ghost use Rattle.replay_quiet.specs.Quiet.{chipHeld};
+ghost use Rattle.replay_records.specs.inner.Loop.{recordEnd, turnLeft};
 use chip_core::Core;
 use chip_state::Chip;
 use frame::collector::Collector;
@@ -49,7 +49,7 @@ fn record_end(at: usize, len: usize) -> usize
 }
 
 // What a record's turn came to: how it ended, the chip's record, how many bytes are collected, and whether the next call is known to be accepted.
-struct Turned {
+struct RecordTurn {
     ended: RecordEnded,
     core: Core,
     count: usize,
@@ -69,15 +69,15 @@ fn turn(
     sums: &mut [u16; 72],
     room: &mut [u8],
     output: &mut [u8],
-) -> Turned
+) -> RecordTurn
     requires { ⌜ (length (now held) ≡ 260)
-        × (known ≡ true → verdictOn part (chipWith core (now held) count) (length (now code)) (length (now «data»)) (length (now room)) ≡ Accepted) ⌝ }
-    ensures { λ r. ⌜ (turned r (now (held .exit)) (memory (now (code .exit)) (now («data» .exit)) (now (sums .exit))) (now (room .exit)) (now (output .exit))
-        ≡ playOf part (now (bytes .entry)) (chipWith core (now (held .entry)) count) (memory (now (code .entry)) (now («data» .entry)) (now (sums .entry)))
+        × (known ≡ true → verdictOn part (chipHeld core (now held) count) (length (now code)) (length (now «data»)) (length (now room)) ≡ Accepted) ⌝ }
+    ensures { λ r. ⌜ (turnLeft r (now (held .exit)) (memory (now (code .exit)) (now («data» .exit)) (now (sums .exit))) (now (room .exit)) (now (output .exit))
+        ≡ playOf part (now (bytes .entry)) (chipHeld core (now (held .entry)) count) (memory (now (code .entry)) (now («data» .entry)) (now (sums .entry)))
         (now (room .entry)) (now (output .entry)))
         × (length (now (held .exit)) ≡ 260)
         × (r .known ≡ true
-        → verdictOn part (chipWith (r .core) (now (held .exit)) (r .count)) (length (now (code .exit))) (length (now («data» .exit))) (length (now (room .exit)))
+        → verdictOn part (chipHeld (r .core) (now (held .exit)) (r .count)) (length (now (code .exit))) (length (now («data» .exit))) (length (now (room .exit)))
         ≡ Accepted) ⌝ }
 {
     let lengths = Lengths {
@@ -88,7 +88,7 @@ fn turn(
     };
     let quiet = replay_quiet::settle(known, part, core, held, count, bytes, lengths);
     match quiet {
-        Quiet::Settled(n) => Turned {
+        Quiet::Settled(n) => RecordTurn {
             ended: RecordEnded::Played {
                 bytes: 0,
                 frames: 0,
@@ -113,7 +113,7 @@ fn turn(
             let collector = last.collector;
             let after = collector.bytes;
             *held = after;
-            Turned {
+            RecordTurn {
                 ended,
                 core,
                 count: collector.len,

@@ -10,7 +10,7 @@ use Rattle.chip.proofs.Adding.{verdictAt}
 use Rattle.part.specs.Part.{Arrays}
 use Rattle.part.specs.declared.refusal.Verdict.the-variants.{Accepted}
 use Rattle.chip_core.specs.Effect.{memory}
-use Rattle.replay_quiet.specs.Quiet.{chipWith}
+use Rattle.replay_quiet.specs.Quiet.{chipHeld}
 use Rattle.replay_records.proofs.Loop.{ReplayedFrom, end-after, end-within, never, output-kept, replayed-bad, replayed-end, replayed-full, replayed-refused, replayed-start, replayed-turn, turn-lies}
 use Rattle.replay_records.specs.Records.{replayOf}
 use Rattle.replay_records.specs.declared.Ended.the-variants.{Whole}
@@ -26,10 +26,10 @@ Inv-loop part capture code₀ data₀ sums₀ room₀ output₀ core₀ held₀ 
     × (length output₀ < 2 ^ 64)
     × Arrays part
     × (length held ≡ 260)
-    × (known ≡ true → verdictAt part (chipWith core held count) (memory code «data» sums) room ≡ Accepted)
+    × (known ≡ true → verdictAt part (chipHeld core held count) (memory code «data» sums) room ≡ Accepted)
     × ReplayedFrom part capture at
-    (record { ended = Whole; records = records; bytes = bytes; frames = frames; chip = chipWith core held count; memory = memory code «data» sums; room = room; output = output })
-    (replayOf part capture (chipWith core₀ held₀ count₀) (memory code₀ data₀ sums₀) room₀ output₀)
+    (record { ended = Whole; records = records; bytes = bytes; frames = frames; chip = chipHeld core held count; memory = memory code «data» sums; room = room; output = output })
+    (replayOf part capture (chipHeld core₀ held₀ count₀) (memory code₀ data₀ sums₀) room₀ output₀)
 
 abbrev μ-loop : tie.MeasureT-loop
 μ-loop part capture code₀ data₀ sums₀ room₀ output₀ core₀ held₀ count₀ known₀ at₀ records₀ bytes₀ frames₀ code «data» sums room output core held count known at records bytes frames = length capture - at

@@ -5,12 +5,12 @@ use lib.Dec.{ltb}
 use Rattle.chip_core.specs.Effect.{Memory}
 use Rattle.replay_capture.specs.Capture.{recordSize}
 use Rattle.replay_play.specs.Play.{RecordPlaying}
-use Rattle.replay_quiet.specs.Quiet.{chipWith}
-use Rattle.replay_records.specs.declared.Turned.{Turned}
+use Rattle.replay_quiet.specs.Quiet.{chipHeld}
+use Rattle.replay_records.specs.declared.RecordTurn.{RecordTurn}
 use Rattle.words.specs.Words.{if_then_else_}
 
 unfoldable pub recordEnd : ℕ → ℕ → ℕ
 recordEnd at len = if ltb (len - at) recordSize then len else at + recordSize
 
-abbrev pub turned : Turned → List ℕ → Memory → List ℕ → List ℕ → RecordPlaying
-turned t held m room output = record { ended = t .ended; chip = chipWith (t .core) held (t .count); memory = m; room = room; output = output }
+abbrev pub turnLeft : RecordTurn → List ℕ → Memory → List ℕ → List ℕ → RecordPlaying
+turnLeft t held m room output = record { ended = t .ended; chip = chipHeld (t .core) held (t .count); memory = m; room = room; output = output }
