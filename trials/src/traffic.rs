@@ -6,7 +6,7 @@ use twin::chip::{BLOCK_ERASE, PROGRAM, RATE_SET, VERIFY};
 use twin::frame::{LAST_FOOTER, MORE_FOOTER};
 use twin::part::Area;
 use twin::random::{command_frame, data_frame, range_body};
-use twin::replay::{replay_part, RECORD};
+use twin::replay::{bytes_record, replay_part, RECORD};
 
 /// What a page is written with, in no round, block or place the same.
 pub fn page(round: usize, block: usize, number: usize) -> Vec<u8> {
@@ -76,13 +76,7 @@ pub fn capture(frames: impl Iterator<Item = Vec<u8>>, carried: usize, records: u
 
 fn recorded(frame: &[u8], carried: usize) -> Vec<[u8; RECORD]> {
     let mut records = vec![[0; RECORD]];
-    for part in frame.chunks(carried) {
-        let mut record = [0; RECORD];
-        record[0] = 0x01;
-        record[1] = part.len() as u8;
-        record[2..2 + part.len()].copy_from_slice(part);
-        records.push(record);
-    }
+    records.extend(frame.chunks(carried).map(bytes_record));
     records
 }
 

@@ -8,7 +8,7 @@ use crate::chip::{
 };
 use crate::frame::{write, COMMAND_HEADER, DATA_HEADER, LAST_FOOTER, MORE_FOOTER};
 use crate::part::Area;
-use crate::replay::{replay_part, split_frames, CARRIED, RECORD};
+use crate::replay::{bytes_record, replay_part, split_frames, CARRIED, RECORD};
 
 /// Splitmix64: small, without state beyond one word, and good enough to mix choices.
 pub struct Generator(u64);
@@ -497,11 +497,7 @@ fn push_bytes(records: &mut Vec<u8>, carried: &mut Vec<u8>) {
     if carried.is_empty() {
         return;
     }
-    let mut record = [0; RECORD];
-    record[0] = 0x01;
-    record[1] = carried.len() as u8;
-    record[2..2 + carried.len()].copy_from_slice(carried);
-    records.extend_from_slice(&record);
+    records.extend_from_slice(&bytes_record(carried));
     carried.clear();
 }
 

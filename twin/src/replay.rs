@@ -56,6 +56,15 @@ pub fn judge_record(record: &[u8; RECORD]) -> Option<Record> {
     }
 }
 
+/// The record that carries these bytes, one to six.
+pub fn bytes_record(carried: &[u8]) -> [u8; RECORD] {
+    let mut record = [0; RECORD];
+    record[0] = BYTES;
+    record[1] = carried.len() as u8;
+    record[2..2 + carried.len()].copy_from_slice(carried);
+    record
+}
+
 /// The chip's whole answer to one event.
 #[derive(Clone, Debug, PartialEq, Eq)]
 pub struct Reply {

@@ -9,22 +9,15 @@ use twin::chip::{Event, Phase};
 use twin::part::Part;
 use twin::random::{random_capture, Tally};
 use twin::replay::{
-    events, judge_record, replay, replay_text, split_frames, Outcome, Player, RECORD,
+    bytes_record, events, judge_record, replay, replay_text, split_frames, Outcome, Player,
+    CARRIED, RECORD,
 };
 
 const CAPTURES: u64 = 2_000;
 
 /// Bytes in full records of six, as many as it takes.
 fn records(bytes: &[u8]) -> Vec<u8> {
-    let mut all = Vec::new();
-    for chunk in bytes.chunks(6) {
-        let mut record = [0; RECORD];
-        record[0] = 1;
-        record[1] = chunk.len() as u8;
-        record[2..2 + chunk.len()].copy_from_slice(chunk);
-        all.extend(record);
-    }
-    all
+    bytes.chunks(CARRIED).flat_map(bytes_record).collect()
 }
 
 fn setup() -> Vec<u8> {
