@@ -4,11 +4,12 @@ use mathlib.Core.Bool.{Bool, false, true}
 use mathlib.Core.List.{List, [], _∷_}
 use mathlib.Core.Path.{_∙_, _≡_, ap, refl, sym}
 use Prim.Native.Nat.{_+_, _<_, _≤_, ℕ}
+use native.Mathlib.Decide.{decLt}
 use native.Mathlib.Omega.{arith}
 use lib.ListN.{getD, length}
 use lib.Dec.{leb}
 use borrow.Author.Tests.{lt-leb}
-use Rattle.chip_state.proofs.Laws.{Begun, accepts, begun, command-collected, data-collected, none-collected, one-more-accepted, state-collected}
+use Rattle.chip_state.proofs.Laws.{Begun, accepts, begun, command-collected, data-collected, good-within, none-collected, one-more-accepted, state-collected}
 use Rattle.chip.proofs.Settling.{byte-accepted, hears-settles, same-event}
 use Rattle.chip.specs.Run.{before}
 use Rattle.chip.specs.Step.{stepOf}
@@ -22,10 +23,10 @@ use Rattle.chip_core.specs.Effect.{Memory}
 use Rattle.chip_core.specs.Hearing.{hearing}
 use Rattle.chip_core.specs.declared.Hearing.{Hearing}
 use Rattle.chip_core.specs.declared.Hearing.the-variants.{HearsCommands, HearsData, HearsNothing}
-use Rattle.frame.proofs.Laws.Collector.{added-before, added-byte, added-count}
+use Rattle.frame.proofs.Laws.Collector.{add-laid, added-before, added-byte, added-count, byte-begins}
 use Rattle.frame.proofs.Laws.Frame.{counted-some, lacks}
 use Rattle.frame.specs.Collector.{added, byteOf}
-use Rattle.frame.specs.Frame.{counted, lackingOf}
+use Rattle.frame.specs.Frame.{counted, headerByte, lackingOf}
 use Rattle.frame.specs.declared.Header.{Header}
 use Rattle.frame.specs.declared.Header.the-variants.{Command, Data}
 use Rattle.frame.specs.declared.collector.Collector.{Collector}
@@ -39,18 +40,31 @@ abbrev pub verdictAt : Part → Chip → Memory → List ℕ → Verdict
 verdictAt p c m room =
     verdictOn p c (length (m .flash .codeFlash)) (length (m .flash .dataFlash)) (length room)
 
--- A byte that is only added: the way of such a byte, in the phase that a good state is in.
-record HeardAs (f : Hearing) (c : Collector) : Type 0 where
+-- The byte opens a frame that is awaited.
+abbrev pub Opens : Hearing → ℕ → Type 0
+Opens HearsNothing b = ⊥
+Opens HearsCommands b = b ≡ headerByte Command
+Opens (HearsData w) b = b ≡ headerByte Data
+
+pub adds-byte : (c : Collector) (h : Header) (b : ℕ) → length (c .bytes) ≡ 260 → Begun c → (c .len ≡ 0 → b ≡ headerByte h) → added c (b ∷ []) ≡ byteOf c h b
+adds-byte c h b l g o = go (decLt (c .len) 1)
+  where
+    go : Dec (c .len < 1) → added c (b ∷ []) ≡ byteOf c h b
+    go (yes k) = let z : c .len ≡ 0 = omega arith in sym (add-laid c b l (omega arith)) ∙ byte-begins c h b z l (o z)
+    go (no k) = added-byte c h b (λ z. omega arith) l (g .within) (g .lacks)
+
+-- A byte that is only added: its way, in the phase that a good state is in.
+record HeardAs (f : Hearing) (c : Collector) (b : ℕ) : Type 0 where
   header : Header
   way : wayOf f (c .len) (getD (c .bytes) 1 0) ≡ Hears header
-  begins : Begun c
+  adds : added c (b ∷ []) ≡ byteOf c header b
 
-heard-as : (f : Hearing) (c : Collector) → length (c .bytes) ≡ 260 → 1 ≤ c .len → completesAt (c .len) (getD (c .bytes) 1 0) ≡ false
-    → goodCollected f (c .len) (getD (c .bytes) 0 0) (getD (c .bytes) 1 0) ≡ true → HeardAs f c
+heard-as : (f : Hearing) (c : Collector) (b : ℕ) → length (c .bytes) ≡ 260 → (c .len ≡ 0 → Opens f b) → completesAt (c .len) (getD (c .bytes) 1 0) ≡ false
+    → goodCollected f (c .len) (getD (c .bytes) 0 0) (getD (c .bytes) 1 0) ≡ true → HeardAs f c b
 unfolding wayOf wayOn if_then_else_
-heard-as HearsNothing c l h s e = absurd (let z : c .len ≡ 0 = none-collected _ _ _ e in omega arith)
-heard-as HearsCommands c l h s e = record { header = Command; way = simp s; begins = begun Command c l (sym (command-collected _ _ _) ∙ e) }
-heard-as (HearsData w) c l h s e = record { header = Data; way = simp s; begins = begun Data c l (sym (data-collected w _ _ _) ∙ e) }
+heard-as HearsNothing c b l o s e = absurd (o (none-collected _ _ _ e))
+heard-as HearsCommands c b l o s e = record { header = Command; way = simp s; adds = adds-byte c Command b l (begun Command c l (sym (command-collected _ _ _) ∙ e)) o }
+heard-as (HearsData w) c b l o s e = record { header = Data; way = simp s; adds = adds-byte c Data b l (begun Data c l (sym (data-collected w _ _ _) ∙ e)) o }
 
 not-last : (n len : ℕ) → n < counted len + 3 → completesAt n len ≡ false
 unfolding completesAt _and_
@@ -63,31 +77,30 @@ not-last n len s = go (leb 2 n)
 abbrev pub after : Chip → ℕ → Chip
 after c b = record { core = c .core; collector = added (c .collector) (b ∷ []) }
 
-module _ (p : Part) (c : Chip) (m : Memory) (room : List ℕ) (places : length (c .collector .bytes) ≡ 260) (accepted : verdictAt p c m room ≡ Accepted)
-    (some : 1 ≤ c .collector .len) (short : completesAt (c .collector .len) (getD (c .collector .bytes) 1 0) ≡ false) where
-  heard-so : HeardAs (hearing (c .core .phase)) (c .collector)
-  heard-so = heard-as (hearing (c .core .phase)) (c .collector) places some short (state-collected p (c .core) _ _ _ (hearing (c .core .phase)) (accepts accepted .state) refl)
+-- What is collected in a state that is accepted.
+pub collected-good : (p : Part) (c : Chip) (m : Memory) (room : List ℕ) → verdictAt p c m room ≡ Accepted
+    → goodCollected (hearing (c .core .phase)) (c .collector .len) (getD (c .collector .bytes) 0 0) (getD (c .collector .bytes) 1 0) ≡ true
+collected-good p c m room a = state-collected p (c .core) _ _ _ (hearing (c .core .phase)) (accepts a .state) refl
 
-  only-added : (b : ℕ) → before (after c b) m room ≡ stepOf p c (Byte b) m room
-  only-added b =
-      let w = heard-so in
-      let adds : added (c .collector) (b ∷ []) ≡ byteOf (c .collector) (w .header) b =
-      added-byte (c .collector) (w .header) b (λ z. omega arith) places (w .begins .within) (w .begins .lacks) in
-      byte-accepted (before (after c b) m room) p c b m room accepted
-      (hears-settles p (c .collector) (added (c .collector) (b ∷ [])) (c .core) (w .header) b m room places (accepts accepted) (w .way) adds)
+pub only-added : (p : Part) (c : Chip) (m : Memory) (room : List ℕ) (b : ℕ) → length (c .collector .bytes) ≡ 260 → verdictAt p c m room ≡ Accepted
+    → (c .collector .len ≡ 0 → Opens (hearing (c .core .phase)) b) → completesAt (c .collector .len) (getD (c .collector .bytes) 1 0) ≡ false
+    → before (after c b) m room ≡ stepOf p c (Byte b) m room
+only-added p c m room b l a o s =
+    let w = heard-as (hearing (c .core .phase)) (c .collector) b l o s (collected-good p c m room a) in
+    byte-accepted (before (after c b) m room) p c b m room a (hears-settles p (c .collector) (added (c .collector) (b ∷ [])) (c .core) (w .header) b m room l (accepts a) (w .way) (w .adds))
 
 -- The LEN byte is one: it comes after the header, and no frame is complete with it.
 pub len-heard : (p : Part) (c : Chip) (m : Memory) (room : List ℕ) → length (c .collector .bytes) ≡ 260 → verdictAt p c m room ≡ Accepted → c .collector .len ≡ 1
     → (b : ℕ) → before (after c b) m room ≡ stepOf p c (Byte b) m room
-len-heard p c m room l a e b = only-added p c m room l a (omega arith) (not-last _ _ (omega (arith, counted-some (getD (c .collector .bytes) 1 0)))) b
+len-heard p c m room l a e b = only-added p c m room b l a (λ z. absurd (omega arith)) (not-last _ _ (omega (arith, counted-some (getD (c .collector .bytes) 1 0))))
 
 module _ (p : Part) (c : Chip) (m : Memory) (room : List ℕ) (places : length (c .collector .bytes) ≡ 260) (accepted : verdictAt p c m room ≡ Accepted)
     (begun : 2 ≤ c .collector .len) (short : c .collector .len < counted (getD (c .collector .bytes) 1 0) + 3) where
   within : c .collector .len < 260
-  within = heard-so p c m room places accepted (omega arith) (not-last _ _ short) .begins .within
+  within = good-within _ _ _ _ (collected-good p c m room accepted)
 
   pub byte-heard : (b : ℕ) → before (after c b) m room ≡ stepOf p c (Byte b) m room
-  byte-heard b = only-added p c m room places accepted (omega arith) (not-last _ _ short) b
+  byte-heard b = only-added p c m room b places accepted (λ z. absurd (omega arith)) (not-last _ _ short)
 
   pub added-at : (i b : ℕ) → i < 2 → getD (added (c .collector) (b ∷ []) .bytes) i 0 ≡ getD (c .collector .bytes) i 0
   added-at i b h = added-before (c .collector) (b ∷ []) i places (omega (arith, within)) (omega arith)

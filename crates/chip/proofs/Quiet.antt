@@ -4,26 +4,23 @@
 use mathlib.Core.Bool.{false, true}
 use mathlib.Core.List.{List, [], _++_, _∷_}
 use mathlib.Core.Path.{_∙_, _≡_, ap, refl, sym}
-use Prim.Native.Nat.{_+_, _<_, _≤_, ℕ}
-use native.Mathlib.Decide.{decLt}
+use Prim.Native.Nat.{_+_, _≤_, ℕ}
 use native.Mathlib.Omega.{arith}
 use lib.ListN.{getD, length, length-append}
-use Rattle.chip.proofs.Adding.{after, verdictAt}
-use Rattle.chip.proofs.Settling.{at-gap, byte-accepted, completes-is, emptied, hears-settles, step-accepted}
+use Rattle.chip.proofs.Adding.{Opens, adds-byte, after, collected-good, only-added, verdictAt}
+use Rattle.chip.proofs.Settling.{at-gap, completes-is, emptied, step-accepted}
 use Rattle.chip.specs.Run.{before}
-use Rattle.chip.specs.Step.{Outcome, reaction, silent, stepOf}
+use Rattle.chip.specs.Step.{reaction, silent, stepOf}
 use Rattle.chip.specs.declared.Event.the-variants.{Byte, Gap}
-use Rattle.chip.specs.declared.events.Way.the-variants.{Hears}
-use Rattle.chip.specs.inner.Ways.{completesAt, wayOf, wayOn}
+use Rattle.chip.specs.inner.Ways.{completesAt}
 use Rattle.chip_core.specs.Effect.{Memory}
 use Rattle.chip_core.specs.Hearing.{hearing}
 use Rattle.chip_core.specs.declared.Hearing.{Hearing}
-use Rattle.chip_core.specs.declared.Hearing.the-variants.{HearsCommands, HearsData}
-use Rattle.chip_state.proofs.Laws.{Begun, Front, FrontFor, accepts, begun, collected-accepted, command-collected, data-collected, front-for, good-within, heard-good, none-good, state-collected}
+use Rattle.chip_state.proofs.Laws.{Begun, FrontFor, accepts, begun, collected-accepted, command-collected, data-collected, front-for, heard-good, none-good}
 use Rattle.chip_state.proofs.Laws as state
 use Rattle.chip_state.specs.Refusals.{goodCollected, goodHeard}
 use Rattle.chip_state.specs.declared.Chip.{Chip}
-use Rattle.frame.proofs.Laws.Collector.{added-count, added-holds, added-places, byte-added, byte-begins, complete-is, dropped-leaves, heard-byte, heard-holding, heard-none, stored-holds}
+use Rattle.frame.proofs.Laws.Collector.{added-count, added-holds, added-places, complete-is, dropped-leaves, heard-byte, heard-holding, heard-none}
 use Rattle.frame.specs.Collector.{added, byteOf, dropped, hear, heard, holding}
 use Rattle.frame.specs.Frame.{complete, headerByte}
 use Rattle.frame.specs.declared.Header.{Header}
@@ -31,7 +28,6 @@ use Rattle.frame.specs.declared.Header.the-variants.{Command, Data}
 use Rattle.frame.specs.declared.collector.Collector.{Collector}
 use Rattle.part.specs.declared.Part.{Part}
 use Rattle.part.specs.declared.refusal.Verdict.the-variants.{Accepted}
-use Rattle.words.specs.Words.{if_then_else_}
 
 -- A chip with something else collected.
 abbrev pub collects : Chip → Collector → Chip
@@ -47,51 +43,33 @@ gap-drops p c m room a =
 pub gap-accepted : (p : Part) (c : Chip) (m : Memory) (room : List ℕ) → verdictAt p c m room ≡ Accepted → verdictAt p (collects c (dropped (c .collector))) m room ≡ Accepted
 gap-accepted p c m room a = rw (dropped-leaves (c .collector)) (collected-accepted p (c .core) _ 0 _ _ a (none-good (hearing (c .core .phase)) _ _))
 
--- A byte that leaves the front of a frame: it is added to what was heard, and completes nothing.
-module _ (c : Collector) (h : Header) (b : ℕ) (places : length (c .bytes) ≡ 260) (stands : Begun c) (first : c .len ≡ 0 → b ≡ headerByte h) where
-  adds-byte : holding c (heard c ++ b ∷ []) ≡ byteOf c h b
-  adds-byte = go (decLt (c .len) 1)
-    where
-      go : Dec (c .len < 1) → holding c (heard c ++ b ∷ []) ≡ byteOf c h b
-      go (yes k) = let z : c .len ≡ 0 = omega arith in sym (stored-holds c b (omega arith)) ∙ byte-begins c h b z places (first z)
-      go (no k) = sym (stored-holds c b (omega (arith, stands .within))) ∙ byte-added c h b (λ z. omega arith) places (stands .within) (stands .lacks)
+-- A byte that leaves the front of a frame: it completes nothing, and where nothing is collected it opens the frame.
+completes-none : (c : Collector) (h : Header) (b : ℕ) → length (c .bytes) ≡ 260 → Begun c → (c .len ≡ 0 → b ≡ headerByte h) → complete (heard c ++ b ∷ []) ≡ false
+    → completesAt (c .len) (getD (c .bytes) 1 0) ≡ false
+completes-none c h b l g o e =
+    let d : byteOf c h b ≡ holding c (heard c ++ b ∷ []) = sym (adds-byte c h b l g o) ∙ added-holds c (b ∷ []) (omega (arith, g .within)) in
+    let hs : hear h (heard c) b ≡ heard c ++ b ∷ [] = sym (heard-byte c h b (g .lacks)) ∙ ap heard d ∙ heard-holding c (heard c ++ b ∷ []) in
+    sym (completes-is c h b l g) ∙ ap complete hs ∙ e
 
-  hears-byte : hear h (heard c) b ≡ heard c ++ b ∷ []
-  hears-byte = sym (heard-byte c h b (stands .lacks)) ∙ ap heard (sym adds-byte) ∙ heard-holding c (heard c ++ b ∷ [])
+opens-with : (c : Collector) (h : Header) (b : ℕ) → getD (heard c ++ b ∷ []) 0 0 ≡ headerByte h → c .len ≡ 0 → b ≡ headerByte h
+opens-with c h b e z = sym (ap (λ (hs : List ℕ). getD (hs ++ b ∷ []) 0 0) (heard-none c z)) ∙ e
 
-  completes-none : complete (heard c ++ b ∷ []) ≡ false → completesAt (c .len) (getD (c .bytes) 1 0) ≡ false
-  completes-none e = sym (completes-is c h b places stands) ∙ ap complete hears-byte ∙ e
-
-first-is : (c : Collector) (h : Header) (b : ℕ) → getD (heard c ++ b ∷ []) 0 0 ≡ headerByte h → c .len ≡ 0 → b ≡ headerByte h
-first-is c h b e z = sym (ap (λ (hs : List ℕ). getD (hs ++ b ∷ []) 0 0) (heard-none c z)) ∙ e
-
-record HearsFront (f : Hearing) (c : Collector) (b : ℕ) : Type 0 where
-  header : Header
-  way : wayOf f (c .len) (getD (c .bytes) 1 0) ≡ Hears header
-  adds : holding c (heard c ++ b ∷ []) ≡ byteOf c header b
-
-hears-front : (f : Hearing) (c : Collector) (b : ℕ) → length (c .bytes) ≡ 260 → goodCollected f (c .len) (getD (c .bytes) 0 0) (getD (c .bytes) 1 0) ≡ true
-    → FrontFor f (length (heard c ++ b ∷ [])) (getD (heard c ++ b ∷ []) 0 0) (getD (heard c ++ b ∷ []) 1 0) → HearsFront f c b
-unfolding wayOf wayOn if_then_else_
-hears-front f c b l g (state.ofCommand x) =
-    let s : Begun c = begun Command c l (sym (command-collected _ _ _) ∙ g) in
-    let e : c .len ≡ 0 → b ≡ headerByte Command = first-is c Command b (x .heads) in
-    let n = completes-none c Command b l s e (complete-is _ ∙ x .lacks) in
-    record { header = Command; way = simp n; adds = adds-byte c Command b l s e }
-hears-front f c b l g (state.ofData {w} x) =
-    let s : Begun c = begun Data c l (sym (data-collected w _ _ _) ∙ g) in
-    let e : c .len ≡ 0 → b ≡ headerByte Data = first-is c Data b (x .heads) in
-    let n = completes-none c Data b l s e (complete-is _ ∙ x .lacks) in
-    record { header = Data; way = simp n; adds = adds-byte c Data b l s e }
+front-adds : (f : Hearing) (c : Collector) (b : ℕ) → length (c .bytes) ≡ 260 → goodCollected f (c .len) (getD (c .bytes) 0 0) (getD (c .bytes) 1 0) ≡ true
+    → FrontFor f (length (heard c ++ b ∷ [])) (getD (heard c ++ b ∷ []) 0 0) (getD (heard c ++ b ∷ []) 1 0)
+    → (completesAt (c .len) (getD (c .bytes) 1 0) ≡ false) × (c .len ≡ 0 → Opens f b)
+front-adds f c b l g (state.ofCommand x) =
+    let o = opens-with c Command b (x .heads) in
+    (completes-none c Command b l (begun Command c l (sym (command-collected _ _ _) ∙ g)) o (complete-is _ ∙ x .lacks), o)
+front-adds f c b l g (state.ofData {w} x) =
+    let o = opens-with c Data b (x .heads) in
+    (completes-none c Data b l (begun Data c l (sym (data-collected w _ _ _) ∙ g)) o (complete-is _ ∙ x .lacks), o)
 
 pub byte-fronts : (p : Part) (c : Chip) (m : Memory) (room : List ℕ) (b : ℕ) → length (c .collector .bytes) ≡ 260 → verdictAt p c m room ≡ Accepted
     → goodHeard (c .core .phase) (heard (c .collector) ++ b ∷ []) ≡ true → before (after c b) m room ≡ stepOf p c (Byte b) m room
 byte-fronts p c m room b l a g =
     let f = hearing (c .core .phase) in
-    let s = state-collected p (c .core) _ _ _ f (accepts a .state) refl in
-    let x = hears-front f (c .collector) b l s (front-for f _ _ _ (rw length-append (omega arith)) g) in
-    byte-accepted _ p c b m room a
-    (hears-settles p (c .collector) _ (c .core) (x .header) b m room l (accepts a) (x .way) (added-holds (c .collector) (b ∷ []) (omega (arith, good-within f _ _ _ s)) ∙ x .adds))
+    let x = front-adds f (c .collector) b l (collected-good p c m room a) (front-for f _ _ _ (rw length-append (omega arith)) g) in
+    only-added p c m room b l a (x .1) (x .0)
 
 pub fronts-accepted : (p : Part) (c : Chip) (m : Memory) (room bs : List ℕ) → length (c .collector .bytes) ≡ 260 → c .collector .len + length bs ≤ 260
     → verdictAt p c m room ≡ Accepted → goodHeard (c .core .phase) (heard (c .collector) ++ bs) ≡ true

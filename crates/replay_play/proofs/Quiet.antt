@@ -2,10 +2,9 @@
 -- one leaves: nothing is said.
 -- Assumes nothing.
 use mathlib.Core.Bool.{true}
-use mathlib.Core.List.{List, [], _++_, _∷_, append-assoc, append-nil, map}
-use mathlib.Core.Path.{_∙_, _≡_, ap, refl, sym}
+use mathlib.Core.List.{List, [], _++_, _∷_, append-assoc, map}
+use mathlib.Core.Path.{_∙_, _≡_, ap, sym}
 use Prim.Native.Nat.{_+_, _≤_, ℕ}
-use native.Mathlib.Nat.{add-zero}
 use native.Mathlib.Omega.{arith}
 use lib.ListN.{length, length-append}
 use borrow.Author.Tests.{le-ltb}
