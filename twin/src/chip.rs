@@ -1,8 +1,8 @@
-//! The software chip: one step over a byte, a gap or power-on (01 "The part" to "Refusal numbers"), with a sum kept for each block (02 §1) and 13h's rule as
-//! 000 has it (02 §2).
+//! The software chip: one step over a byte, a gap or power-on (01 "The part" to "Refusal numbers"), with a sum kept for each block (02 §1), 13h's rule as 000
+//! has it (02 §2), and the fault of a bad frame told (02 §4).
 
 use crate::frame::{
-    counted, Frame, Reply, COMMAND_HEADER, DATA_HEADER, LAST_FOOTER, LONGEST, MORE_FOOTER,
+    counted, Fault, Frame, Reply, COMMAND_HEADER, DATA_HEADER, LAST_FOOTER, LONGEST, MORE_FOOTER,
 };
 use crate::part::{Area, Part};
 use crate::sums::{slot_of, sum_of, Sums};
@@ -88,8 +88,12 @@ pub enum Event {
 
 #[derive(Clone, Copy, Debug, PartialEq, Eq)]
 pub enum Answer {
-    /// Length of the reply at the start of the room, and how many frames it is.
-    Replied { bytes: usize, frames: usize },
+    /// Length of the reply at the start of the room, how many frames it is, and the fault of the frame that the event completed, where it was judged bad.
+    Replied {
+        bytes: usize,
+        frames: usize,
+        fault: Option<Fault>,
+    },
     /// 01 "Refusal numbers".
     Refused(u8),
 }
@@ -125,14 +129,16 @@ pub fn step(
     }
     let mut flash = Flash { code, data, sums };
     let mut reply = Reply::at_start(room);
+    let mut fault = None;
     match event {
-        Event::Byte(byte) => hear(part, chip, byte, &mut flash, &mut reply),
+        Event::Byte(byte) => fault = hear(part, chip, byte, &mut flash, &mut reply),
         Event::Gap => chip.count = 0,
         Event::PowerOn => power_on(chip),
     }
     Answer::Replied {
         bytes: reply.bytes,
         frames: reply.frames,
+        fault,
     }
 }
 
@@ -321,16 +327,21 @@ fn awaited_header(phase: Phase) -> Option<u8> {
     }
 }
 
-fn hear(part: &Part, chip: &mut Chip, byte: u8, flash: &mut Flash, reply: &mut Reply) {
+/// One byte; hands back the fault of the frame that it completes, if that is judged bad.
+fn hear(
+    part: &Part,
+    chip: &mut Chip,
+    byte: u8,
+    flash: &mut Flash,
+    reply: &mut Reply,
+) -> Option<Fault> {
     let Some(header) = awaited_header(chip.phase) else {
         if byte == ONE_WIRE || byte == TWO_WIRES {
             chip.phase = Phase::Setup;
         }
-        return;
+        return None;
     };
-    let Some(frame) = collect(chip, header, byte) else {
-        return;
-    };
+    let frame = collect(chip, header, byte)?;
     match chip.phase {
         Phase::Awaiting {
             command: SECURITY_SET,
@@ -369,6 +380,40 @@ fn collect(chip: &mut Chip, header: u8, byte: u8) -> Option<Frame> {
     None
 }
 
+/// Why a frame is answered with a status other than that of its work.
+enum Objection {
+    /// For the frame itself.
+    Faulty(Fault),
+    /// For what a frame without fault asks for: unknown, not allowed, wrong or forbidden.
+    Status(u8),
+}
+
+impl From<Fault> for Objection {
+    fn from(fault: Fault) -> Objection {
+        Objection::Faulty(fault)
+    }
+}
+
+impl Objection {
+    /// Answered with one status; hands back the fault.
+    fn answer(self, reply: &mut Reply) -> Option<Fault> {
+        let (status, fault) = match self {
+            Objection::Faulty(fault) => (status_of(fault), Some(fault)),
+            Objection::Status(status) => (status, None),
+        };
+        reply.frame(&[status]);
+        fault
+    }
+}
+
+/// "On the wire 15h hides two faults" (02 §4).
+fn status_of(fault: Fault) -> u8 {
+    match fault {
+        Fault::Sum(_) => BAD_SUM,
+        Fault::Footer(_) | Fault::Len | Fault::First => NACK,
+    }
+}
+
 // Judgement and work of a command frame: 01 "Frames" and "Commands"
 
 /// A command whose footer, SUM, phase, LEN and parameters have been judged right.
@@ -394,38 +439,38 @@ struct Pages {
     differed: bool,
 }
 
-fn hear_command(part: &Part, chip: &mut Chip, frame: &Frame, flash: &mut Flash, reply: &mut Reply) {
-    let judged = judge_ends(frame, LAST_FOOTER)
-        .and_then(|()| judge_command(part, chip.phase, frame.body()))
-        .and_then(|command| judge_protection(part, &chip.options, command));
-    match judged {
-        Ok(command) => work(part, chip, command, flash, reply),
-        Err(status) => reply.frame(&[status]),
+fn hear_command(
+    part: &Part,
+    chip: &mut Chip,
+    frame: &Frame,
+    flash: &mut Flash,
+    reply: &mut Reply,
+) -> Option<Fault> {
+    match judge_command(part, chip, frame) {
+        Ok(command) => {
+            work(part, chip, command, flash, reply);
+            None
+        }
+        Err(objection) => objection.answer(reply),
     }
 }
 
-/// The first two judgements, which make a frame good or bad.
-fn judge_ends(frame: &Frame, footer: u8) -> Result<(), u8> {
-    if !frame.has_footer(footer) {
-        Err(NACK)
-    } else if !frame.has_right_sum() {
-        Err(BAD_SUM)
-    } else {
-        Ok(())
-    }
-}
-
-/// Command and phase 04h, then LEN 15h, then parameters 05h.
-fn judge_command(part: &Part, phase: Phase, body: &[u8]) -> Result<Command, u8> {
-    let len = len_of(body[0]).ok_or(UNKNOWN)?;
-    let allowed = (body[0] == RATE_SET) == (phase == Phase::Setup);
-    if !allowed {
-        return Err(UNKNOWN);
-    }
+/// Footer 15h and SUM 07h, command and phase 04h, LEN 15h, parameters 05h, protection 10h.
+fn judge_command(part: &Part, chip: &Chip, frame: &Frame) -> Result<Command, Objection> {
+    frame.judge(LAST_FOOTER)?;
+    let body = frame.body();
+    let allowed = (body[0] == RATE_SET) == (chip.phase == Phase::Setup);
+    let len = len_of(body[0])
+        .filter(|_| allowed)
+        .ok_or(Objection::Status(UNKNOWN))?;
     if body.len() != len {
-        return Err(NACK);
+        return Err(Fault::Len.into());
     }
-    read_command(part, body).ok_or(PARAMETER)
+    let command = read_command(part, body).ok_or(Objection::Status(PARAMETER))?;
+    if is_forbidden(part, &chip.options, &command) {
+        return Err(Objection::Status(PROTECTED));
+    }
+    Ok(command)
 }
 
 /// 01's column LEN; nothing for an unknown command.
@@ -511,9 +556,9 @@ fn addresses(body: &[u8]) -> (usize, usize) {
 }
 
 /// Protection 10h (01 "Commands", 000 table 3-4). The write ban holds for data flash too.
-fn judge_protection(part: &Part, options: &Options, command: Command) -> Result<Command, u8> {
+fn is_forbidden(part: &Part, options: &Options, command: &Command) -> bool {
     let barred = |flag: u8| options.flags & flag == 0;
-    let forbidden = match &command {
+    match command {
         Command::Erase(range) => {
             barred(ERASE_ALLOWED) || range.holds_boot_block(part) && barred(BOOT_ALLOWED)
         }
@@ -522,11 +567,6 @@ fn judge_protection(part: &Part, options: &Options, command: Command) -> Result<
         }
         Command::Release => barred(BOOT_ALLOWED) || barred(ERASE_ALLOWED),
         _ => false,
-    };
-    if forbidden {
-        Err(PROTECTED)
-    } else {
-        Ok(command)
     }
 }
 
@@ -630,25 +670,26 @@ fn release(part: &Part, chip: &mut Chip, flash: &Flash, reply: &mut Reply) {
 // The data frame of A0h: 01 "Commands"
 
 /// Whatever the answer, the command is over.
-fn hear_options(part: &Part, chip: &mut Chip, frame: &Frame, reply: &mut Reply) {
+fn hear_options(part: &Part, chip: &mut Chip, frame: &Frame, reply: &mut Reply) -> Option<Fault> {
     chip.phase = Phase::Ready;
     match judge_options(part, &chip.options, frame) {
         Ok(options) => {
             chip.options = options;
             reply.frame(&[ACK]);
+            None
         }
-        Err(status) => reply.frame(&[status]),
+        Err(objection) => objection.answer(reply),
     }
 }
 
-fn judge_options(part: &Part, stored: &Options, frame: &Frame) -> Result<Options, u8> {
-    judge_ends(frame, LAST_FOOTER)?;
+fn judge_options(part: &Part, stored: &Options, frame: &Frame) -> Result<Options, Objection> {
+    frame.judge(LAST_FOOTER)?;
     let [flags, boot, start_low, start_high, end_low, end_high, reserved @ ..] = frame.body()
     else {
-        return Err(NACK);
+        return Err(Fault::Len.into());
     };
     if reserved.len() != 2 {
-        return Err(NACK);
+        return Err(Fault::Len.into());
     }
     let asked = Options {
         flags: *flags,
@@ -657,11 +698,11 @@ fn judge_options(part: &Part, stored: &Options, frame: &Frame) -> Result<Options
         end: u16::from_le_bytes([*end_low, *end_high]),
     };
     if reserved != [0xFF, 0xFF] || !options_fit(part, &asked) {
-        return Err(PARAMETER);
+        return Err(Objection::Status(PARAMETER));
     }
     let allowed_anew = asked.flags & !stored.flags;
     if allowed_anew != 0 {
-        return Err(PROTECTED);
+        return Err(Objection::Status(PROTECTED));
     }
     Ok(asked)
 }
@@ -711,16 +752,14 @@ fn hear_page(
     frame: &Frame,
     flash: &mut Flash,
     reply: &mut Reply,
-) {
+) -> Option<Fault> {
     chip.phase = Phase::Ready;
-    if let Err(status) = judge_page(part, pages, frame) {
-        reply.frame(&[status, status]);
-        return;
+    if let Err(fault) = judge_page(part, pages, frame) {
+        reply.frame(&[status_of(fault); 2]);
+        return Some(fault);
     }
     // Refusal 9 has let through no next address outside flash.
-    let Some(here) = part.place(pages.next) else {
-        return;
-    };
+    let here = part.place(pages.next)?;
     let range = Range {
         area: here.area,
         first: here.offset,
@@ -731,14 +770,15 @@ fn hear_page(
     } else {
         compare_page(part, pages, flash.bytes(range), frame.body(), reply)
     };
+    None
 }
 
-fn judge_page(part: &Part, pages: Pages, frame: &Frame) -> Result<(), u8> {
-    judge_ends(frame, pages.footer(part))?;
+fn judge_page(part: &Part, pages: Pages, frame: &Frame) -> Result<(), Fault> {
+    frame.judge(pages.footer(part))?;
     if frame.body().len() == part.page_size() {
         Ok(())
     } else {
-        Err(NACK)
+        Err(Fault::Len)
     }
 }
 

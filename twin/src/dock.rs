@@ -5,7 +5,7 @@ use crate::chip::{
     NOT_BLANK, PROGRAM, RATE_SET, RESET, SIGNATURE, VERIFY,
 };
 use crate::frame::{
-    read_reply, write, COMMAND_HEADER, DATA_HEADER, LAST_FOOTER, LONGEST, MORE_FOOTER,
+    read_reply, write, Fault, COMMAND_HEADER, DATA_HEADER, LAST_FOOTER, LONGEST, MORE_FOOTER,
 };
 use crate::part::{Area, Part};
 
@@ -14,6 +14,9 @@ pub const MOST_RETRIES: u64 = 15;
 
 /// The status named where none was read (01 "The dock's flow").
 const NO_STATUS: u8 = 0x00;
+
+/// What C0h's second frame holds (01 "Commands").
+const SIGNATURE_BYTES: usize = 22;
 
 /// A job but for its image, which is lent to each call. The numbers are wide, so that none is judged after wrapping.
 #[derive(Clone, Debug, PartialEq, Eq)]
@@ -68,7 +71,7 @@ pub enum Stage {
     Failed(Failure),
 }
 
-/// What a failed job names: cause, frame, status and block (01 "The dock's flow").
+/// What a failed job names: cause, frame, status and block (01 "The dock's flow"), and the fault of an unreadable answer (02 §4).
 #[derive(Clone, Copy, Debug, PartialEq, Eq)]
 pub struct Failure {
     pub cause: Cause,
@@ -77,6 +80,8 @@ pub struct Failure {
     pub status: u8,
     /// None in setup.
     pub block: Option<u64>,
+    /// That of the answer's first faulty frame; none beside another cause.
+    pub fault: Option<Fault>,
 }
 
 #[derive(Clone, Copy, Debug, PartialEq, Eq)]
@@ -152,8 +157,11 @@ pub fn answer(job: &Job, image: &[u8], state: &mut State, answer: &[u8]) -> Resu
             state.retries += 1;
             state.stage = again(state.stage);
         }
-        Verdict::Again(status) => state.stage = failed(&sent, Cause::Status, status),
-        Verdict::Ended(cause, status) => state.stage = failed(&sent, cause, status),
+        Verdict::Again(status) => state.stage = failed(&sent, Cause::Status, status, None),
+        Verdict::Ended(cause, status) => state.stage = failed(&sent, cause, status, None),
+        Verdict::Unreadable(fault) => {
+            state.stage = failed(&sent, Cause::Unreadable, NO_STATUS, Some(fault))
+        }
     }
     Ok(report(state))
 }
@@ -162,7 +170,7 @@ pub fn answer(job: &Job, image: &[u8], state: &mut State, answer: &[u8]) -> Resu
 pub fn timeout(job: &Job, image: &[u8], state: &mut State) -> Result<Report, u8> {
     let (_, sent) = judge_heard(job, image, state)?;
     state.awaited = false;
-    state.stage = failed(&sent, Cause::Timeout, NO_STATUS);
+    state.stage = failed(&sent, Cause::Timeout, NO_STATUS, None);
     Ok(report(state))
 }
 
@@ -323,6 +331,7 @@ enum Verdict {
     /// A status 07h or 15h.
     Again(u8),
     Ended(Cause, u8),
+    Unreadable(Fault),
 }
 
 /// A readable answer taken apart: its statuses in order, and what else it holds.
@@ -333,8 +342,9 @@ struct Reading<'a> {
 
 /// Readable comes first, then the first unexpected status, then what the reply must hold.
 fn verdict(job: &Job, sent: &Sent, answer: &[u8]) -> Verdict {
-    let Some(reading) = read(job, sent, answer) else {
-        return Verdict::Ended(Cause::Unreadable, NO_STATUS);
+    let reading = match read(job, sent, answer) {
+        Ok(reading) => reading,
+        Err(fault) => return Verdict::Unreadable(fault),
     };
     let not_blank_is_expected = sent.command == BLANK_CHECK;
     let expected = |status: u8| status == ACK || status == NOT_BLANK && not_blank_is_expected;
@@ -351,43 +361,42 @@ fn verdict(job: &Job, sent: &Sent, answer: &[u8]) -> Verdict {
     }
 }
 
-/// "it is readable if it is exactly these frames": nothing is missing and nothing follows.
-fn read<'a>(job: &Job, sent: &Sent, answer: &'a [u8]) -> Option<Reading<'a>> {
-    let (first, rest) = read_reply(answer)?;
-    let (statuses, content, rest) = match (sent.command, sent.page) {
-        (PROGRAM, Some(page)) if page == job.last_page() && first == [ACK, ACK] => {
-            let (third, rest) = read_reply(rest)?;
-            let &[third] = third else {
-                return None;
-            };
-            (vec![ACK, ACK, third], &[][..], rest)
-        }
-        (_, Some(_)) => {
-            let &[first, second] = first else {
-                return None;
-            };
-            (vec![first, second], &[][..], rest)
-        }
-        (RATE_SET, None) => match first {
-            [ACK, content @ ..] if content.len() == 2 => (vec![ACK], content, rest),
-            &[status] if status != ACK => (vec![status], &[][..], rest),
-            _ => return None,
+/// How many bytes each frame of the answer has to hold. The statuses that decide it are read where they lie, whatever else is wrong with the answer.
+fn expected(job: &Job, sent: &Sent, answer: &[u8]) -> &'static [usize] {
+    let says = |statuses: &[u8]| answer.get(2..2 + statuses.len()) == Some(statuses);
+    match (sent.command, sent.page) {
+        (PROGRAM, Some(page)) if page == job.last_page() && says(&[ACK, ACK]) => &[2, 1],
+        (_, Some(_)) => &[2],
+        (RATE_SET, None) if says(&[ACK]) => &[3],
+        (SIGNATURE, None) if says(&[ACK]) => &[1, SIGNATURE_BYTES],
+        (_, None) => &[1],
+    }
+}
+
+/// "it is readable if it is exactly these frames": nothing is missing and nothing follows. Else the fault of the first of them that has one.
+fn read<'a>(job: &Job, sent: &Sent, answer: &'a [u8]) -> Result<Reading<'a>, Fault> {
+    let expected = expected(job, sent, answer);
+    let mut held: [&[u8]; 2] = [&[]; 2];
+    let mut rest = answer;
+    for (at, bytes) in expected.iter().enumerate() {
+        let last = at + 1 == expected.len();
+        (held[at], rest) = read_reply(rest, *bytes, last)?;
+    }
+    let [first, second] = held;
+    Ok(match (sent.command, sent.page) {
+        (_, Some(_)) => Reading {
+            statuses: held.concat(),
+            content: &[],
         },
-        (SIGNATURE, None) if first == [ACK] => {
-            let (content, rest) = read_reply(rest)?;
-            if content.len() != 22 {
-                return None;
-            }
-            (vec![ACK], content, rest)
-        }
-        (_, None) => {
-            let &[status] = first else {
-                return None;
-            };
-            (vec![status], &[][..], rest)
-        }
-    };
-    rest.is_empty().then_some(Reading { statuses, content })
+        (RATE_SET, None) => Reading {
+            statuses: vec![first[0]],
+            content: &first[1..],
+        },
+        (_, None) => Reading {
+            statuses: vec![first[0]],
+            content: second,
+        },
+    })
 }
 
 /// "the reply must hold the part's clock and the supply's mode"; C0h's "must match the part".
@@ -434,12 +443,13 @@ fn again(stage: Stage) -> Stage {
     }
 }
 
-fn failed(sent: &Sent, cause: Cause, status: u8) -> Stage {
+fn failed(sent: &Sent, cause: Cause, status: u8, fault: Option<Fault>) -> Stage {
     Stage::Failed(Failure {
         cause,
         command: sent.command,
         page: sent.page,
         status,
         block: sent.block,
+        fault,
     })
 }

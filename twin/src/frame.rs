@@ -1,4 +1,4 @@
-//! Frames as they travel: length, SUM, the writing of frames and the reading of reply frames (01 "Frames", 000 chapter 2).
+//! Frames as they travel: length, SUM, judgement, the writing of frames and the reading of reply frames (01 "Frames", 02 §4, 000 chapter 2).
 
 pub const COMMAND_HEADER: u8 = 0x01;
 pub const DATA_HEADER: u8 = 0x02;
@@ -42,17 +42,83 @@ pub fn write(room: &mut [u8], header: u8, body: &[u8], footer: u8) -> usize {
     end + 2
 }
 
-/// The data of the reply frame that begins these bytes, and what follows it; nothing unless it is whole, with 02h,
-/// right SUM and 03h (01 "The dock's flow").
-pub fn read_reply(bytes: &[u8]) -> Option<(&[u8], &[u8])> {
-    let [DATA_HEADER, len, rest @ ..] = bytes else {
-        return None;
-    };
-    let (data, rest) = rest.split_at_checked(counted(*len))?;
-    let [found, LAST_FOOTER, rest @ ..] = rest else {
-        return None;
-    };
-    (*found == sum(*len, data)).then_some((data, rest))
+/// What is wrong with a frame, and at which of its bytes, counted from its header (02 §4). LEN 00h is 256, so places reach 259.
+#[derive(Clone, Copy, Debug, PartialEq, Eq)]
+pub enum Fault {
+    /// A wrong footer, at the footer's place.
+    Footer(u16),
+    /// A wrong SUM, at SUM's place.
+    Sum(u16),
+    /// An unfit LEN; in a reply also one that is missing, or whose frame is cut short or overlong.
+    Len,
+    /// Of a reply alone: its first byte is missing or not 02h.
+    First,
+}
+
+impl Fault {
+    /// Numbers of ours; 0 stands for none.
+    pub fn number(self) -> u8 {
+        match self {
+            Fault::Footer(_) => 1,
+            Fault::Sum(_) => 2,
+            Fault::Len => 3,
+            Fault::First => 4,
+        }
+    }
+
+    pub fn place(self) -> u16 {
+        match self {
+            Fault::Footer(place) | Fault::Sum(place) => place,
+            Fault::Len => 1,
+            Fault::First => 0,
+        }
+    }
+
+    /// The byte that is wrong.
+    pub fn name(self) -> &'static str {
+        match self {
+            Fault::Footer(_) => "footer",
+            Fault::Sum(_) => "SUM",
+            Fault::Len => "LEN",
+            Fault::First => "first byte",
+        }
+    }
+}
+
+/// The first two judgements of a frame whose LEN counts this body, in 01's order: footer, SUM.
+fn judge_ends(len: u8, body: &[u8], ends: [u8; 2], footer: u8) -> Result<(), Fault> {
+    let place = 2 + body.len() as u16;
+    if ends[1] != footer {
+        Err(Fault::Footer(place + 1))
+    } else if ends[0] != sum(len, body) {
+        Err(Fault::Sum(place))
+    } else {
+        Ok(())
+    }
+}
+
+/// The data of the reply frame that begins these bytes, of which so many bytes are expected, and what follows it; else its fault. A reply is judged in an order
+/// of its own: first byte, LEN, then footer and SUM (02 §4). Behind the last frame of an answer nothing may follow: what does makes it overlong.
+pub fn read_reply(bytes: &[u8], expected: usize, last: bool) -> Result<(&[u8], &[u8]), Fault> {
+    if bytes.first() != Some(&DATA_HEADER) {
+        return Err(Fault::First);
+    }
+    let whole = expected + 4;
+    let fits = bytes.get(1).is_some_and(|len| counted(*len) == expected)
+        && bytes.len() >= whole
+        && (!last || bytes.len() == whole);
+    if !fits {
+        return Err(Fault::Len);
+    }
+    let (frame, rest) = bytes.split_at(whole);
+    let body = &frame[2..2 + expected];
+    judge_ends(
+        frame[1],
+        body,
+        [frame[whole - 2], frame[whole - 1]],
+        LAST_FOOTER,
+    )?;
+    Ok((body, rest))
 }
 
 /// A whole frame, taken out of the collector: what was held, and the byte that completed it.
@@ -72,13 +138,11 @@ impl Frame {
         &self.held[2..2 + counted(self.held[1])]
     }
 
-    pub fn has_footer(&self, expected: u8) -> bool {
-        self.footer == expected
-    }
-
-    pub fn has_right_sum(&self) -> bool {
+    /// Footer, then SUM: what every frame is judged by first (01 "Frames").
+    pub fn judge(&self, footer: u8) -> Result<(), Fault> {
         let body = self.body();
-        self.held[2 + body.len()] == sum(self.held[1], body)
+        let found = self.held[2 + body.len()];
+        judge_ends(self.held[1], body, [found, self.footer], footer)
     }
 }
 

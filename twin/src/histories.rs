@@ -6,7 +6,7 @@ use std::rc::Rc;
 
 use crate::chip::{mode_of, signature, Chip, Event, Phase, ACK, BAD_SUM, ERASED, NACK, NOT_BLANK};
 use crate::dock::{Cause, Failure, Job, Stage, State, MOST_RETRIES};
-use crate::frame::{COMMAND_HEADER, LAST_FOOTER, LONGEST, MORE_FOOTER};
+use crate::frame::{Fault, COMMAND_HEADER, LAST_FOOTER, LONGEST, MORE_FOOTER};
 use crate::part::{Area, Part};
 use crate::random::{data_frame, Generator};
 use crate::replay::Player;
@@ -614,6 +614,7 @@ impl<D: FnMut(&Call) -> Outcome> Play<D> {
             return Stage::Finished;
         }
         let any = choice.byte();
+        let place = choice.word() as u16;
         Stage::Failed(Failure {
             cause: choice.pick(&[
                 Cause::Status,
@@ -625,6 +626,13 @@ impl<D: FnMut(&Call) -> Outcome> Play<D> {
             page: choice.pick(&[None, Some(page)]),
             status: choice.pick(&[0x00, 0x06, 0x07, 0x15, 0x1C, any]),
             block: choice.pick(&[None, Some(block)]),
+            fault: choice.pick(&[
+                None,
+                Some(Fault::Footer(place)),
+                Some(Fault::Sum(place)),
+                Some(Fault::Len),
+                Some(Fault::First),
+            ]),
         })
     }
 
@@ -722,6 +730,7 @@ fn failed_at(page: Option<u64>, block: Option<u64>) -> Stage {
         page,
         status: 0x1C,
         block,
+        fault: None,
     })
 }
 

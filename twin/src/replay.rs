@@ -3,7 +3,7 @@
 use std::io::{self, Read, Write};
 
 use crate::chip::{step, Answer, Chip, Event, ERASED, SMALLEST_ROOM};
-use crate::frame::counted;
+use crate::frame::{counted, Fault};
 use crate::part::{Area, Part};
 use crate::sums::{work_out, Sums, SUMS};
 
@@ -65,11 +65,12 @@ pub fn bytes_record(carried: &[u8]) -> [u8; RECORD] {
     record
 }
 
-/// The chip's whole answer to one event.
+/// The chip's whole answer to one event, and the fault of the frame that the event completed, if it was judged bad.
 #[derive(Clone, Debug, PartialEq, Eq)]
 pub struct Reply {
     pub bytes: Vec<u8>,
     pub frames: usize,
+    pub fault: Option<Fault>,
 }
 
 /// A chip with its flash and the sums kept of its blocks.
@@ -115,9 +116,14 @@ impl Player {
             &mut room,
         );
         match answer {
-            Answer::Replied { bytes, frames } => Reply {
+            Answer::Replied {
+                bytes,
+                frames,
+                fault,
+            } => Reply {
                 bytes: room[..bytes].to_vec(),
                 frames,
+                fault,
             },
             // the player lends what the chip asks for, and only the chip changes its state.
             Answer::Refused(number) => unreachable!("refused with {number}"),

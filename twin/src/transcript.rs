@@ -5,6 +5,7 @@ use std::collections::BTreeMap;
 use std::fmt;
 
 use crate::dock::{answer, ask, start, timeout, Cause, Failure, Job, Report, Stage, State};
+use crate::frame::Fault;
 use crate::replay::hex_line;
 
 /// Every byte of a room before it is lent, so that one written past the frame shows.
@@ -211,13 +212,21 @@ fn report_text(report: &Report) -> String {
 fn failure_text(failure: &Failure) -> String {
     let number = |number: Option<u64>| number.map_or("none".to_string(), |some| some.to_string());
     format!(
-        "{} {:02X}h page {} status {:02X}h block {}",
+        "{} {:02X}h page {} status {:02X}h block {} fault {}",
         cause_text(failure.cause),
         failure.command,
         number(failure.page),
         failure.status,
         number(failure.block),
+        fault_text(failure.fault),
     )
+}
+
+/// The byte that is wrong, and its place.
+pub fn fault_text(fault: Option<Fault>) -> String {
+    fault.map_or("none".to_string(), |fault| {
+        format!("{} at {}", fault.name(), fault.place())
+    })
 }
 
 pub fn cause_text(cause: Cause) -> &'static str {
@@ -269,6 +278,7 @@ impl Tally {
                 self.count(format!("cause {cause}"));
                 self.count(format!("cause {cause} at {:02X}h{page}", failure.command));
                 self.count(format!("named {:02X}h", failure.status));
+                self.count(format!("fault {}", fault_text(failure.fault)));
             }
             _ => (),
         }

@@ -2,11 +2,12 @@
 
 mod common;
 
-use common::flow::{flow, signature_of, End, Heard};
+use common::flow::{fault_of, flow, signature_of, End, Heard};
 use common::*;
 use twin::chip::{Event, Phase};
 use twin::dock::{answer, ask, start, timeout};
 use twin::dock::{Cause, Failure, Job, Report, Stage, State};
+use twin::frame::Fault;
 use twin::part::Part;
 use twin::replay::replay_part;
 
@@ -142,6 +143,14 @@ fn named(stage: Stage, cause: Cause, status: u8) -> Failure {
         page,
         status,
         block,
+        fault: None,
+    }
+}
+
+fn unreadable(stage: Stage, fault: Fault) -> Failure {
+    Failure {
+        fault: Some(fault),
+        ..named(stage, Cause::Unreadable, 0x00)
     }
 }
 
@@ -330,9 +339,10 @@ fn one_status_of_every_value() {
         for status in 0..=255u8 {
             let mut desk = Desk::awaiting(stage);
             let report = desk.hear_statuses(&[status]);
-            let needs_more = matches!(stage, Stage::Rate | Stage::Signature);
             let expected = match (status, stage) {
-                (0x06, _) if needs_more => Stage::Failed(named(stage, Cause::Unreadable, 0x00)),
+                // 9Ah's 06h brings three bytes in its frame, C0h's a second frame.
+                (0x06, Stage::Rate) => Stage::Failed(unreadable(stage, Fault::Len)),
+                (0x06, Stage::Signature) => Stage::Failed(unreadable(stage, Fault::First)),
                 (0x06, Stage::Reset) => Stage::Signature,
                 (0x06, Stage::Blank { block }) => Stage::Program { block },
                 (0x1B, Stage::Blank { block }) => Stage::Erase { block },
@@ -408,7 +418,7 @@ fn two_statuses_of_every_value() {
                 let heard = reply(&[first, second]);
                 answer(&asked.job, &asked.image, &mut state, &heard).unwrap();
                 let expected = if last_of_program && (first, second) == (0x06, 0x06) {
-                    Stage::Failed(named(stage, Cause::Unreadable, 0x00))
+                    Stage::Failed(unreadable(stage, Fault::First))
                 } else {
                     after_statuses(stage, &[first, second])
                 };
@@ -454,6 +464,20 @@ fn a_pair_names_its_first_fault() {
         let mut desk = Desk::awaiting(stage);
         desk.hear_statuses(&statuses);
         assert_eq!(desk.state.stage, expected, "{statuses:02X?}");
+    }
+}
+
+/// How many bytes the frames of the answer hold: 01 says it by the statuses.
+fn lengths(stage: Stage, heard: &[u8]) -> &'static [usize] {
+    let acknowledged = heard.get(2) == Some(&0x06);
+    match stage {
+        Stage::Rate if acknowledged => &[3],
+        Stage::Signature if acknowledged => &[1, 22],
+        Stage::ProgramPage { page: 3, .. } if acknowledged && heard.get(3) == Some(&0x06) => {
+            &[2, 1]
+        }
+        Stage::ProgramPage { .. } | Stage::VerifyPage { .. } => &[2],
+        _ => &[1],
     }
 }
 
@@ -503,9 +527,9 @@ fn answers_of_another_shape_are_unreadable() {
         for heard in bad {
             let mut desk = Desk::awaiting(stage);
             desk.hear(&Some(heard.clone()));
-            let failure = named(stage, Cause::Unreadable, 0x00);
+            let fault = fault_of(&heard, lengths(stage, &heard));
             let expected = State {
-                stage: Stage::Failed(failure),
+                stage: Stage::Failed(unreadable(stage, fault)),
                 awaited: false,
                 retries: 0,
                 frames: 1,
@@ -539,12 +563,11 @@ fn shapes_by_status() {
     ] {
         let mut desk = Desk::awaiting(stage);
         desk.hear(&Some(heard.clone()));
-        let unreadable = Stage::Failed(named(stage, Cause::Unreadable, 0x00));
-        assert_eq!(
-            desk.state.stage != unreadable,
-            readable,
-            "{stage:?} {heard:02X?}"
+        let unreadable = matches!(
+            desk.state.stage,
+            Stage::Failed(failure) if failure.cause == Cause::Unreadable
         );
+        assert_eq!(!unreadable, readable, "{stage:?} {heard:02X?}");
     }
     for page in 0..4 {
         for (stage, third) in [
@@ -877,6 +900,7 @@ fn failed(page: Option<u64>, block: Option<u64>) -> Stage {
         page,
         status: 0x1C,
         block,
+        fault: None,
     })
 }
 

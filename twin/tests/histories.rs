@@ -212,6 +212,22 @@ fn every_cause_refusal_and_ending_comes() {
     for name in ["cause mismatch at 9Ah", "cause mismatch at C0h"] {
         assert!(tally.of(name) > 0, "{name}");
     }
+    // 02 §4: frames of one byte, of two, of 9Ah's three and of C0h's 22.
+    for fault in [
+        "first byte at 0",
+        "LEN at 1",
+        "footer at 4",
+        "footer at 5",
+        "footer at 6",
+        "footer at 25",
+        "SUM at 3",
+        "SUM at 4",
+        "SUM at 5",
+        "SUM at 24",
+        "none",
+    ] {
+        assert!(tally.of(&format!("fault {fault}")) > 0, "{fault}");
+    }
     for action in ["start", "ask", "answer", "timeout"] {
         for number in [1, 5, 6, 7, 9, 4, 8] {
             let given = match number {
@@ -273,7 +289,7 @@ fn a_line_for_each_call_and_the_same_for_the_same_seed() {
 /// A dock that differs in one call is told apart by that call's line.
 #[test]
 fn lines_tell_another_dock_apart() {
-    let wrong_docks: [fn(&Call, &mut Outcome); 4] = [
+    let wrong_docks: [fn(&Call, &mut Outcome); 5] = [
         |_, outcome| {
             if let Some(state) = &mut outcome.state {
                 state.frames += u64::from(matches!(outcome.reply, Reply::Frame(_)));
@@ -292,6 +308,11 @@ fn lines_tell_another_dock_apart() {
         |call, outcome| {
             if let (Reply::Refused(9), Action::Ask { .. }) = (outcome.reply, call.action) {
                 outcome.reply = Reply::Refused(8);
+            }
+        },
+        |_, outcome| {
+            if let Some(Stage::Failed(failure)) = outcome.state.as_mut().map(|it| &mut it.stage) {
+                failure.fault = None;
             }
         },
     ];

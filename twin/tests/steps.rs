@@ -484,15 +484,22 @@ fn collector_bytes_past_the_count_stay() {
     assert_eq!((bench.chip.collected, bench.chip.count), (expected, 0));
 }
 
-/// Demand 3: a good frame with one byte after LEN changed is judged bad, and changes nothing but phase 4.
+/// Demand 3: a good frame with one byte after LEN changed is judged bad, and changes nothing but phase 4. The fault is the footer's where the footer was changed,
+/// else SUM's (02 §4).
 fn one_byte_changed(bench: &Bench, good: &[u8], values: impl Fn(usize) -> Vec<u8>) {
     for at in 2..good.len() {
         for value in values(at).into_iter().filter(|value| *value != good[at]) {
             let mut bytes = good.to_vec();
             bytes[at] = value;
             let mut heard = bench.clone();
-            let answer = heard.say(&bytes);
-            let code = if at + 1 == good.len() { 0x15 } else { 0x07 };
+            let (answer, fault) = heard.say_judged(&bytes);
+            let (sum, footer) = (good.len() - 2, good.len() - 1);
+            let (code, told) = if at == footer {
+                (0x15, (1, footer as u16))
+            } else {
+                (0x07, (2, sum as u16))
+            };
+            assert_eq!(fault, told, "byte {at} as {value:02X}");
             let (expected, phase) = match bench.chip.phase {
                 Phase::Awaiting { command: 0xA0, .. } => (status(code), Phase::Ready),
                 Phase::Awaiting { .. } => (pair(code, code), Phase::Ready),

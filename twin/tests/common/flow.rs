@@ -1,7 +1,8 @@
-//! The flow over a whole history of answers, written as 01's paragraph runs and not in steps (01 "The dock's flow").
+//! The flow over a whole history of answers, written as 01's paragraph runs and not in steps (01 "The dock's flow"), with the fault of an unreadable one (02 §4).
 
-use super::frame;
+use super::{frame, sum_of};
 use twin::dock::{Cause, Failure, Job};
+use twin::frame::Fault;
 use twin::part::Area;
 
 /// What comes back to a frame: the whole answer's bytes, or nothing in time.
@@ -82,9 +83,11 @@ impl Flow<'_> {
         let body = [0x9A, self.job.rate as u8, supply];
         let heard = self.exchange(frame(0x01, &body, 0x03), 0x9A, None, None)?;
         let name = failure(0x9A, None, None);
+        let acknowledged = heard.get(2) == Some(&0x06);
+        let unreadable = || unreadable(&name, &heard, if acknowledged { &[3] } else { &[1] });
         if let [0x02, 0x03, 0x06, clock, mode, ..] = heard[..] {
             if heard != frame(0x02, &[0x06, clock, mode], 0x03) {
-                return Err(Stop::Fails(name(Cause::Unreadable, 0x00)));
+                return Err(unreadable());
             }
             let right = (self.job.part.clock as u8, u8::from(supply < 27));
             return if (clock, mode) == right {
@@ -95,7 +98,7 @@ impl Flow<'_> {
         }
         match lone_status(&heard) {
             Some(status) if status != 0x06 => Err(unexpected(name(Cause::Status, status))),
-            _ => Err(Stop::Fails(name(Cause::Unreadable, 0x00))),
+            _ => Err(unreadable()),
         }
     }
 
@@ -105,13 +108,15 @@ impl Flow<'_> {
         if let Some(status) = lone_status(&heard).filter(|status| *status != 0x06) {
             return Err(unexpected(name(Cause::Status, status)));
         }
+        let acknowledged = heard.get(2) == Some(&0x06);
+        let lengths: &[usize] = if acknowledged { &[1, 22] } else { &[1] };
         if heard.len() != 5 + 26 {
-            return Err(Stop::Fails(name(Cause::Unreadable, 0x00)));
+            return Err(unreadable(&name, &heard, lengths));
         }
         let mut whole = frame(0x02, &[0x06], 0x03);
         whole.extend(frame(0x02, &heard[7..29], 0x03));
         if heard != whole {
-            return Err(Stop::Fails(name(Cause::Unreadable, 0x00)));
+            return Err(unreadable(&name, &heard, lengths));
         }
         if heard[7..29] != signature_of(self.job) {
             return Err(Stop::Fails(name(Cause::Mismatch, 0x06)));
@@ -143,7 +148,7 @@ impl Flow<'_> {
         let heard = self.exchange(frame(0x01, body, 0x03), body[0], None, block)?;
         let name = failure(body[0], None, block);
         match lone_status(&heard) {
-            None => Err(Stop::Fails(name(Cause::Unreadable, 0x00))),
+            None => Err(unreadable(&name, &heard, &[1])),
             Some(status) if expected.contains(&status) => Ok(status),
             Some(status) => Err(unexpected(name(Cause::Status, status))),
         }
@@ -158,21 +163,22 @@ impl Flow<'_> {
         let sent = frame(0x02, &self.image[at..at + size], footer);
         let heard = self.exchange(sent, command, Some(page), Some(block))?;
         let name = failure(command, Some(page), Some(block));
-        let unreadable = Err(Stop::Fails(name(Cause::Unreadable, 0x00)));
         if heard.len() < 6 {
-            return unreadable;
+            return Err(unreadable(&name, &heard, &[2]));
         }
         let mut statuses = heard[2..4].to_vec();
         let mut whole = frame(0x02, &statuses, 0x03);
+        let mut lengths: &[usize] = &[2];
         if command == 0x40 && is_last && statuses == [0x06, 0x06] {
+            lengths = &[2, 1];
             let Some(third) = heard.get(8) else {
-                return unreadable;
+                return Err(unreadable(&name, &heard, lengths));
             };
             statuses.push(*third);
             whole.extend(frame(0x02, &[*third], 0x03));
         }
         if heard != whole {
-            return unreadable;
+            return Err(unreadable(&name, &heard, lengths));
         }
         match statuses.into_iter().find(|status| *status != 0x06) {
             Some(status) => Err(unexpected(name(Cause::Status, status))),
@@ -206,7 +212,40 @@ fn failure(command: u8, page: Option<u64>, block: Option<u64>) -> impl Fn(Cause,
         page,
         status,
         block,
+        fault: None,
     }
+}
+
+fn unreadable(name: impl Fn(Cause, u8) -> Failure, heard: &[u8], lengths: &[usize]) -> Stop {
+    Stop::Fails(Failure {
+        fault: Some(fault_of(heard, lengths)),
+        ..name(Cause::Unreadable, 0x00)
+    })
+}
+
+/// The fault of an answer that is not exactly the frames of these lengths, from its first faulty frame.
+pub fn fault_of(heard: &[u8], lengths: &[usize]) -> Fault {
+    let mut header = 0;
+    for (number, length) in lengths.iter().enumerate() {
+        let byte = |place: usize| heard.get(header + place);
+        let (sum, footer) = (length + 2, length + 3);
+        if byte(0) != Some(&0x02) {
+            return Fault::First;
+        }
+        let cut_short = byte(footer).is_none();
+        let overlong = number + 1 == lengths.len() && byte(footer + 1).is_some();
+        if byte(1) != Some(&((length % 256) as u8)) || cut_short || overlong {
+            return Fault::Len;
+        }
+        if byte(footer) != Some(&0x03) {
+            return Fault::Footer(footer as u16);
+        }
+        if byte(sum) != Some(&sum_of(&heard[header + 1..header + sum])) {
+            return Fault::Sum(sum as u16);
+        }
+        header += footer + 1;
+    }
+    panic!("no fault in {heard:02X?}")
 }
 
 fn unexpected(failure: Failure) -> Stop {

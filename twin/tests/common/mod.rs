@@ -5,6 +5,7 @@
 pub mod flow;
 
 use twin::chip::{step, Answer, Chip, Event, Phase};
+use twin::frame::Fault;
 use twin::part::{Area, Part};
 use twin::replay::replay_part;
 use twin::sums::{work_out, Sums, SUMS};
@@ -126,14 +127,23 @@ impl Bench {
     }
 
     pub fn event(&mut self, event: Event) -> Vec<Vec<u8>> {
+        self.judged(event).0
+    }
+
+    /// The frames said, and the fault told.
+    pub fn judged(&mut self, event: Event) -> (Vec<Vec<u8>>, Option<Fault>) {
         let mut room = [FILLER; 40];
         match self.event_in(event, &mut room) {
             Answer::Refused(number) => panic!("refused with {number}"),
-            Answer::Replied { bytes, frames } => {
+            Answer::Replied {
+                bytes,
+                frames,
+                fault,
+            } => {
                 assert!(room[bytes..].iter().all(|byte| *byte == FILLER));
                 let split = split(&room[..bytes]);
                 assert_eq!(split.len(), frames);
-                split
+                (split, fault)
             }
         }
     }
@@ -165,9 +175,23 @@ impl Bench {
         self.say(&command(body))
     }
 
+    /// Bytes of which the last may complete a frame: what is said to it, and its fault as a number and a place, 0 and 0 where there is none.
+    pub fn say_judged(&mut self, bytes: &[u8]) -> (Vec<Vec<u8>>, (u8, u16)) {
+        let (last, before) = bytes.split_last().unwrap();
+        for byte in before {
+            assert_eq!(self.judged(Event::Byte(*byte)), (Vec::new(), None));
+        }
+        let (said, fault) = self.judged(Event::Byte(*last));
+        (said, in_numbers(fault))
+    }
+
     pub fn gap(&mut self) {
         assert!(self.event(Event::Gap).is_empty());
     }
+}
+
+pub fn in_numbers(fault: Option<Fault>) -> (u8, u16) {
+    fault.map_or((0, 0), |fault| (fault.number(), fault.place()))
 }
 
 /// The frames of a reply, each with right LEN, SUM and footer.

@@ -106,6 +106,7 @@ fn by_twin(capture: &[u8], fill: u8, sums: Sums) -> (Left, Vec<Sums>) {
             if let Answer::Replied {
                 bytes,
                 frames: more,
+                ..
             } = answer
             {
                 said.extend_from_slice(&room[..bytes]);

@@ -311,7 +311,7 @@ fn text_of(event: Event) -> String {
 
 fn in_numbers(answer: Answer) -> Told {
     match answer {
-        Answer::Replied { bytes, frames } => Told {
+        Answer::Replied { bytes, frames, .. } => Told {
             refusal: 0,
             bytes: bytes as u64,
             frames: frames as u64,
