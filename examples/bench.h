@@ -29,7 +29,7 @@ static void must(const char *call, uint32_t refusal) {
 static size_t hear(const uint8_t *heard, size_t length) {
     size_t said = 0;
     while (length > 0) {
-        uint64_t told[3];
+        uint64_t told[5];
         must("zc_feed", zc_feed(CHIP, heard, length, FLASH, told));
         uint64_t taken = told[0], bytes = told[1];
         memcpy(answer + said, room, bytes);
@@ -57,10 +57,18 @@ static inline void print_bytes(const uint8_t *bytes, size_t length, size_t most)
     if (length > most) printf(" ..");
 }
 
-/* How the job ended, and whether flash holds the image; the status of the program. */
-static int print_end(const uint64_t told[3]) {
+/* What is wrong with a frame, and which of its bytes, the header being byte 0; nothing where nothing is. */
+static inline void print_fault(uint64_t fault, uint64_t place) {
+    static const char *const what[] = {"", "wrong footer", "wrong SUM", "unfit LEN", "first byte missing or not 02h"};
+    if (fault != ZC_FAULT_NONE) printf(", %s (byte %u)", what[fault], (unsigned)place);
+}
+
+/* How the job ended, of an unreadable answer with what was wrong in it, and whether flash holds the image; the status of the program. */
+static inline int print_end(const uint64_t told[3]) {
     static const char *const why[] = {"", " by status", " by mismatch", ", unreadable", " by timeout"};
-    printf("%s%s, %u frames, %u retries\n", told[0] == ZC_FINISHED ? "finished" : "failed", why[zc_dock_cause(dock)], (unsigned)told[1], (unsigned)told[2]);
+    printf("%s%s", told[0] == ZC_FINISHED ? "finished" : "failed", why[zc_dock_cause(dock)]);
+    print_fault(zc_dock_fault(dock), zc_dock_place(dock));
+    printf(", %u frames, %u retries\n", (unsigned)told[1], (unsigned)told[2]);
     int holds = memcmp(code + START, image, sizeof image) == 0;
     printf("%05Xh to %05Xh %s the image\n", START, END, holds ? "holds" : "does not hold");
     return told[0] == ZC_FINISHED && holds ? 0 : 1;

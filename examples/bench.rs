@@ -1,10 +1,11 @@
 //! What the Rust examples that rehearse a job have in common: a chip of the replay's part (document 01, "Replay") with its flash, sums and reply room, and a
-//! job from its first frame to how it ended.
+//! job from its first frame to how it ended. Each of them uses some of it.
+#![allow(dead_code)]
 
 #[path = "../include/door.rs"]
 pub mod door;
 
-use door::{Job, Part, Report, DOCK, FRAME_ROOM, ROOM, STATE, SUMS};
+use door::{Job, Part, Report, Told, DOCK, FRAME_ROOM, ROOM, STATE, SUMS};
 
 const NAMES: &[u8; door::NAMES] = b"\x10\x00\x06R5F100LE  \x01\x02\x03";
 const MODE_BYTE: u8 = 0x3A;
@@ -43,20 +44,26 @@ impl Chip {
     pub fn hear(&mut self, mut bytes: &[u8]) -> Vec<u8> {
         let mut said = Vec::new();
         while !bytes.is_empty() {
-            let (taken, told) = door::feed(
-                &self.part,
-                &mut self.state,
-                bytes,
-                &mut self.code,
-                &mut self.data,
-                &mut self.sums,
-                &mut self.room,
-            );
-            must("zc_feed", told.refusal);
-            said.extend(&self.room[..told.bytes as usize]);
-            bytes = &bytes[taken as usize..];
+            let (taken, reply, _) = self.feed(bytes);
+            said.extend(reply);
+            bytes = &bytes[taken..];
         }
         said
+    }
+
+    /// The bytes up to the first that is answered: how many they are, the reply, and what else was told of them.
+    pub fn feed(&mut self, bytes: &[u8]) -> (usize, &[u8], Told) {
+        let (taken, told) = door::feed(
+            &self.part,
+            &mut self.state,
+            bytes,
+            &mut self.code,
+            &mut self.data,
+            &mut self.sums,
+            &mut self.room,
+        );
+        must("zc_feed", told.refusal);
+        (taken as usize, &self.room[..told.bytes as usize], told)
     }
 
     pub fn gap(&mut self) {
@@ -105,7 +112,19 @@ pub fn rehearse(
     }
 }
 
-/// How the job ended, and whether code flash from `start` on holds the image; whether both are well.
+/// What is wrong with a frame, and which of its bytes, the header being byte 0; nothing where nothing is.
+pub fn fault_text(fault: u64, place: u64) -> String {
+    let what = match fault {
+        door::FAULT_NONE => return String::new(),
+        door::FAULT_FOOTER => "wrong footer",
+        door::FAULT_SUM => "wrong SUM",
+        door::FAULT_LEN => "unfit LEN",
+        _ => "first byte missing or not 02h",
+    };
+    format!(", {what} (byte {place})")
+}
+
+/// How the job ended, of an unreadable answer with what was wrong in it, and whether code flash from `start` on holds the image; whether both are well.
 pub fn print_end(
     report: &Report,
     dock: &[u8; DOCK],
@@ -121,8 +140,10 @@ pub fn print_end(
         _ => "failed by timeout",
     };
     println!(
-        "{how}, {} frames, {} retries",
-        report.frames_used, report.retries_used
+        "{how}{}, {} frames, {} retries",
+        fault_text(door::dock_fault(dock), door::dock_place(dock)),
+        report.frames_used,
+        report.retries_used
     );
     let end = start + image.len();
     let holds = &chip.code[start..end] == image;

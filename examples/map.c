@@ -56,7 +56,7 @@ static void draw(void) {
 }
 
 int main(void) {
-    uint64_t length[1], reply[2], told[3] = {ZC_GOES_ON};
+    uint64_t length[1], reply[4], told[3] = {ZC_GOES_ON};
     uint16_t afresh[ZC_SUMS] = {0};
     terminal = isatty(STDOUT_FILENO);
 

@@ -32,7 +32,7 @@ int main(void) {
     uint32_t refused = zc_fresh(part, state);
     if (refused == 0) refused = zc_sums(part, code, sizeof code, data, sizeof data, sums);
     while (refused == 0 && at < sizeof heard) {
-        uint64_t told[3];
+        uint64_t told[5];
         refused = zc_feed(part, state, heard + at, sizeof heard - at, code, sizeof code, data, sizeof data, sums, room, sizeof room, told);
         if (refused != 0) break;
         at += told[0];

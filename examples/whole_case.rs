@@ -28,7 +28,7 @@ fn main() {
 
     // Output enough for the replies to all records.
     let mut output = [0; OUTPUT * (WHOLE_CASE.len() / 8 + 1)];
-    let (records, told) = replay(
+    let told = replay(
         &part,
         &mut state,
         &WHOLE_CASE,
@@ -50,7 +50,7 @@ fn main() {
     }
     match told.refusal {
         0 => println!("END {}", told.frames),
-        BAD_RECORD => println!("BAD {records}"),
+        BAD_RECORD => println!("BAD {}", told.records),
         number => println!("REFUSED {number}"),
     }
 }

@@ -24,7 +24,9 @@
  *     0 stage (ZC_STAGE_..)   1 whether the answer to that frame is awaited (0 or 1)   2-5 retries used   6-9 frames used
  *     10 whether a block is named (0 or 1)   11-14 the block, counted in the job from 0   15 whether a page is named (0 or 1)   16-19 the page
  *     20 why the job failed (ZC_BY_..)   21 the command of the frame that failed   22 the status named
- * Stages 4 to 9 name their block, 7 and 9 their page, and 11 what the failure names; whatever is not named is 0. Numbers are low byte first.
+ *     23 the fault of the answer that could not be read (ZC_FAULT_..)   24-25 its place
+ * Stages 4 to 9 name their block, 7 and 9 their page, and 11 what the failure names; whatever is not named is 0. Numbers are low byte first. In
+ * stage 11 any fault of the table below is accepted, beside any cause, a footer's or a SUM's with any place; another number or place is no state (9).
  *
  * A chip's sums are ZC_SUMS numbers, which the caller keeps beside its state and lends to every event (document 02, section 1): for each block what B0h says of
  * it, 0000h less each of its 1,024 bytes, in 16 bits; a blank block has 0400h. A bench screen reads them after each frame. They are numbers as the machine holds
@@ -35,6 +37,22 @@
  * block out afresh, and nothing else writes a sum. The slots of blocks that the part has not are never written.
  * Wrong sums are no fault of a call: none judges them, and none is refused for them. B0h over one block says the number that is kept, right or wrong; over more
  * blocks it adds up the bytes of flash. A wrong sum stays until its block is erased, a page of it is stored, or zc_sums is called.
+ *
+ * Which fault a bad frame has, and at which byte (document 02, section 4). On the wire 07h is a wrong SUM, but 15h a wrong footer or an unfit LEN. A number tells
+ * the faults apart, and a place says which byte, counted from the header of its own frame, which is 0. n is what LEN counts, 00h being 256, so places reach 259:
+ *     number               place   fault
+ *     0 ZC_FAULT_NONE      0       none
+ *     1 ZC_FAULT_FOOTER    n + 3   wrong footer
+ *     2 ZC_FAULT_SUM       n + 2   wrong SUM
+ *     3 ZC_FAULT_LEN       1       unfit LEN
+ *     4 ZC_FAULT_FIRST     0       first byte missing or not 02h; of an answer to the dock alone, since the chip skips what comes before a frame
+ * An event of the chip tells the fault of the frame that it completes: a wrong footer, else a wrong SUM, else an unfit LEN, of a data frame or of a command that is
+ * known and allowed in the phase. A byte that completes no frame, a gap, power-on, and a frame that is answered for anything else (04h, whatever its LEN, 05h, 10h
+ * and so on) tell 0 and 0.
+ * A job that an unreadable answer ends names the fault of the answer's first faulty frame; n is then what that frame should hold. Answers are judged in another
+ * order: first byte, LEN, footer, SUM. LEN is also unfit where it is missing, where its frame is cut short, and where bytes follow the last frame. Which frames
+ * are expected is read from bytes 2 and 3 of the answer, where its statuses lie, whatever else is wrong with it. So an empty answer and a missing second frame
+ * are ZC_FAULT_FIRST; a lone 02h, a bare 06h to 9Ah, and an answer to C0h whose 06h became 07h with its second frame behind it are ZC_FAULT_LEN.
  *
  * Each call answers 0, or the number of document 01's refusal, for the chip in the order 1, 2, 3, 9, 4, for the dock 1, 5, 6, 7, 9, 4, 8. After a refusal nothing
  * that was lent has changed, the sums and the numbers told included. zc_replay can also end with ZC_BAD_RECORD or ZC_OUTPUT_FULL, which are no refusals.
@@ -51,7 +69,7 @@
 #define ZC_STATE 294
 #define ZC_SUMS 72
 #define ZC_DATA_SUMS 64 /* the slot of data block 0 */
-#define ZC_DOCK 23
+#define ZC_DOCK 26
 #define ZC_ROOM 32 /* the least reply room */
 #define ZC_FRAME_ROOM 260 /* the least frame room */
 #define ZC_OUTPUT 192 /* output for the replies to one record */
@@ -102,6 +120,13 @@
 #define ZC_BY_UNREADABLE 3
 #define ZC_BY_TIMEOUT 4
 
+/* What is wrong with a frame: told by the chip's events, and byte 23 of the dock's state. Places count from the frame's header, and n is what its LEN counts. */
+#define ZC_FAULT_NONE 0 /* place 0 */
+#define ZC_FAULT_FOOTER 1 /* place n + 3, up to 259 */
+#define ZC_FAULT_SUM 2 /* place n + 2, up to 258 */
+#define ZC_FAULT_LEN 3 /* place 1 */
+#define ZC_FAULT_FIRST 4 /* place 0; of answers to the dock alone */
+
 #ifdef __cplusplus
 extern "C" {
 #endif
@@ -113,18 +138,20 @@ uint32_t zc_fresh(const uint8_t part[ZC_PART], uint8_t state[ZC_STATE]);
 /* The sums of all blocks of the part, worked out from flash; the other slots stay. Refusals: 1, 2, 3. */
 uint32_t zc_sums(const uint8_t part[ZC_PART], const uint8_t *code, uint64_t code_len, const uint8_t *data, uint64_t data_len, uint16_t sums[ZC_SUMS]);
 
-/* One event. A reply lies at the start of the room: told[0] bytes, which are told[1] frames; the room past them stays. */
+/* One event. A reply lies at the start of the room: told[0] bytes, which are told[1] frames; the room past them stays. told[2] is the fault of the frame that the
+ * event completed (ZC_FAULT_..), and told[3] its place; 0 and 0 where it completed none, or one without fault, and so for every gap and power-on. */
 uint32_t zc_byte(const uint8_t part[ZC_PART], uint8_t state[ZC_STATE], uint8_t byte, uint8_t *code, uint64_t code_len, uint8_t *data, uint64_t data_len,
-                 uint16_t sums[ZC_SUMS], uint8_t *room, uint64_t room_len, uint64_t told[2]);
+                 uint16_t sums[ZC_SUMS], uint8_t *room, uint64_t room_len, uint64_t told[4]);
 uint32_t zc_gap(const uint8_t part[ZC_PART], uint8_t state[ZC_STATE], uint8_t *code, uint64_t code_len, uint8_t *data, uint64_t data_len,
-                uint16_t sums[ZC_SUMS], uint8_t *room, uint64_t room_len, uint64_t told[2]);
+                uint16_t sums[ZC_SUMS], uint8_t *room, uint64_t room_len, uint64_t told[4]);
 uint32_t zc_power_on(const uint8_t part[ZC_PART], uint8_t state[ZC_STATE], uint8_t *code, uint64_t code_len, uint8_t *data, uint64_t data_len,
-                     uint16_t sums[ZC_SUMS], uint8_t *room, uint64_t room_len, uint64_t told[2]);
+                     uint16_t sums[ZC_SUMS], uint8_t *room, uint64_t room_len, uint64_t told[4]);
 
-/* Bytes one after the other, each as zc_byte would take it, up to the first that is answered; told[0] of them were taken, and told[1] and told[2] are the
- * reply's bytes and frames. Hand in the rest again. It is refused as zc_byte would be, also where there is no byte. */
+/* Bytes one after the other, each as zc_byte would take it, up to the first that is answered; told[0] of them were taken, told[1] and told[2] are the reply's
+ * bytes and frames, and told[3] and told[4] the fault and the place of the frame that the last byte taken completed. Hand in the rest again. It is refused as
+ * zc_byte would be, also where there is no byte. */
 uint32_t zc_feed(const uint8_t part[ZC_PART], uint8_t state[ZC_STATE], const uint8_t *fed, uint64_t fed_len, uint8_t *code, uint64_t code_len, uint8_t *data,
-                 uint64_t data_len, uint16_t sums[ZC_SUMS], uint8_t *room, uint64_t room_len, uint64_t told[3]);
+                 uint64_t data_len, uint16_t sums[ZC_SUMS], uint8_t *room, uint64_t room_len, uint64_t told[5]);
 
 /* Capture records (8 bytes each) one after the other. told[0] records were played; their replies, told[1] bytes and told[2] frames, lie end to end in the output.
  * It is refused before any record, as zc_gap would be, also where there is none. An empty capture needs no output. */
@@ -139,9 +166,9 @@ uint32_t zc_start(const uint8_t part[ZC_PART], const uint8_t job[ZC_JOB], const 
 uint32_t zc_ask(const uint8_t part[ZC_PART], const uint8_t job[ZC_JOB], const uint8_t *image, uint64_t image_len, uint8_t dock[ZC_DOCK], uint8_t *room,
                 uint64_t room_len, uint64_t told[1]);
 
-/* The whole answer to that frame, handed in at once. told[0]: ZC_GOES_ON, the next frame is due; ZC_FINISHED; ZC_FAILED, and the state says why. Once the job has
- * ended, told[1] and told[2] are the frames and the retries that it took; else both are 0. A status 07h or 15h spends a retry, an unreadable answer none: it
- * ends the job, as a timeout does. */
+/* The whole answer to that frame, handed in at once. told[0]: ZC_GOES_ON, the next frame is due; ZC_FINISHED; ZC_FAILED, and the state says why, and of an
+ * unreadable answer which byte was wrong. Once the job has ended, told[1] and told[2] are the frames and the retries that it took; else both are 0. A status 07h
+ * or 15h spends a retry, an unreadable answer none: it ends the job, as a timeout does. */
 uint32_t zc_answer(const uint8_t part[ZC_PART], const uint8_t job[ZC_JOB], const uint8_t *image, uint64_t image_len, uint8_t dock[ZC_DOCK],
                    const uint8_t *answer, uint64_t answer_len, uint64_t told[3]);
 
@@ -195,6 +222,9 @@ static inline int64_t zc_dock_page(const uint8_t dock[ZC_DOCK]) { return dock[15
 static inline uint8_t zc_dock_cause(const uint8_t dock[ZC_DOCK]) { return dock[20]; }
 static inline uint8_t zc_dock_command(const uint8_t dock[ZC_DOCK]) { return dock[21]; }
 static inline uint8_t zc_dock_status(const uint8_t dock[ZC_DOCK]) { return dock[22]; }
+/* The fault of the answer that could not be read, and its place in its frame; 0 and 0 where none is named. */
+static inline uint8_t zc_dock_fault(const uint8_t dock[ZC_DOCK]) { return dock[23]; }
+static inline uint16_t zc_dock_place(const uint8_t dock[ZC_DOCK]) { return (uint16_t)(dock[24] | dock[25] << 8); }
 
 #ifdef __cplusplus
 }

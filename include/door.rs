@@ -8,13 +8,20 @@ pub const JOB: usize = 11;
 pub const STATE: usize = 294;
 pub const SUMS: usize = 72;
 pub const DATA_SUMS: usize = 64;
-pub const DOCK: usize = 23;
+pub const DOCK: usize = 26;
 pub const ROOM: usize = 32;
 pub const FRAME_ROOM: usize = 260;
 pub const ANSWER: usize = 31;
 pub const OUTPUT: usize = 192;
 pub const BAD_RECORD: u32 = 16;
 pub const OUTPUT_FULL: u32 = 17;
+
+/// What is wrong with a frame, as the chip's events tell it and a failed dock names it; door.h has the place of each.
+pub const FAULT_NONE: u64 = 0;
+pub const FAULT_FOOTER: u64 = 1;
+pub const FAULT_SUM: u64 = 2;
+pub const FAULT_LEN: u64 = 3;
+pub const FAULT_FIRST: u64 = 4;
 
 /// A part as its bytes: three numbers, and device code (3), name (10), firmware version (3).
 pub type Part = [u8; PART];
@@ -53,10 +60,21 @@ fn low(number: u32) -> u8 {
     number.min(255) as u8
 }
 
-/// What a call of the chip tells: 0 or the refusal's number, and the reply's bytes and frames.
+/// What an event of the chip tells: 0 or the refusal's number, the reply's bytes and frames, and the fault of the frame that it completed, with its place.
 #[derive(Clone, Copy, Debug, PartialEq, Eq)]
 pub struct Told {
     pub refusal: u32,
+    pub bytes: u64,
+    pub frames: u64,
+    pub fault: u64,
+    pub place: u64,
+}
+
+/// What zc_replay tells: 0, the refusal's number, BAD_RECORD or OUTPUT_FULL, the records played, and the bytes and frames of their replies.
+#[derive(Clone, Copy, Debug, PartialEq, Eq)]
+pub struct Played {
+    pub refusal: u32,
+    pub records: u64,
     pub bytes: u64,
     pub frames: u64,
 }
@@ -104,7 +122,7 @@ pub fn byte(
     sums: &mut [u16; SUMS],
     room: &mut [u8],
 ) -> Told {
-    let mut told = [UNTOLD; 2];
+    let mut told = [UNTOLD; 4];
     let refusal = unsafe {
         zc_byte(
             part,
@@ -132,7 +150,7 @@ pub fn gap(
     sums: &mut [u16; SUMS],
     room: &mut [u8],
 ) -> Told {
-    let mut told = [UNTOLD; 2];
+    let mut told = [UNTOLD; 4];
     let refusal = unsafe {
         zc_gap(
             part,
@@ -159,7 +177,7 @@ pub fn power_on(
     sums: &mut [u16; SUMS],
     room: &mut [u8],
 ) -> Told {
-    let mut told = [UNTOLD; 2];
+    let mut told = [UNTOLD; 4];
     let refusal = unsafe {
         zc_power_on(
             part,
@@ -188,7 +206,7 @@ pub fn feed(
     sums: &mut [u16; SUMS],
     room: &mut [u8],
 ) -> (u64, Told) {
-    let mut told = [UNTOLD; 3];
+    let mut told = [UNTOLD; 5];
     let refusal = unsafe {
         zc_feed(
             part,
@@ -205,10 +223,10 @@ pub fn feed(
             &mut told,
         )
     };
-    (told[0], answered(refusal, [told[1], told[2]]))
+    let [taken, told @ ..] = told;
+    (taken, answered(refusal, told))
 }
 
-/// How many records were played, and what the call told; BAD_RECORD or OUTPUT_FULL stands where a refusal would.
 #[inline]
 pub fn replay(
     part: &Part,
@@ -219,7 +237,7 @@ pub fn replay(
     sums: &mut [u16; SUMS],
     room: &mut [u8],
     output: &mut [u8],
-) -> (u64, Told) {
+) -> Played {
     let mut told = [UNTOLD; 3];
     let refusal = unsafe {
         zc_replay(
@@ -239,15 +257,23 @@ pub fn replay(
             &mut told,
         )
     };
-    (told[0], answered(refusal, [told[1], told[2]]))
+    let [records, bytes, frames] = told;
+    Played {
+        refusal,
+        records,
+        bytes,
+        frames,
+    }
 }
 
 #[inline]
-fn answered(refusal: u32, [bytes, frames]: [u64; 2]) -> Told {
+fn answered(refusal: u32, [bytes, frames, fault, place]: [u64; 4]) -> Told {
     Told {
         refusal,
         bytes,
         frames,
+        fault,
+        place,
     }
 }
 
@@ -333,6 +359,18 @@ pub fn timeout(job: &Job, dock: &mut [u8; DOCK]) -> Report {
     reported(refusal, told)
 }
 
+/// The fault of the answer that could not be read, as an event would tell it.
+#[inline]
+pub fn dock_fault(dock: &[u8; DOCK]) -> u64 {
+    dock[23].into()
+}
+
+/// That fault's place in its frame.
+#[inline]
+pub fn dock_place(dock: &[u8; DOCK]) -> u64 {
+    u16::from_le_bytes([dock[24], dock[25]]).into()
+}
+
 #[inline]
 fn reported(refusal: u32, [ended, frames_used, retries_used]: [u64; 3]) -> Report {
     Report {
@@ -365,7 +403,7 @@ extern "C" {
         sums: *mut [u16; SUMS],
         room: *mut u8,
         room_len: u64,
-        told: *mut [u64; 2],
+        told: *mut [u64; 4],
     ) -> u32;
     fn zc_gap(
         part: *const [u8; PART],
@@ -377,7 +415,7 @@ extern "C" {
         sums: *mut [u16; SUMS],
         room: *mut u8,
         room_len: u64,
-        told: *mut [u64; 2],
+        told: *mut [u64; 4],
     ) -> u32;
     fn zc_power_on(
         part: *const [u8; PART],
@@ -389,7 +427,7 @@ extern "C" {
         sums: *mut [u16; SUMS],
         room: *mut u8,
         room_len: u64,
-        told: *mut [u64; 2],
+        told: *mut [u64; 4],
     ) -> u32;
     fn zc_feed(
         part: *const [u8; PART],
@@ -403,7 +441,7 @@ extern "C" {
         sums: *mut [u16; SUMS],
         room: *mut u8,
         room_len: u64,
-        told: *mut [u64; 3],
+        told: *mut [u64; 5],
     ) -> u32;
     fn zc_replay(
         part: *const [u8; PART],

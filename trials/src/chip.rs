@@ -1,7 +1,8 @@
 //! A proved chip with its flash, kept sums and reply room, and the twin's chip in the door's layout.
 
-use crate::door::{self, Told, NAMES, OUTPUT_FULL, ROOM, STATE, SUMS};
+use crate::door::{self, Played, Told, NAMES, OUTPUT_FULL, ROOM, STATE, SUMS};
 use twin::chip::{Chip, Phase, ERASED};
+use twin::frame::Fault;
 use twin::part::{Area, Part};
 
 pub struct Door {
@@ -73,14 +74,14 @@ impl Door {
 
     /// How many records were played, and the bytes of their replies. The output may be too short for all of them.
     pub fn replay(&mut self, capture: &[u8], output: &mut [u8]) -> (usize, usize) {
-        let (played, told) = self.play(capture, output);
+        let told = self.play(capture, output);
         assert!(told.refusal == 0 || told.refusal == OUTPUT_FULL);
-        (played, told.bytes as usize)
+        (told.records as usize, told.bytes as usize)
     }
 
-    /// The same for records of any kind: how many were played, and what the call told.
-    pub fn play(&mut self, capture: &[u8], output: &mut [u8]) -> (usize, Told) {
-        let (played, told) = door::replay(
+    /// The same for records of any kind: what the call told.
+    pub fn play(&mut self, capture: &[u8], output: &mut [u8]) -> Played {
+        door::replay(
             &self.part,
             &mut self.state,
             capture,
@@ -89,8 +90,7 @@ impl Door {
             &mut self.sums,
             &mut self.room,
             output,
-        );
-        (played as usize, told)
+        )
     }
 }
 
@@ -107,6 +107,11 @@ pub fn described(part: &Part) -> door::Part {
     names[3..13].copy_from_slice(&part.name);
     names[13..].copy_from_slice(&part.version);
     door::part(part.code_blocks, part.data_blocks, part.clock, &names)
+}
+
+/// A fault as the door has it: its number and its place, 0 and 0 for none.
+pub fn fault_numbers(fault: Option<Fault>) -> (u8, u16) {
+    fault.map_or((0, 0), |fault| (fault.number(), fault.place()))
 }
 
 /// The byte of a state that tells whether a difference was met (02 §2): 1 or 0 in phase 4, 0 in the others.

@@ -1,6 +1,6 @@
-//! The twin's dock in the door's layout: a job, and a state as 23 bytes.
+//! The twin's dock in the door's layout: a job, and a state as 26 bytes.
 
-use crate::chip::described;
+use crate::chip::{described, fault_numbers};
 use crate::door::{self, DOCK};
 use twin::dock::{Cause, Job, Stage, State};
 
@@ -51,6 +51,10 @@ pub fn cause_number(cause: Cause) -> u8 {
     }
 }
 
+/// Where a state names the fault of an unreadable answer (02 §4), and its place, low byte first.
+pub const FAULT: usize = 23;
+pub const PLACE: usize = 24;
+
 /// The twin's state in the door's layout.
 pub fn layout(state: &State) -> [u8; DOCK] {
     let (block, page) = match state.stage {
@@ -76,11 +80,14 @@ pub fn layout(state: &State) -> [u8; DOCK] {
         }
     }
     if let Stage::Failed(failure) = state.stage {
-        bytes[20..].copy_from_slice(&[
+        let (fault, place) = fault_numbers(failure.fault);
+        bytes[20..=FAULT].copy_from_slice(&[
             cause_number(failure.cause),
             failure.command,
             failure.status,
+            fault,
         ]);
+        bytes[PLACE..].copy_from_slice(&place.to_le_bytes());
     }
     bytes
 }

@@ -29,6 +29,8 @@ use Rattle.frame.proofs.Laws.Collector.{byte-hears, complete-is, dropped-is, he
 use Rattle.frame.proofs.Laws.Frame.{full-not, full-short, full-yes}
 use Rattle.frame.specs.Collector.{byteOf, dropped, hear, heard, holding}
 use Rattle.frame.specs.Frame.{complete, counted, full}
+use Rattle.frame.specs.declared.judgement.Judgement.{Judgement}
+use Rattle.frame.specs.declared.judgement.Judgement.the-variants.{Good}
 use Rattle.frame.specs.declared.Header.{Header}
 use Rattle.frame.specs.declared.Header.the-variants.{Command, Data}
 use Rattle.frame.specs.declared.collector.Collector.{Collector}
@@ -37,8 +39,8 @@ use Rattle.part.specs.declared.refusal.Refusal.{Refusal}
 use Rattle.part.specs.declared.refusal.Verdict.{Verdict}
 use Rattle.part.specs.declared.refusal.Verdict.the-variants.{Accepted}
 use Rattle.part.specs.declared.refusal.Verdict.the-variants as Verdict
-use Rattle.chip_reply.proofs.Laws.{said-silence, send-said}
-use Rattle.chip_reply.specs.Reply.{Said, payloads, said, saidOf, sendOf}
+use Rattle.chip_reply.proofs.Laws.{fault-silence, said-silence, send-said}
+use Rattle.chip_reply.specs.Reply.{Said, faultIn, payloads, said, saidOf, sendOf}
 use Rattle.chip_reply.specs.declared.Sent.{Sent}
 use Rattle.words.proofs.Laws.{and-both}
 use Rattle.words.specs.Words.{_and_, if_then_else_}
@@ -92,21 +94,23 @@ frame-is c d h b g e =
 
 -- A silent step: only what is heard, and perhaps the record, is new.
 pub quiet-settles : (p : Part) (c d : Collector) (k new : Core) (hs : List ℕ) (m : Memory) (room : List ℕ) → d ≡ holding c hs → 32 ≤ length room
-    → record { answer = Replied 0 0; chip = record { core = new; collector = d }; memory = m; room = room }
+    → record { answer = Replied 0 0; fault = Good; chip = record { core = new; collector = d }; memory = m; room = room }
     ≡ settled Accepted p (reaction hs (silent new m)) (record { core = k; collector = c }) m room
 unfolding settled
-quiet-settles p c d k new hs m room e h = rw (e, ← said-silence p (new .options) room)
+quiet-settles p c d k new hs m room e h = rw (e, ← said-silence p (new .options) room, fault-silence)
 
 -- A step whose frame was complete: the reply is sent, and the collector emptied.
-pub frame-settles : (p : Part) (d : Done) (c e : Collector) (k : Core) (s : Sent) (x : Effect) (m n : Memory) (room r : List ℕ)
-    → effect d n ≡ x → said s r ≡ saidOf (payloads p (d .core .options) (d .reply)) room → e ≡ dropped c
-    → record { answer = replied s; chip = record { core = d .core; collector = e }; memory = n; room = r }
+pub frame-settles : (p : Part) (d : Done) (c e : Collector) (k : Core) (s : Sent) (j : Judgement) (x : Effect) (m n : Memory) (room r : List ℕ)
+    → effect d n ≡ x → said s r ≡ saidOf (payloads p (d .core .options) (d .reply)) room → j ≡ faultIn (d .reply) → e ≡ dropped c
+    → record { answer = replied s; fault = j; chip = record { core = d .core; collector = e }; memory = n; room = r }
     ≡ settled Accepted p (reaction [] x) (record { core = k; collector = c }) m room
 unfolding settled
-frame-settles p d c e k s x m n room r f q g =
-    ap (λ (z : Said). record { answer = replied (z .sent); chip = record { core = d .core; collector = e }; memory = n; room = z .room }) q
-    ∙ ap (λ (z : Collector). record
-    { answer = replied (saidOf (payloads p (d .core .options) (d .reply)) room .sent); chip = record { core = d .core; collector = z }; memory = n; room = saidOf (payloads p (d .core .options) (d .reply)) room .room }) (g ∙ dropped-is c)
+frame-settles p d c e k s j x m n room r f q i g =
+    let says = saidOf (payloads p (d .core .options) (d .reply)) room in
+    ap (λ (z : Said). record { answer = replied (z .sent); fault = j; chip = record { core = d .core; collector = e }; memory = n; room = z .room }) q
+    ∙ ap (λ (z : Judgement). record { answer = replied (says .sent); fault = z; chip = record { core = d .core; collector = e }; memory = n; room = says .room }) i
+    ∙ ap (λ (z : Collector). record { answer = replied (says .sent); fault = faultIn (d .reply); chip = record { core = d .core; collector = z }; memory = n; room = says .room })
+    (g ∙ dropped-is c)
     ∙ ap (λ (y : Effect). settled Accepted p (reaction [] y) (record { core = k; collector = c }) m room) f
 
 pub next-within : (c d : Collector) (h : Header) (b : ℕ) → length (c .bytes) ≡ 260 → Begun c → d ≡ byteOf c h b → d .len ≤ 260
@@ -123,19 +127,21 @@ unfolding heardByte if_then_else_
 heard-on hs x k m t = rw t
 
 -- A byte that completes a frame, and one that does not. x is what a complete frame does.
-byte-done : (p : Part) (d : Done) (c next e : Collector) (k : Core) (h : Header) (b : ℕ) (s : Sent) (x : List ℕ → Effect) (m n : Memory) (room r : List ℕ)
+byte-done : (p : Part) (d : Done) (c next e : Collector) (k : Core) (h : Header) (b : ℕ) (s : Sent) (j : Judgement) (x : List ℕ → Effect) (m n : Memory)
+    (room r : List ℕ)
     → length (c .bytes) ≡ 260 → Begun c → next ≡ byteOf c h b → completesAt (c .len) (getD (c .bytes) 1 0) ≡ true
-    → effect d n ≡ x (take (next .len - 0) (next .bytes)) → said s r ≡ saidOf (payloads p (d .core .options) (d .reply)) room → e ≡ dropped c
-    → record { answer = replied s; chip = record { core = d .core; collector = e }; memory = n; room = r }
+    → effect d n ≡ x (take (next .len - 0) (next .bytes)) → said s r ≡ saidOf (payloads p (d .core .options) (d .reply)) room
+    → j ≡ faultIn (d .reply) → e ≡ dropped c
+    → record { answer = replied s; fault = j; chip = record { core = d .core; collector = e }; memory = n; room = r }
     ≡ settled Accepted p (heardByte (hear h (heard c) b) (x (hear h (heard c) b)) k m) (record { core = k; collector = c }) m room
-byte-done p d c next e k h b s x m n room r l g q t f u v =
-    frame-settles p d c e k s (x (take (next .len - 0) (next .bytes))) m n room r f u v
+byte-done p d c next e k h b s j x m n room r l g q t f u i v =
+    frame-settles p d c e k s j (x (take (next .len - 0) (next .bytes))) m n room r f u i v
     ∙ ap (λ (y : Reaction). settled Accepted p y (record { core = k; collector = c }) m room)
     (heard-done (hear h (heard c) b) (take (next .len - 0) (next .bytes)) x k m (frame-is c next h b g q) (completes-is c h b l g ∙ t))
 
 byte-on : (p : Part) (c next : Collector) (k : Core) (h : Header) (b : ℕ) (x : Effect) (m : Memory) (room : List ℕ)
     → length (c .bytes) ≡ 260 → Begun c → next ≡ byteOf c h b → completesAt (c .len) (getD (c .bytes) 1 0) ≡ false → 32 ≤ length room
-    → record { answer = Replied 0 0; chip = record { core = k; collector = next }; memory = m; room = room }
+    → record { answer = Replied 0 0; fault = Good; chip = record { core = k; collector = next }; memory = m; room = room }
     ≡ settled Accepted p (heardByte (hear h (heard c) b) x k m) (record { core = k; collector = c }) m room
 byte-on p c next k h b x m room l g e t q =
     quiet-settles p c next k k (hear h (heard c) b) m room (byte-holds c next h b g e) q
@@ -182,58 +188,60 @@ mode-way (HearsData w) n x e = absurd (no-mode Data n x e)
 -- The three ways of a byte, each settled as the phase says.
 pub mode-settles : (p : Part) (c : Collector) (k new : Core) (b : ℕ) (m : Memory) (room : List ℕ)
     → Accepts p k (handedWith c (length (m .flash .codeFlash)) (length (m .flash .dataFlash)) (length room)) → wayOf (hearing (k .phase)) (c .len) (getD (c .bytes) 1 0) ≡ Mode → new ≡ modeByte k b
-    → record { answer = Replied 0 0; chip = record { core = new; collector = c }; memory = m; room = room }
+    → record { answer = Replied 0 0; fault = Good; chip = record { core = new; collector = c }; memory = m; room = room }
     ≡ settled Accepted p (byteIn (hearing (k .phase)) p k (heard c) b m) (record { core = k; collector = c }) m room
 unfolding byteIn
 mode-settles p c k new b m room a w n =
     let e : hearing (k .phase) ≡ HearsNothing = mode-way (hearing (k .phase)) (c .len) (getD (c .bytes) 1 0) w in
     let z : c .len ≡ 0 = none-begun p k (c .len) (getD (c .bytes) 0 0) (getD (c .bytes) 1 0) (a .state) e in
-    ap (λ (q : Core). record { answer = Replied 0 0; chip = record { core = q; collector = c }; memory = m; room = room }) n
+    ap (λ (q : Core). record { answer = Replied 0 0; fault = Good; chip = record { core = q; collector = c }; memory = m; room = room }) n
     ∙ quiet-settles p c c k (modeByte k b) (heard c) m room (sym (holding-heard c (omega arith))) (a .roomy)
     ∙ ap (λ (f : Hearing). settled Accepted p (byteIn f p k (heard c) b m) (record { core = k; collector = c }) m room) (sym e)
 
 pub hears-settles : (p : Part) (c next : Collector) (k : Core) (g : Header) (b : ℕ) (m : Memory) (room : List ℕ) → length (c .bytes) ≡ 260
     → Accepts p k (handedWith c (length (m .flash .codeFlash)) (length (m .flash .dataFlash)) (length room)) → wayOf (hearing (k .phase)) (c .len) (getD (c .bytes) 1 0) ≡ Hears g → next ≡ byteOf c g b
-    → record { answer = Replied 0 0; chip = record { core = k; collector = next }; memory = m; room = room }
+    → record { answer = Replied 0 0; fault = Good; chip = record { core = k; collector = next }; memory = m; room = room }
     ≡ settled Accepted p (byteIn (hearing (k .phase)) p k (heard c) b m) (record { core = k; collector = c }) m room
 unfolding wayOf byteIn
 hears-settles p c next k g b m room l a w nx = go (hearing (k .phase)) refl w
   where
     on : (f : Hearing) (h : Header) (x : Effect) → Begun c → wayOn h (c .len) (getD (c .bytes) 1 0) ≡ Hears g
-        → record { answer = Replied 0 0; chip = record { core = k; collector = next }; memory = m; room = room }
+        → record { answer = Replied 0 0; fault = Good; chip = record { core = k; collector = next }; memory = m; room = room }
         ≡ settled Accepted p (heardByte (hear h (heard c) b) x k m) (record { core = k; collector = c }) m room
     on f h x u v =
         let q = hears-is h g (c .len) (getD (c .bytes) 1 0) v in
         byte-on p c next k h b x m room l u (nx ∙ ap (λ (i : Header). byteOf c i b) (sym (q .1))) (q .0) (a .roomy)
 
     go : (f : Hearing) → hearing (k .phase) ≡ f → wayOf f (c .len) (getD (c .bytes) 1 0) ≡ Hears g
-        → record { answer = Replied 0 0; chip = record { core = k; collector = next }; memory = m; room = room }
+        → record { answer = Replied 0 0; fault = Good; chip = record { core = k; collector = next }; memory = m; room = room }
         ≡ settled Accepted p (byteIn f p k (heard c) b m) (record { core = k; collector = c }) m room
     go HearsNothing e v = absurd (let z : _≡_ {A = ℕ} 0 1 = cc in omega arith)
     go HearsCommands e v = on HearsCommands Command (frameDoes HearsCommands p k (hear Command (heard c) b) m) (begun-in p c k HearsCommands Command _ _ _ l a e (command-collected _ _ _)) v
     go (HearsData w) e v = on (HearsData w) Data (frameDoes (HearsData w) p k (hear Data (heard c) b) m) (begun-in p c k (HearsData w) Data _ _ _ l a e (data-collected w _ _ _)) v
 
-pub completes-settles : (p : Part) (d : Done) (c next e : Collector) (k : Core) (g : Header) (b : ℕ) (s : Sent) (m n : Memory) (room r : List ℕ) → length (c .bytes) ≡ 260
-    → Accepts p k (handedWith c (length (m .flash .codeFlash)) (length (m .flash .dataFlash)) (length room)) → wayOf (hearing (k .phase)) (c .len) (getD (c .bytes) 1 0) ≡ Completes g → next ≡ byteOf c g b
-    → effect d n ≡ frameDoes (hearing (k .phase)) p k (take (next .len - 0) (next .bytes)) m → said s r ≡ sendOf p (d .core .options) (d .reply) room → e ≡ dropped c
-    → record { answer = replied s; chip = record { core = d .core; collector = e }; memory = n; room = r }
+pub completes-settles : (p : Part) (d : Done) (c next e : Collector) (k : Core) (g : Header) (b : ℕ) (s : Sent) (j : Judgement) (m n : Memory) (room r : List ℕ)
+    → length (c .bytes) ≡ 260 → Accepts p k (handedWith c (length (m .flash .codeFlash)) (length (m .flash .dataFlash)) (length room)) → wayOf (hearing (k .phase)) (c .len) (getD (c .bytes) 1 0) ≡ Completes g → next ≡ byteOf c g b
+    → effect d n ≡ frameDoes (hearing (k .phase)) p k (take (next .len - 0) (next .bytes)) m → said s r ≡ sendOf p (d .core .options) (d .reply) room
+    → j ≡ faultIn (d .reply) → e ≡ dropped c
+    → record { answer = replied s; fault = j; chip = record { core = d .core; collector = e }; memory = n; room = r }
     ≡ settled Accepted p (byteIn (hearing (k .phase)) p k (heard c) b m) (record { core = k; collector = c }) m room
 unfolding wayOf byteIn
-completes-settles p d c next e k g b s m n room r l a w nx x u v = go (hearing (k .phase)) refl w x
+completes-settles p d c next e k g b s j m n room r l a w nx x u i v = go (hearing (k .phase)) refl w x
   where
     done : (f : Hearing) (h : Header) → Begun c → wayOn h (c .len) (getD (c .bytes) 1 0) ≡ Completes g → effect d n ≡ frameDoes f p k (take (next .len - 0) (next .bytes)) m
-        → record { answer = replied s; chip = record { core = d .core; collector = e }; memory = n; room = r }
+        → record { answer = replied s; fault = j; chip = record { core = d .core; collector = e }; memory = n; room = r }
         ≡ settled Accepted p (heardByte (hear h (heard c) b) (frameDoes f p k (hear h (heard c) b) m) k m) (record { core = k; collector = c }) m room
-    done f h i j o =
-        let q = completes-way h g (c .len) (getD (c .bytes) 1 0) j in
-        byte-done p d c next e k h b s (λ (y : List ℕ). frameDoes f p k y m) m n room r l i (nx ∙ ap (λ (z : Header). byteOf c z b) (sym (q .1))) (q .0) o (u ∙ sym (send-said p (d .core .options) (d .reply) room (a .roomy) (a .part))) v
+    done f h y t o =
+        let q = completes-way h g (c .len) (getD (c .bytes) 1 0) t in
+        byte-done p d c next e k h b s j (λ (y : List ℕ). frameDoes f p k y m) m n room r l y
+        (nx ∙ ap (λ (z : Header). byteOf c z b) (sym (q .1))) (q .0) o (u ∙ sym (send-said p (d .core .options) (d .reply) room (a .roomy) (a .part))) i v
 
     go : (f : Hearing) → hearing (k .phase) ≡ f → wayOf f (c .len) (getD (c .bytes) 1 0) ≡ Completes g → effect d n ≡ frameDoes f p k (take (next .len - 0) (next .bytes)) m
-        → record { answer = replied s; chip = record { core = d .core; collector = e }; memory = n; room = r }
+        → record { answer = replied s; fault = j; chip = record { core = d .core; collector = e }; memory = n; room = r }
         ≡ settled Accepted p (byteIn f p k (heard c) b m) (record { core = k; collector = c }) m room
-    go HearsNothing e j o = absurd (let z : _≡_ {A = ℕ} 0 1 = cc in omega arith)
-    go HearsCommands e j o = done HearsCommands Command (begun-in p c k HearsCommands Command _ _ _ l a e (command-collected _ _ _)) j o
-    go (HearsData w) e j o = done (HearsData w) Data (begun-in p c k (HearsData w) Data _ _ _ l a e (data-collected w _ _ _)) j o
+    go HearsNothing e t o = absurd (let z : _≡_ {A = ℕ} 0 1 = cc in omega arith)
+    go HearsCommands e t o = done HearsCommands Command (begun-in p c k HearsCommands Command _ _ _ l a e (command-collected _ _ _)) t o
+    go (HearsData w) e t o = done (HearsData w) Data (begun-in p c k (HearsData w) Data _ _ _ l a e (data-collected w _ _ _)) t o
 
 -- One byte more is collected than before, at most.
 pub next-in-array : (p : Part) (c next : Collector) (k : Core) (g : Header) (b code flash room : ℕ) → length (c .bytes) ≡ 260
@@ -249,7 +257,7 @@ next-in-array p c next k g b code flash room l a w nx = go (hearing (k .phase)) 
 
 -- A gap or power-on: nothing is heard any more, and nothing is said.
 pub emptied : (p : Part) (c e : Collector) (k new : Core) (m : Memory) (room : List ℕ) → e ≡ dropped c → 32 ≤ length room
-    → record { answer = Replied 0 0; chip = record { core = new; collector = e }; memory = m; room = room }
+    → record { answer = Replied 0 0; fault = Good; chip = record { core = new; collector = e }; memory = m; room = room }
     ≡ settled Accepted p (reaction [] (silent new m)) (record { core = k; collector = c }) m room
 emptied p c e k new m room f h = quiet-settles p c e k new [] m room (f ∙ dropped-is c) h
 
@@ -263,7 +271,7 @@ step-accepted o x p c v w m room a e f g =
 
 pub step-barred : (p : Part) (c : Chip) (v : Event) (m : Memory) (room : List ℕ) (r : Refusal)
     → verdictOn p c (length (m .flash .codeFlash)) (length (m .flash .dataFlash)) (length room) ≡ Verdict.Refused r
-    → outcome (record { answer = Answer.Refused r; chip = c }) m room ≡ stepOf p c v m room
+    → outcome (record { answer = Answer.Refused r; fault = Good; chip = c }) m room ≡ stepOf p c v m room
 unfolding stepOf settled
 step-barred p c v m room r a = rw a
 

@@ -8,6 +8,8 @@ use Rattle.chip.specs.declared.Answer.the-variants.{Refused, Replied}
 use Rattle.chip_state.specs.declared.Chip.{Chip}
 use Rattle.chip.specs.declared.Event.{Event}
 use Rattle.chip_core.specs.Effect.{Memory}
+use Rattle.frame.specs.declared.judgement.Judgement.{Judgement}
+use Rattle.frame.specs.declared.judgement.Judgement.the-variants.{Good}
 use Rattle.part.specs.declared.Part.{Part}
 
 -- One more event, on what the last one left.
@@ -20,15 +22,16 @@ run p (v ∷ vs) o = run p vs (onward p o v)
 
 -- Before any event nothing has been said.
 abbrev pub before : Chip → Memory → List ℕ → Outcome
-before c m room = record { answer = Replied 0 0; chip = c; memory = m; room = room }
+before c m room = record { answer = Replied 0 0; fault = Good; chip = c; memory = m; room = room }
 
--- The answer to each event, with the room after it.
+-- The answer to each event, its fault, and the room after it.
 pub record Spoken : Type 0 where
   pub answer : Answer
+  pub fault : Judgement
   pub room : List ℕ
 
 abbrev pub spokenIn : Outcome → Spoken
-spokenIn o = record { answer = o .answer; room = o .room }
+spokenIn o = record { answer = o .answer; fault = o .fault; room = o .room }
 
 unfoldable pub answers : Part → List Event → Outcome → List Spoken
 answers p [] o = []

@@ -22,6 +22,8 @@ use Rattle.chip_core.specs.declared.Hearing.the-variants.{HearsCommands, HearsD
 use Rattle.chip_core.specs.declared.Phase.the-variants.{ModeByte, Setup}
 use Rattle.frame.specs.Collector.{fresh, hear, heard, holding}
 use Rattle.frame.specs.Frame.{complete}
+use Rattle.frame.specs.declared.judgement.Judgement.{Judgement}
+use Rattle.frame.specs.declared.judgement.Judgement.the-variants.{Good}
 use Rattle.frame.specs.declared.Header.the-variants.{Command, Data}
 use Rattle.chip_options.specs.Options.{freshOptions}
 use Rattle.part.specs.Part.{described}
@@ -30,7 +32,7 @@ use Rattle.part.specs.declared.refusal.Refusal.the-variants.{BadPart}
 use Rattle.part.specs.declared.refusal.Verdict.{Verdict}
 use Rattle.part.specs.declared.refusal.Verdict.the-variants.{Accepted}
 use Rattle.part.specs.declared.refusal.Verdict.the-variants as Verdict
-use Rattle.chip_reply.specs.Reply.{payloads, saidOf}
+use Rattle.chip_reply.specs.Reply.{faultIn, payloads, saidOf}
 use Rattle.chip_reply.specs.declared.Reply.the-variants.{Silence}
 use Rattle.chip_reply.specs.declared.Sent.{Sent}
 use Rattle.words.specs.Words.{_or_, if_then_else_}
@@ -76,26 +78,28 @@ reactTo (Byte b) p k hs m = byteIn (hearing (k .phase)) p k hs b m
 reactTo Gap p k hs m = reaction [] (silent k m)
 reactTo PowerOn p k hs m = reaction [] (silent (poweredOn k) m)
 
--- All that a step leaves.
+-- All that a step leaves: the answer, the judgement of the frame that it answers where that was judged bad (document 02, §4), the chip, and what was lent.
 pub record Outcome : Type 0 where
   pub answer : Answer
+  pub fault : Judgement
   pub chip : Chip
   pub memory : Memory
   pub room : List ℕ
 
 abbrev pub outcome : Step → Memory → List ℕ → Outcome
-outcome s m r = record { answer = s .answer; chip = s .chip; memory = m; room = r }
+outcome s m r = record { answer = s .answer; fault = s .fault; chip = s .chip; memory = m; room = r }
 
 abbrev pub replied : Sent → Answer
 replied s = Replied (s .bytes) (s .frames)
 
 -- A refused call changes nothing; otherwise what is heard becomes the collector, and the replies become bytes in the room.
 unfoldable pub settled : Verdict → Part → Reaction → Chip → Memory → List ℕ → Outcome
-settled (Verdict.Refused r) p x c m room = record { answer = Answer.Refused r; chip = c; memory = m; room = room }
+settled (Verdict.Refused r) p x c m room = record { answer = Answer.Refused r; fault = Good; chip = c; memory = m; room = room }
 settled Accepted p x c m room =
     let sends = saidOf (payloads p (x .does .core .options) (x .does .reply)) room in
     record {
       answer = replied (sends .sent);
+      fault = faultIn (x .does .reply);
       chip = record { core = x .does .core; collector = holding (c .collector) (x .hears) };
       memory = x .does .memory;
       room = sends .room;
@@ -112,4 +116,6 @@ unfoldable pub freshChip : Part → Chip
 freshChip p = record { core = record { options = freshOptions p; rate = 0x00; phase = ModeByte }; collector = fresh }
 
 unfoldable pub freshOf : Part → Step
-freshOf p = if described p then record { answer = Replied 0 0; chip = freshChip p } else record { answer = Answer.Refused BadPart; chip = freshChip p }
+freshOf p =
+    if described p then record { answer = Replied 0 0; fault = Good; chip = freshChip p }
+    else record { answer = Answer.Refused BadPart; fault = Good; chip = freshChip p }

@@ -24,6 +24,7 @@ use chip_state::Chip;
 use chip_state::Handed;
 use frame::Header;
 use frame::collector::Collector;
+use frame::judgement::Judgement;
 use part::Part;
 use part::refusal::Refusal;
 use part::refusal::Verdict;
@@ -112,9 +113,10 @@ fn powered_on(core: Core) -> Core
     }
 }
 
-// What a byte came to that is not refused: what was sent, and the chip after it.
+// What a byte came to that is not refused: what was sent, the fault of the frame that it completed, and the chip after it.
 struct ByteDone {
     sent: Sent,
+    fault: Judgement,
     chip: Chip,
 }
 
@@ -142,6 +144,7 @@ fn byte_step(
                 bytes: 0,
                 frames: 0,
             },
+            fault: Judgement::Good,
             chip: Chip {
                 core: mode_byte(core, b),
                 collector,
@@ -152,6 +155,7 @@ fn byte_step(
                 bytes: 0,
                 frames: 0,
             },
+            fault: Judgement::Good,
             chip: Chip {
                 core,
                 collector: collector.byte(header, b),
@@ -168,6 +172,7 @@ fn byte_step(
             let sent = chip_reply::send(part, options, reply, room);
             ByteDone {
                 sent,
+                fault: reply.fault(),
                 chip: Chip {
                     core: after,
                     collector: collector.gap(),
@@ -196,11 +201,13 @@ pub fn fresh(part: Part) -> Step
                 bytes: 0,
                 frames: 0,
             },
+            fault: Judgement::Good,
             chip,
         };
     }
     Step {
         answer: Answer::Refused(Refusal::BadPart),
+        fault: Judgement::Good,
         chip,
     }
 }
@@ -236,6 +243,7 @@ pub fn step(
         Verdict::Refused(refusal) => {
             return Step {
                 answer: Answer::Refused(refusal),
+                fault: Judgement::Good,
                 chip,
             };
         }
@@ -246,6 +254,7 @@ pub fn step(
                         bytes: 0,
                         frames: 0,
                     },
+                    fault: Judgement::Good,
                     chip: Chip {
                         core,
                         collector: collector.gap(),
@@ -258,6 +267,7 @@ pub fn step(
                         bytes: 0,
                         frames: 0,
                     },
+                    fault: Judgement::Good,
                     chip: Chip {
                         core: powered_on(core),
                         collector: collector.power_on(),
@@ -273,6 +283,7 @@ pub fn step(
                             bytes: 0,
                             frames: 0,
                         },
+                        fault: Judgement::Good,
                         chip: Chip {
                             core,
                             collector: next,
@@ -282,12 +293,14 @@ pub fn step(
                 let whole = chip;
                 let stepped = byte_step(part, whole, b, code, data, sums, room);
                 let sent = stepped.sent;
+                let fault = stepped.fault;
                 let next = stepped.chip;
                 return Step {
                     answer: Answer::Replied {
                         bytes: sent.bytes,
                         frames: sent.frames,
                     },
+                    fault,
                     chip: next,
                 };
             }

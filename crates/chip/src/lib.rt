@@ -2,6 +2,7 @@
 pub mod events;
 
 use chip_state::Chip;
+use frame::judgement::Judgement;
 use part::refusal::Refusal;
 
 pub enum Event {
@@ -15,7 +16,9 @@ pub enum Answer {
     Refused(Refusal),
 }
 
+// What a step leaves beside what is lent: the answer, the judgement of the frame that it answers where that was judged bad (else Good), and the chip.
 pub struct Step {
     pub answer: Answer,
+    pub fault: Judgement,
     pub chip: Chip,
 }

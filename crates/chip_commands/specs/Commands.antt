@@ -8,7 +8,7 @@ use Rattle.chip_core.specs.Effect.{Effect, Memory, acknowledge, awaiting, comma
 use Rattle.chip_core.specs.declared.Core.{Core}
 use Rattle.chip_core.specs.declared.Phase.{Phase}
 use Rattle.chip_core.specs.declared.Phase.the-variants.{Awaiting, ModeByte, Ready, Setup}
-use Rattle.chip_reply.specs.declared.Reply.the-variants.{Security, Signature}
+use Rattle.chip_reply.specs.declared.Reply.the-variants.{BadFrame, Security, Signature}
 use Rattle.chip_work.specs.Work.{blankCheck, blockErase, checksum, programming, rateSet, securityRelease, verify}
 use Rattle.commands.specs.Commands.{readCommand}
 use Rattle.commands.specs.declared.Command.{Command}
@@ -17,7 +17,7 @@ use Rattle.commands.specs.declared.Command.the-variants.{SecurityGet, SecurityR
 use Rattle.commands.specs.declared.Reading.{Reading}
 use Rattle.commands.specs.declared.Reading.the-variants.{Meant, UnfitLen, Unknown}
 use Rattle.frame.specs.Frame.{payload}
-use Rattle.frame.specs.Judgement.{isGood, judgeOf, statusOf}
+use Rattle.frame.specs.Judgement.{isGood, judgeOf}
 use Rattle.frame.specs.declared.Footer.the-variants.{Last}
 use Rattle.frame.specs.declared.judgement.Judgement.the-variants.{UnfitLength}
 use Rattle.part.specs.Part.{placeOf, rangeOf}
@@ -48,12 +48,12 @@ work SecurityRelease p k m = effect (securityRelease p k (m .flash)) m
 -- "command unknown .. 04h; LEN unfit for the command 15h; ..; then the work"
 unfoldable pub readingDoes : Reading → Part → Core → Memory → Effect
 readingDoes Unknown p k m = effect (says commandError k) m
-readingDoes UnfitLen p k m = effect (says (statusOf UnfitLength) k) m
+readingDoes UnfitLen p k m = effect (told (BadFrame UnfitLength) k) m
 readingDoes (Meant c) p k m = work c p k m
 
 -- A complete command frame: footer and SUM first, then whether the phase allows its COM, the command, its LEN, its parameters, protection, the work.
 unfoldable pub commandDoes : Part → Core → List ℕ → Memory → Effect
 commandDoes p k f m =
-    if not (isGood (judgeOf Last f)) then effect (says (statusOf (judgeOf Last f)) k) m
+    if not (isGood (judgeOf Last f)) then effect (told (BadFrame (judgeOf Last f)) k) m
     else if not (allowedIn (k .phase) (getD (payload f) 0 0)) then effect (says commandError k) m
     else readingDoes (readCommand (payload f)) p k m

@@ -8,6 +8,7 @@ use chip_core::Phase;
 use chip_reply::Reply;
 use commands::Command;
 use commands::Reading;
+use frame::judgement::Judgement;
 use part::Part;
 
 fn allowed_in(phase: Phase, cmd: u8) -> bool
@@ -77,7 +78,10 @@ fn reading_does(
 {
     match reading {
         Reading::Unknown => chip_core::says(core, 0x04),
-        Reading::UnfitLen => chip_core::says(core, 0x15),
+        Reading::UnfitLen => Done {
+            reply: Reply::BadFrame(Judgement::UnfitLength),
+            core,
+        },
         Reading::Meant(c) => work(part, core, c, code, data, sums),
     }
 }
@@ -103,5 +107,8 @@ pub fn command(
         }
         return chip_core::says(core, 0x04);
     }
-    chip_core::says(core, j.status())
+    Done {
+        reply: Reply::BadFrame(j),
+        core,
+    }
 }

@@ -51,11 +51,15 @@ admitted p s m room e = go (admissionAt p s m) refl
 abbrev held : List ℕ → Chip
 held s = record { core = coreIn s; collector = collectorIn s }
 
+-- No reply, no fault.
+abbrev pub nothingTold : List ℕ
+nothingTold = 0 ∷ 0 ∷ 0 ∷ 0 ∷ []
+
 quiet-steps : (p : Part) (v : Event) (told s l : List ℕ) (c : Chip) (m : Memory) (room : List ℕ) → acceptanceAt p s m room ≡ Accepted
-    → before c m room ≡ stepOf p (held s) v m room → l ≡ chipBytes c → stepTold 0 (0 ∷ 0 ∷ []) l m room ≡ steppedThrough p v told s m room
+    → before c m room ≡ stepOf p (held s) v m room → l ≡ chipBytes c → stepTold 0 nothingTold l m room ≡ steppedThrough p v told s m room
 unfolding steppedThrough steppedBy answeredBy
 quiet-steps p v told s l c m room e f g =
-    ap (λ (x : List ℕ). stepTold 0 (0 ∷ 0 ∷ []) x m room) g
+    ap (λ (x : List ℕ). stepTold 0 nothingTold x m room) g
     ∙ ap (λ (o : Outcome). answeredBy (o .answer) o told s) (f ∙ ap (λ (d : Chip). stepOf p d v m room) (sym (chip-in-is s)))
     ∙ ap (λ (u : Verdict). steppedBy u p v told s m room) (sym (admitted p s m room e))
 
@@ -66,13 +70,13 @@ held-accepted p s m room e =
 
 -- A gap.
 pub gap-steps : (p : Part) (told s : List ℕ) (m : Memory) (room : List ℕ) → Below 256 s → length s ≡ stateSize → acceptanceAt p s m room ≡ Accepted
-    → stepTold 0 (0 ∷ 0 ∷ []) (countLaid 0 s) m room ≡ steppedThrough p Gap told s m room
+    → stepTold 0 nothingTold (countLaid 0 s) m room ≡ steppedThrough p Gap told s m room
 gap-steps p told s m room b h e =
     quiet-steps p Gap told s (countLaid 0 s) _ m room e (gap-drops p (held s) m room (held-accepted p s m room e)) (gap-laid s b h (accepted-admits p s _ _ _ e))
 
 -- A byte that is only added.
 pub byte-steps : (p : Part) (b : ℕ) (told s : List ℕ) (m : Memory) (room : List ℕ) → Below 256 s → length s ≡ stateSize → acceptanceAt p s m room ≡ Accepted
-    → isAdded s ≡ true → stepTold 0 (0 ∷ 0 ∷ []) (byteLaid b s) m room ≡ steppedThrough p (Byte b) told s m room
+    → isAdded s ≡ true → stepTold 0 nothingTold (byteLaid b s) m room ≡ steppedThrough p (Byte b) told s m room
 byte-steps p b told s m room w h e f =
     quiet-steps p (Byte b) told s (byteLaid b s) _ m room e
     (byte-adds p (held s) (added (collectorIn s) (b ∷ [])) (Byte b) b _ m room (collected-long s h) (held-accepted p s m room e) refl (added-lacks s f) refl refl)

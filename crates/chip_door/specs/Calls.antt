@@ -15,6 +15,8 @@ use Rattle.chip_layout.specs.Layout.{chipBytes, chipIn}
 use Rattle.chip_layout.specs.Admission.{acceptanceNumber, chipAcceptance, chipAdmission}
 use Rattle.chip_core.specs.Effect.{Flash, Memory}
 use Rattle.chip_sums.specs.Sums.{workedOut}
+use Rattle.frame.specs.Judgement.{faultOf}
+use Rattle.frame.specs.declared.judgement.Judgement.{Judgement}
 use Rattle.part.specs.Refusal.{number}
 use Rattle.part.specs.declared.Part.{Part}
 use Rattle.part.specs.declared.refusal.Verdict.{Verdict}
@@ -29,6 +31,10 @@ bytesTold (Answer.Refused r) = 0
 unfoldable pub framesTold : Answer → ℕ
 framesTold (Replied bytes frames) = frames
 framesTold (Answer.Refused r) = 0
+
+-- And what the frame was judged, where that was bad (document 02, §4): the fault's number and its place; both 0 where there is none.
+abbrev pub faultTold : Judgement → List ℕ
+faultTold j = faultOf j .number ∷ faultOf j .place ∷ []
 
 -- A fresh chip: 1 for a part that is not described.
 pub record Made : Type 0 where
@@ -71,10 +77,10 @@ pub record StepTold : Type 0 where
 abbrev pub stepTold : ℕ → List ℕ → List ℕ → Memory → List ℕ → StepTold
 stepTold n told state m room = record { refusal = n; told = told; state = state; memory = m; room = room }
 
--- One event: the bytes and the frames of its reply. The chip itself judges a state, and refuses with its number.
+-- One event: the bytes and the frames of its reply, and the fault of the frame that it answers. The chip itself judges a state, and refuses with its number.
 unfoldable pub answeredBy : Answer → Outcome → List ℕ → List ℕ → StepTold
 answeredBy (Answer.Refused r) o told state = stepTold (number r) told state (o .memory) (o .room)
-answeredBy (Replied bytes frames) o told state = stepTold 0 (bytes ∷ frames ∷ []) (chipBytes (o .chip)) (o .memory) (o .room)
+answeredBy (Replied bytes frames) o told state = stepTold 0 (bytes ∷ frames ∷ faultTold (o .fault)) (chipBytes (o .chip)) (o .memory) (o .room)
 
 unfoldable pub steppedBy : Verdict → Part → Event → List ℕ → List ℕ → Memory → List ℕ → StepTold
 steppedBy (Verdict.Refused r) p v told state m room = stepTold (number r) told state m room
@@ -92,7 +98,7 @@ fedBy (Verdict.Refused r) p bs told state m room = stepTold (number r) told stat
 fedBy Accepted p bs told state m room =
     let f = feedOf p bs (before (chipIn state) m room) in
     let o = f .left in
-    stepTold 0 (f .taken ∷ bytesTold (o .answer) ∷ framesTold (o .answer) ∷ []) (chipBytes (o .chip)) (o .memory) (o .room)
+    stepTold 0 (f .taken ∷ bytesTold (o .answer) ∷ framesTold (o .answer) ∷ faultTold (o .fault)) (chipBytes (o .chip)) (o .memory) (o .room)
 
 unfoldable pub fedThrough : Part → List ℕ → List ℕ → List ℕ → Memory → List ℕ → StepTold
 fedThrough p bs told state m room =

@@ -79,7 +79,7 @@ fn step(
     data: &mut [u8],
     sums: &mut [u16; 72],
     room: &mut [u8],
-    told: &mut [u64; 2],
+    told: &mut [u64; 4],
 ) -> u32
     ensures { λ r. ⌜ stepTold r (now (told .exit)) (now (state .exit)) (memory (now (code .exit)) (now («data» .exit)) (now (sums .exit))) (now (room .exit))
         ≡ steppedThrough (partIn (now (part .entry))) event (now (told .entry)) (now (state .entry))
@@ -100,7 +100,9 @@ fn step(
                     frames: k,
                 } => {
                     chip_layout::lay_chip(s.chip, state);
-                    *told = [n as u64, k as u64];
+                    let judgement = s.fault;
+                    let fault = judgement.fault();
+                    *told = [n as u64, k as u64, fault.number as u64, fault.place as u64];
                     0
                 }
             }
@@ -116,8 +118,8 @@ fn are_bytes(state: &[u8])
     let b = state[0];
 }
 
-// A byte comes. The reply, if one is made, lies at the start of the room: told are its bytes and its frames. One that is only added to what is collected is written
-// where the state lies.
+// A byte comes. The reply, if one is made, lies at the start of the room: told are its bytes and its frames, and the fault of the frame that it answers, with its
+// place, where that was judged bad. One that is only added to what is collected is written where the state lies.
 #[no_mangle]
 pub extern "C" fn zc_byte(
     part: &[u8; 19],
@@ -127,7 +129,7 @@ pub extern "C" fn zc_byte(
     data: &mut [u8],
     sums: &mut [u16; 72],
     room: &mut [u8],
-    told: &mut [u64; 2],
+    told: &mut [u64; 4],
 ) -> u32
     ensures { λ r. ⌜ stepTold r (now (told .exit)) (now (state .exit)) (memory (now (code .exit)) (now («data» .exit)) (now (sums .exit))) (now (room .exit))
         ≡ steppedThrough (partIn (now (part .entry))) (Byte b) (now (told .entry)) (now (state .entry))
@@ -141,7 +143,7 @@ pub extern "C" fn zc_byte(
             return refused;
         }
         in_place::add_byte(state, b);
-        *told = [0, 0];
+        *told = [0, 0, 0, 0];
         return 0;
     }
     step(part, state, Event::Byte(b), code, data, sums, room, told)
@@ -156,7 +158,7 @@ pub extern "C" fn zc_gap(
     data: &mut [u8],
     sums: &mut [u16; 72],
     room: &mut [u8],
-    told: &mut [u64; 2],
+    told: &mut [u64; 4],
 ) -> u32
     ensures { λ r. ⌜ stepTold r (now (told .exit)) (now (state .exit)) (memory (now (code .exit)) (now («data» .exit)) (now (sums .exit))) (now (room .exit))
         ≡ steppedThrough (partIn (now (part .entry))) Gap (now (told .entry)) (now (state .entry))
@@ -169,7 +171,7 @@ pub extern "C" fn zc_gap(
         return refused;
     }
     in_place::lay_count(state, 0);
-    *told = [0, 0];
+    *told = [0, 0, 0, 0];
     0
 }
 
@@ -182,7 +184,7 @@ pub extern "C" fn zc_power_on(
     data: &mut [u8],
     sums: &mut [u16; 72],
     room: &mut [u8],
-    told: &mut [u64; 2],
+    told: &mut [u64; 4],
 ) -> u32
     ensures { λ r. ⌜ stepTold r (now (told .exit)) (now (state .exit)) (memory (now (code .exit)) (now («data» .exit)) (now (sums .exit))) (now (room .exit))
         ≡ steppedThrough (partIn (now (part .entry))) PowerOn (now (told .entry)) (now (state .entry))
@@ -191,8 +193,8 @@ pub extern "C" fn zc_power_on(
     step(part, state, Event::PowerOn, code, data, sums, room, told)
 }
 
-// Bytes one after the other, up to the first that is answered: told are how many were taken, and the bytes and the frames of the reply. The caller hands the
-// rest in again.
+// Bytes one after the other, up to the first that is answered: told are how many were taken, and the same of the last as of a byte. The caller hands the rest in
+// again.
 #[no_mangle]
 pub extern "C" fn zc_feed(
     part: &[u8; 19],
@@ -202,7 +204,7 @@ pub extern "C" fn zc_feed(
     data: &mut [u8],
     sums: &mut [u16; 72],
     room: &mut [u8],
-    told: &mut [u64; 3],
+    told: &mut [u64; 5],
 ) -> u32
     ensures { λ r. ⌜ stepTold r (now (told .exit)) (now (state .exit)) (memory (now (code .exit)) (now («data» .exit)) (now (sums .exit))) (now (room .exit))
         ≡ fedThrough (partIn (now (part .entry))) (now (fed .entry)) (now (told .entry)) (now (state .entry))
@@ -216,11 +218,15 @@ pub extern "C" fn zc_feed(
             let chip = chip_layout::chip_in(state);
             let f = chip_feed::feed(p, chip, fed, code, data, sums, room);
             let answer = f.answer;
+            let judgement = f.fault;
+            let fault = judgement.fault();
             chip_layout::lay_chip(f.chip, state);
             *told = [
                 f.taken as u64,
                 bytes_told(answer) as u64,
                 frames_told(answer) as u64,
+                fault.number as u64,
+                fault.place as u64,
             ];
             0
         }

@@ -65,8 +65,8 @@ unfolding fedOn
 on-refused a i r x rest e = rw e
 
 -- An outcome whose answer has been looked at.
-pub looked-at : {x : Outcome} {a : Answer} → x .answer ≡ a → _≡_ {A = Outcome} (record { answer = a; chip = x .chip; memory = x .memory; room = x .room }) x
-looked-at {x} {a} e = ap (λ (z : Answer). record { answer = z; chip = x .chip; memory = x .memory; room = x .room }) (sym e)
+pub looked-at : {x : Outcome} {a : Answer} → x .answer ≡ a → _≡_ {A = Outcome} (record { answer = a; fault = x .fault; chip = x .chip; memory = x .memory; room = x .room }) x
+looked-at {x} {a} e = ap (λ (z : Answer). record { answer = z; fault = x .fault; chip = x .chip; memory = x .memory; room = x .room }) (sym e)
 
 pub fed-turn : {p : Part} {bs : List ℕ} {i n k : ℕ} {o x : Outcome} {t : Feeding} → FedFrom p bs i o t → x ≡ stepOf p (o .chip) (Byte (getD bs i 0)) (o .memory) (o .room)
     → i < length bs → x .answer ≡ Replied n k → k ≤ 0 → FedFrom p bs (i + 1) x t

@@ -30,7 +30,7 @@ feedFrom p n [] o = feeding n o
 feedFrom p n (b ∷ bs) o = fedOn (onward p o (Byte b) .answer) n (onward p o (Byte b)) (feedFrom p (n + 1) bs (onward p o (Byte b)))
 
 abbrev pub fed : Fed → Memory → List ℕ → Feeding
-fed f m room = feeding (f .taken) (record { answer = f .answer; chip = f .chip; memory = m; room = room })
+fed f m room = feeding (f .taken) (record { answer = f .answer; fault = f .fault; chip = f .chip; memory = m; room = room })
 
 unfoldable pub feedOf : Part → List ℕ → Outcome → Feeding
 feedOf p bs o = feedFrom p 0 bs o

@@ -11,6 +11,7 @@ use chip::Event;
 use chip::events;
 use chip_state::Chip;
 use chip_state::Handed;
+use frame::judgement::Judgement;
 use part::Part;
 use part::refusal::Verdict;
 
@@ -18,6 +19,7 @@ use part::refusal::Verdict;
 pub struct Fed {
     pub taken: usize,
     pub answer: Answer,
+    pub fault: Judgement,
     pub chip: Chip,
 }
 
@@ -53,6 +55,7 @@ pub fn feed(
         bytes: 0,
         frames: 0,
     };
+    let mut fault = Judgement::Good;
     let mut i = 0;
     while i < bytes.len() {
         let old = collector;
@@ -74,6 +77,7 @@ pub fn feed(
                     return Fed {
                         taken: i,
                         answer: Answer::Refused(refusal),
+                        fault: Judgement::Good,
                         chip: Chip {
                             core,
                             collector: old,
@@ -88,6 +92,7 @@ pub fn feed(
                         bytes: 0,
                         frames: 0,
                     };
+                    fault = Judgement::Good;
                 }
             }
         } else {
@@ -100,11 +105,13 @@ pub fn feed(
             let stepped = events::step(part, whole, Event::Byte(b), code, data, sums, room);
             let chip = stepped.chip;
             let said = stepped.answer;
+            let found = stepped.fault;
             match said {
                 Answer::Refused(refusal) => {
                     return Fed {
                         taken: i,
                         answer: Answer::Refused(refusal),
+                        fault: found,
                         chip,
                     };
                 }
@@ -120,6 +127,7 @@ pub fn feed(
                                 bytes: n,
                                 frames: replies,
                             },
+                            fault: found,
                             chip,
                         };
                     }
@@ -129,6 +137,7 @@ pub fn feed(
                         bytes: n,
                         frames: replies,
                     };
+                    fault = found;
                 }
             }
         }
@@ -136,6 +145,7 @@ pub fn feed(
     Fed {
         taken: i,
         answer,
+        fault,
         chip: Chip { core, collector },
     }
 }

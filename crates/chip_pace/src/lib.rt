@@ -12,6 +12,7 @@ use chip::Event;
 use chip::Step;
 use chip::events;
 use chip_state::Chip;
+use frame::judgement::Judgement;
 use part::Part;
 
 fn steps(
@@ -31,6 +32,7 @@ fn steps(
             bytes: 0,
             frames: 0,
         },
+        fault: Judgement::Good,
         chip,
     };
     let mut i = 0;

@@ -13,9 +13,10 @@ use Rattle.chip_core.specs.declared.Phase.the-variants.{Awaiting, Ready}
 use Rattle.chip_flash.specs.Flash.{blank}
 use Rattle.chip_sums.specs.Sums.{resummed}
 use Rattle.frame.specs.Frame.{payload}
-use Rattle.frame.specs.Judgement.{fitting, isGood, judgeOf, statusOf}
+use Rattle.frame.specs.Judgement.{fitting, isGood, judgeOf}
 use Rattle.frame.specs.declared.Footer.{Footer}
 use Rattle.frame.specs.declared.Footer.the-variants.{Last, More}
+use Rattle.frame.specs.declared.judgement.Judgement.{Judgement}
 use Rattle.lent.specs.Lent.{putOf, same}
 use Rattle.chip_options.specs.Options.{goodOptions, optionsIn, raises}
 use Rattle.part.specs.Part.{pageSize, placeOf}
@@ -23,7 +24,7 @@ use Rattle.part.specs.declared.Part.{Part}
 use Rattle.part.specs.declared.Place.{Place}
 use Rattle.part.specs.declared.Place.the-variants.{In, Outside}
 use Rattle.chip_reply.specs.declared.Reply.{Reply}
-use Rattle.chip_reply.specs.declared.Reply.the-variants.{LastStored, Pair}
+use Rattle.chip_reply.specs.declared.Reply.the-variants.{BadFrame, BadPage, LastStored, Pair}
 use Rattle.words.specs.Words.{_and_, _or_, if_then_else_}
 
 abbrev pub ready : Core → Core
@@ -95,8 +96,8 @@ securityData p k ds =
     else says acknowledge (record { options = optionsIn ds; rate = k .rate; phase = Ready })
 
 -- "A bad page puts its status in both and ends the command." Of A0h: "Whatever its one-byte answer, a bad frame's included, the command is over."
-unfoldable pub badData : Awaited → ℕ → Core → Done
-badData w s k = if eqb (w .command) 0xA0 then says s (ready k) else pair s s (ready k)
+unfoldable pub badData : Awaited → Judgement → Core → Done
+badData w j k = if eqb (w .command) 0xA0 then told (BadFrame j) (ready k) else told (BadPage j) (ready k)
 
 unfoldable pub goodData : Part → Core → Awaited → List ℕ → Memory → Effect
 goodData p k w ds m =
@@ -108,5 +109,5 @@ goodData p k w ds m =
 unfoldable pub dataDoes : Part → Core → Awaited → List ℕ → Memory → Effect
 dataDoes p k w f m =
     let judgement = fitting (lengthOf w) f (judgeOf (footerOf w) f) in
-    if not (isGood judgement) then effect (badData w (statusOf judgement) k) m
+    if not (isGood judgement) then effect (badData w judgement k) m
     else goodData p k w (payload f) m

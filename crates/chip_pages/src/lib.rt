@@ -18,6 +18,7 @@ use chip_options::Options;
 use chip_reply::Reply;
 use frame::Footer;
 use frame::judgement;
+use frame::judgement::Judgement;
 use part::Area;
 use part::Part;
 use part::Place;
@@ -234,18 +235,18 @@ fn security_data(part: Part, core: Core, bytes: &[u8]) -> Done
     }
 }
 
-fn bad_data(core: Core, w: Awaited, status: u8) -> Done
-    ensures { λ r. ⌜ r ≡ badData w status core ⌝ }
+fn bad_data(core: Core, w: Awaited, j: Judgement) -> Done
+    ensures { λ r. ⌜ r ≡ badData w j core ⌝ }
 {
     let after = core.entered(Phase::Ready);
     if w.command == 0xA0 {
         return Done {
-            reply: Reply::Status(status),
+            reply: Reply::BadFrame(j),
             core: after,
         };
     }
     Done {
-        reply: Reply::Pair(status, status),
+        reply: Reply::BadPage(j),
         core: after,
     }
 }
@@ -289,5 +290,5 @@ pub fn page(
     if j.is_good() {
         return good_data(part, core, w, frame::payload(bytes), code, data, sums);
     }
-    bad_data(core, w, j.status())
+    bad_data(core, w, j)
 }

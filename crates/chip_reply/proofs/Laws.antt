@@ -12,6 +12,7 @@ use Rattle.frame.proofs.Laws.Sum.{none}
 use Rattle.frame.proofs.Laws.Wire.{framed-long, laid-lands}
 use Rattle.frame.specs.Frame.{framed}
 use Rattle.frame.specs.Framing.{frames}
+use Rattle.frame.specs.Judgement.{statusOf}
 use Rattle.frame.specs.Wire.{writeOf, wrote}
 use Rattle.frame.specs.declared.Footer.the-variants.{Last}
 use Rattle.frame.specs.declared.Header.the-variants.{Data}
@@ -25,10 +26,11 @@ use Rattle.part.proofs.LawsSignature.{signature-long}
 use Rattle.part.specs.Part.{described}
 use Rattle.part.specs.Signature.{signature}
 use Rattle.part.specs.declared.Part.{Part}
-use Rattle.chip_reply.specs.Reply.{framesOf, nothingSaid, payloads, said, saidOf, sendOf}
+use Rattle.chip_reply.specs.Reply.{faultIn, framesOf, nothingSaid, payloads, said, saidOf, sendOf}
 use Rattle.chip_reply.specs.declared.Reply.{Reply}
 use Rattle.chip_reply.specs.declared.Sent.{Sent}
-use Rattle.chip_reply.specs.declared.Reply.the-variants.{LastStored, Pair, Rate, Security, Signature, Silence, Status, Sum}
+use Rattle.chip_reply.specs.declared.Reply.the-variants.{BadFrame, BadPage, LastStored, Pair, Rate, Security, Signature, Silence, Status, Sum}
+use Rattle.frame.specs.declared.judgement.Judgement.the-variants.{Good}
 use Rattle.words.specs.Words.{_or_, if_then_else_}
 
 -- The answers of sending.
@@ -75,6 +77,10 @@ said-nothing room = said-is [] room room 0 0 refl refl refl
 pub said-silence : (p : Part) (o : Options) (room : List ℕ) → nothingSaid room ≡ saidOf (payloads p o Silence) room
 unfolding payloads
 said-silence p o room = said-nothing room
+
+pub fault-silence : faultIn Silence ≡ Good
+unfolding faultIn
+fault-silence = refl
 
 one-is : (ds : List ℕ) → framesOf (ds ∷ []) ≡ framed Data ds Last
 unfolding framesOf
@@ -128,8 +134,10 @@ pub reply-long : (p : Part) (o : Options) (r : Reply) → length (p .device) ≡
 unfolding payloads framesOf
 reply-long p o Silence d n v = omega arith
 reply-long p o (Status s) d n v = omega (arith, one-long (s ∷ []))
+reply-long p o (BadFrame j) d n v = omega (arith, one-long (statusOf j ∷ []))
 reply-long p o (Rate mode) d n v = omega (arith, one-long (0x06 ∷ p .clock ∷ mode ∷ []))
 reply-long p o (Pair s t) d n v = omega (arith, one-long (s ∷ t ∷ []))
+reply-long p o (BadPage j) d n v = omega (arith, one-long (statusOf j ∷ statusOf j ∷ []))
 reply-long p o LastStored d n v = omega (arith, two-long (0x06 ∷ 0x06 ∷ []) (0x06 ∷ []))
 reply-long p o (Sum x) d n v = omega (arith, two-long (0x06 ∷ []) (lowFirst 2 x), low-long 2 x)
 reply-long p o Signature d n v = omega (arith, two-long (0x06 ∷ []) (signature p), signature-long p d n v)
@@ -144,8 +152,10 @@ pub few-payloads : (p : Part) (o : Options) (r : Reply) → length (payloads p o
 unfolding payloads
 few-payloads p o Silence = omega arith
 few-payloads p o (Status s) = omega arith
+few-payloads p o (BadFrame j) = omega arith
 few-payloads p o (Rate mode) = omega arith
 few-payloads p o (Pair s t) = omega arith
+few-payloads p o (BadPage j) = omega arith
 few-payloads p o LastStored = omega arith
 few-payloads p o (Sum x) = omega arith
 few-payloads p o Signature = omega arith

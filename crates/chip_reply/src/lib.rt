@@ -3,17 +3,21 @@ ghost use mathlib.Core.Path.{_≡_};
 ghost use mathlib.Core.List.{[], _∷_};
 ghost use Prim.Native.Nat.{_+_, _≤_};
 ghost use lib.ListN.{length};
-ghost use Rattle.chip_reply.specs.Reply.{said, saidOf, sendOf};
+ghost use Rattle.chip_reply.specs.Reply.{faultIn, said, saidOf, sendOf};
 use chip_options::Options;
 use frame::Footer;
+use frame::judgement::Judgement;
 use frame::wire;
 use part::Part;
 
+// The reply to a bad frame has its judgement: one status, or that status twice where the frame was a page.
 pub enum Reply {
     Silence,
     Status(u8),
+    BadFrame(Judgement),
     Rate(u8),
     Pair(u8, u8),
+    BadPage(Judgement),
     LastStored,
     Sum(u16),
     Signature,
@@ -24,6 +28,26 @@ pub enum Reply {
 pub struct Sent {
     pub bytes: usize,
     pub frames: usize,
+}
+
+impl Reply {
+    // The judgement of the frame that it answers, where that was judged bad.
+    pub fn fault(self) -> Judgement
+        ensures { λ r. ⌜ r ≡ faultIn self ⌝ }
+    {
+        match self {
+            Reply::Silence => Judgement::Good,
+            Reply::Status(s) => Judgement::Good,
+            Reply::BadFrame(j) => j,
+            Reply::Rate(mode) => Judgement::Good,
+            Reply::Pair(s, t) => Judgement::Good,
+            Reply::BadPage(j) => j,
+            Reply::LastStored => Judgement::Good,
+            Reply::Sum(n) => Judgement::Good,
+            Reply::Signature => Judgement::Good,
+            Reply::Security => Judgement::Good,
+        }
+    }
 }
 
 fn send_one(room: &mut [u8], payload: &[u8]) -> Sent
@@ -76,12 +100,21 @@ pub fn send(part: Part, options: Options, reply: Reply, room: &mut [u8]) -> Sent
             let d = [s];
             send_one(room, &d)
         }
+        Reply::BadFrame(j) => {
+            let d = [j.status()];
+            send_one(room, &d)
+        }
         Reply::Rate(mode) => {
             let d = [0x06, part.clock as u8, mode];
             send_one(room, &d)
         }
         Reply::Pair(s, t) => {
             let d = [s, t];
+            send_one(room, &d)
+        }
+        Reply::BadPage(j) => {
+            let s = j.status();
+            let d = [s, s];
             send_one(room, &d)
         }
         Reply::LastStored => {

@@ -27,7 +27,7 @@ ToldRight : Part → Outcome → Event → Type 0
 ToldRight p o v = (a : Area) (block : ℕ) → SumOver p o v a block 1 → kept (o .memory .sums) a block ≡ blockSum p a block (o .memory .flash)
 
 self : (o : Outcome) → SameButSums o o
-self o = record { answer = refl; chip = refl; flash = refl; room = refl }
+self o = record { answer = refl; fault = refl; chip = refl; flash = refl; room = refl }
 
 -- A block that is asked for is one of the part's.
 one-inside : {p : Part} {o : Outcome} {v : Event} {a : Area} {block : ℕ} → SumOver p o v a block 1 → block < blocks p a
@@ -59,7 +59,7 @@ record Runs (p : Part) (vs : List Event) (o u : Outcome) : Type 0 where
   after : SameButSums (run p vs o) (runBefore p vs u)
 
 same-spoken : {o u : Outcome} → SameButSums o u → spokenIn o ≡ spokenIn u
-same-spoken e = rw (e .answer, e .room)
+same-spoken e = rw (e .answer, e .fault, e .room)
 
 runs : (p : Part) (vs : List Event) (o u : Outcome) → SameButSums o u → AllToldRight p o vs → Runs p vs o u
 unfolding answers answersUnder run runUnder ToldRight

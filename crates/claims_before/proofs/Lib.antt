@@ -3,5 +3,6 @@ pub mod Step
 pub mod AsBefore
 pub mod Said
 pub mod Verify
+pub mod Faults
 pub mod Examples
 pub mod VerifyExamples

@@ -1,6 +1,6 @@
 -- The chip beside the chip under other rules: one walk through what calls the rules, for every request that replaces some of them. Then the proof of `OwnRules`.
 -- Assumes nothing.
-use mathlib.Core.Bool.{Bool, false, false≢true, true}
+use mathlib.Core.Bool.{false, false≢true, true}
 use mathlib.Core.List.{List, [], _∷_}
 use mathlib.Core.Path.{_∙_, _≡_, ap, refl, sym}
 use Prim.Native.Nat.{ℕ}
@@ -11,7 +11,7 @@ use Rattle.chip.specs.Step.{Reaction, byteIn, frameDoes, heardByte, reactTo, re
 use Rattle.chip.specs.declared.Event.{Event}
 use Rattle.chip.specs.declared.Event.the-variants.{Byte, Gap, PowerOn}
 use Rattle.chip_commands.specs.Commands.{allowedIn, commandDoes, readingDoes, work}
-use Rattle.chip_core.specs.Effect.{Effect, Flash, Memory, effect}
+use Rattle.chip_core.specs.Effect.{Effect, Flash, Memory, effect, told}
 use Rattle.chip_core.specs.Hearing.{hearing}
 use Rattle.chip_core.specs.declared.Awaited.{Awaited}
 use Rattle.chip_core.specs.declared.Core.{Core}
@@ -20,11 +20,15 @@ use Rattle.chip_core.specs.declared.Hearing.{Hearing}
 use Rattle.chip_core.specs.declared.Hearing.the-variants.{HearsCommands, HearsData, HearsNothing}
 use Rattle.chip_core.specs.declared.Phase.{Phase}
 use Rattle.chip_core.specs.declared.Phase.the-variants.{Awaiting, ModeByte, Ready, Setup}
-use Rattle.chip_pages.specs.Pages.{dataDoes, footerOf, goodData, lengthOf, programPage, verifyPage}
+use Rattle.chip_pages.specs.Pages.{badData, dataDoes, footerOf, goodData, lengthOf, programPage, ready, verifyPage}
+use Rattle.chip_reply.specs.Reply.{faultIn}
+use Rattle.chip_reply.specs.declared.Reply.the-variants.{BadFrame, BadPage}
 use Rattle.chip_state.specs.declared.Chip.{Chip}
 use Rattle.chip_work.specs.Work.{blockErase, checksum}
-use Rattle.claims_before.specs.Rules.{OwnRules, Rules, byteInUnder, commandDoesUnder, dataDoesUnder, frameDoesUnder, goodDataUnder, reactToUnder, readingDoesUnder, stepUnder, workUnder}
+use Rattle.claims_before.specs.Rules.{OwnRules, Rules, badDataUnder, byteInUnder, commandDoesUnder, dataDoesUnder, frameDoesUnder, goodDataUnder, reactToUnder, readingDoesUnder, stepUnder, workUnder}
 use Rattle.claims_frame.specs.Collecting.{collectsOn, take-up}
+use Rattle.claims_runs.proofs.Faults.{Plain, check-plain, plainly, program-plain, rate-plain, release-plain, security-plain, status-plain, verify-plain}
+use Rattle.claims_runs.proofs.Window.{if-two}
 use Rattle.claims_runs.specs.Taken.{takenAs, takenIn}
 use Rattle.commands.proofs.Laws.{com-read}
 use Rattle.commands.specs.Commands.{comOf, readCommand}
@@ -37,17 +41,12 @@ use Rattle.frame.specs.Frame.{complete, payload}
 use Rattle.frame.specs.Judgement.{fitting, isGood, judgeOf}
 use Rattle.frame.specs.declared.Footer.the-variants.{Last}
 use Rattle.frame.specs.declared.Header.the-variants.{Command, Data}
+use Rattle.frame.specs.declared.judgement.Judgement.{Judgement}
+use Rattle.frame.specs.declared.judgement.Judgement.the-variants.{UnfitLength}
 use Rattle.part.specs.Part.{placeOf, rangeOf}
 use Rattle.part.specs.declared.Part.{Part}
 use Rattle.part.specs.declared.Place.{Place}
 use Rattle.words.specs.Words.{if_then_else_}
-
--- A claim about two choices by one test.
-pub if-two : {A B : Type 0} (P : A → B → Type 0) (t : Bool) {a c : A} {b d : B} → (t ≡ true → P a b) → (t ≡ false → P c d)
-    → P (if t then a else c) (if t then b else d)
-unfolding if_then_else_
-if-two P true f g = f refl
-if-two P false f g = g refl
 
 -- B0h is allowed in phase 3 alone.
 only-ready : (g : List ℕ) (start end : ℕ) → readCommand (payload g) ≡ Meant (Checksum start end) → (ph : Phase) → allowedIn ph (getD (payload g) 0 0) ≡ true
@@ -82,7 +81,7 @@ pub record PageTaken (k : Core) (hs : List ℕ) (v : Event) (w : Awaited) (g : L
 
 -- Where v comes after hs, each rule of R is, by Rel, like the chip's own. The same flash f is lent with the sums s, and under R with t.
 pub record RulesLike (R : Rules) (Rel : Effect → Effect → Type 0) (p : Part) (k : Core) (hs : List ℕ) (v : Event) (f : Flash) (s t : List ℕ) : Type 0 where
-  pub same : (d : Done) → Rel (effect d (lent f s)) (effect d (lent f t))
+  pub same : (d : Done) → Plain (d .reply) → Rel (effect d (lent f s)) (effect d (lent f t))
   pub erases : (x : Place) → Rel (blockErase p k x (lent f s)) (R .erases p k x (lent f t))
   pub sums : (g : List ℕ) (start end : ℕ) → k .phase ≡ Ready → takenIn (hearing (k .phase)) hs v ≡ g ∷ [] → isGood (judgeOf Last g) ≡ true
       → readCommand (payload g) ≡ Meant (Checksum start end)
@@ -91,6 +90,8 @@ pub record RulesLike (R : Rules) (Rel : Effect → Effect → Type 0) (p : Part)
       → Rel (programPage p k w (placeOf p (w .next)) (payload g) (lent f s)) (R .stores p k w (placeOf p (w .next)) (payload g) (lent f t))
   pub compares : (w : Awaited) (g : List ℕ) → PageTaken k hs v w g → eqb (w .command) 0x40 ≡ false
       → Rel (effect (verifyPage k w (placeOf p (w .next)) (payload g) f) (lent f s)) (effect (R .compares k w (placeOf p (w .next)) (payload g) f) (lent f t))
+  pub frames : (c : Core) (j : Judgement) → Rel (effect (told (BadFrame j) c) (lent f s)) (effect (told (R .toBadFrame j) c) (lent f t))
+  pub pages : (c : Core) (j : Judgement) → Rel (effect (told (BadPage j) c) (lent f s)) (effect (told (R .toBadPage j) c) (lent f t))
 
 -- Two reactions that hear the same, and whose effects Rel joins.
 pub record Both (Rel : Effect → Effect → Type 0) (x y : Reaction) : Type 0 where
@@ -101,40 +102,41 @@ module _ {R : Rules} {Rel : Effect → Effect → Type 0} {p : Part} {k : Core} 
   module _ (g : List ℕ) (q : takenIn (hearing (k .phase)) hs v ≡ g ∷ []) where
     works : isGood (judgeOf Last g) ≡ true → allowedIn (k .phase) (getD (payload g) 0 0) ≡ true → (c : Commands.Command) → readCommand (payload g) ≡ Meant c
         → Rel (work c p k (lent f s)) (workUnder R c p k (lent f t))
-    unfolding work workUnder
-    works u x (RateSet rate supply) e = l .same _
-    works u x Reset e = l .same _
+    unfolding work workUnder faultIn
+    works u x (RateSet rate supply) e = l .same _ (rate-plain p k rate supply)
+    works u x Reset e = l .same _ (status-plain _)
     works u x (BlockErase start) e = l .erases _
-    works u x (BlankCheck start end d01) e = l .same _
-    works u x (Programming start end) e = l .same _
-    works u x (Verify start end) e = l .same _
+    works u x (BlankCheck start end d01) e = l .same _ (check-plain p k _ d01 f)
+    works u x (Programming start end) e = l .same _ (program-plain p k _ start end)
+    works u x (Verify start end) e = l .same _ (verify-plain k _ start end)
     works u x (Checksum start end) e = l .sums g start end (only-ready g start end e (k .phase) x) q u e
-    works u x SignatureGet e = l .same _
-    works u x SecurityGet e = l .same _
-    works u x SecuritySet e = l .same _
-    works u x SecurityRelease e = l .same _
+    works u x SignatureGet e = l .same _ (plainly refl)
+    works u x SecurityGet e = l .same _ (plainly refl)
+    works u x SecuritySet e = l .same _ (status-plain _)
+    works u x SecurityRelease e = l .same _ (release-plain p k f)
 
     reading-does : isGood (judgeOf Last g) ≡ true → allowedIn (k .phase) (getD (payload g) 0 0) ≡ true → (r : Reading) → readCommand (payload g) ≡ r
         → Rel (readingDoes r p k (lent f s)) (readingDoesUnder R r p k (lent f t))
     unfolding readingDoes readingDoesUnder
-    reading-does u x Unknown e = l .same _
-    reading-does u x UnfitLen e = l .same _
+    reading-does u x Unknown e = l .same _ (status-plain _)
+    reading-does u x UnfitLen e = l .frames k UnfitLength
     reading-does u x (Meant c) e = works u x c e
 
     command-does : Rel (commandDoes p k g (lent f s)) (commandDoesUnder R p k g (lent f t))
     unfolding commandDoes commandDoesUnder
-    command-does = if-two Rel _ (λ u. l .same _) (λ u. if-two Rel _ (λ x. l .same _) (λ x. reading-does (not-false _ u) (not-false _ x) _ refl))
+    command-does = if-two Rel _ (λ u. l .frames k _) (λ u. if-two Rel _ (λ x. l .same _ (status-plain _)) (λ x. reading-does (not-false _ u) (not-false _ x) _ refl))
 
     data-does : (w : Awaited) → k .phase ≡ Awaiting w → Rel (dataDoes p k w g (lent f s)) (dataDoesUnder R p k w g (lent f t))
-    unfolding dataDoes dataDoesUnder goodData goodDataUnder
+    unfolding dataDoes dataDoesUnder badData badDataUnder goodData goodDataUnder
     data-does w ph =
-        if-two Rel _ (λ u. l .same _)
-        (λ u. if-two Rel _ (λ x. l .same _)
+        if-two Rel _ (λ u. if-two (λ (d e : Done). Rel (effect d (lent f s)) (effect e (lent f t))) _ (λ x. l .frames (ready k) _) (λ x. l .pages (ready k) _))
+        (λ u. if-two Rel _ (λ x. l .same _ (security-plain p k _))
         (λ x. let taken : PageTaken k hs v w g = record { phase = ph; taken = q; good = not-false _ u; page = x } in
         if-two Rel _ (l .stores w g taken) (l .compares w g taken)))
 
   quiet : (hs : List ℕ) (k : Core) → Both Rel (reaction hs (silent k (lent f s))) (reaction hs (silent k (lent f t)))
-  quiet hs k = record { hears = refl; does = l .same _ }
+  unfolding faultIn
+  quiet hs k = record { hears = refl; does = l .same _ (plainly refl) }
 
   heard-both : (hs : List ℕ) (x y : Effect) → (complete hs ≡ true → Rel x y) → Both Rel (heardByte hs x k (lent f s)) (heardByte hs y k (lent f t))
   unfolding heardByte
@@ -171,9 +173,11 @@ pub own-rules : OwnRules
 own-rules p c v m room =
     equal-step p c v m room
     (record {
-      same = λ d. refl;
+      same = λ d n. refl;
       erases = λ x. refl;
       sums = λ g start end ph q u e. refl;
       stores = λ w g q e. refl;
       compares = λ w g q e. refl;
+      frames = λ c j. refl;
+      pages = λ c j. refl;
     })

@@ -17,7 +17,7 @@ use Rattle.chip_core.specs.declared.Core.{Core}
 use Rattle.chip_core.specs.declared.Done.{Done}
 use Rattle.chip_core.specs.declared.Phase.the-variants.{Ready}
 use Rattle.chip_flash.specs.Flash.{sumOfBytes}
-use Rattle.chip_reply.specs.Reply.{framesOf, payloads}
+use Rattle.chip_reply.specs.Reply.{faultIn, framesOf, payloads}
 use Rattle.chip_reply.specs.declared.Reply.the-variants.{Sum}
 use Rattle.chip_sums.specs.Sums.{kept, rangeBytes}
 use Rattle.chip_work.specs.Work.{checksum}
@@ -54,7 +54,7 @@ asked-does p k m g start end ph good r =
 
 -- What a number is told with.
 tells : (p : Part) (k : Core) (m : Memory) (n : ℕ) → utteranceOf p (reaction [] (effect (told (Sum n) k) m)) ≡ saysSum n
-unfolding utteranceOf payloads framesOf framed lowFirst saysSum
+unfolding utteranceOf faultIn payloads framesOf framed lowFirst saysSum
 tells p k m n = refl
 
 -- The event does B0h's work over its range.

@@ -14,16 +14,18 @@ use Rattle.chip_core.specs.declared.Core.{Core}
 use Rattle.chip_core.specs.declared.Done.{Done}
 use Rattle.chip_flash.specs.Flash.{sumOfBytes}
 use Rattle.chip_pages.specs.Pages.{programPage}
+use Rattle.chip_reply.specs.Reply.{faultIn}
 use Rattle.chip_reply.specs.declared.Reply.the-variants.{Sum}
 use Rattle.chip_state.specs.declared.Chip.{Chip}
 use Rattle.chip_sums.proofs.Laws.{resummed-flash}
 use Rattle.chip_sums.specs.Sums.{blockSum, kept, rangeBytes}
 use Rattle.chip_work.specs.Work.{blockErase, checksum}
-use Rattle.claims_before.proofs.Rules.{Both, if-two, lent, react-both}
+use Rattle.claims_before.proofs.Rules.{Both, lent, react-both}
 use Rattle.claims_before.specs.AsBefore.{SameButSums}
 use Rattle.claims_before.specs.Asked.{SumOver}
 use Rattle.claims_before.specs.Before.{blockEraseBefore, checksumBefore, onwardBefore, programPageBefore}
 use Rattle.claims_before.specs.Rules.{stepUnder}
+use Rattle.claims_runs.proofs.Window.{if-two}
 use Rattle.part.specs.declared.Area.{Area}
 use Rattle.part.specs.declared.Part.{Part}
 use Rattle.part.specs.declared.Place.{Place}
@@ -74,10 +76,11 @@ module _ (p : Part) (k : Core) (f : Flash) (s t : List ℕ) where
   settled-both : (w : Verdict) (x y : Reaction) (c : Chip) (room : List ℕ) → Both Like x y
       → SameButSums (settled w p x c (lent f s) room) (settled w p y c (lent f t) room)
   unfolding settled
-  settled-both (Refused r) x y c room b = record { answer = refl; chip = refl; flash = refl; room = refl }
+  settled-both (Refused r) x y c room b = record { answer = refl; fault = refl; chip = refl; flash = refl; room = refl }
   settled-both Accepted x y c room b =
       record {
         answer = rw (b .does .core, b .does .reply);
+        fault = ap faultIn (b .does .reply);
         chip = rw (b .does .core, b .hears);
         flash = b .does .flash;
         room = rw (b .does .core, b .does .reply);
@@ -97,10 +100,12 @@ one-event p o u v e h =
     (settled-both p k f s t _ _ _ (o .chip) (o .room)
     (react-both v
     (record {
-      same = same p k f s t;
+      same = λ d n. same p k f s t d;
       erases = erases p k f s t;
       sums = λ g start end ph q good r.
           sums p k f s t _ (λ a b x. h a b (record { frame = g; start = start; end = end; phase = ph; taken = q; good = good; command = r; range = x }));
       stores = λ w g q x. stores p k f s t w _ _;
       compares = λ w g q x. same p k f s t _;
+      frames = λ c j. same p k f s t _;
+      pages = λ c j. same p k f s t _;
     })))

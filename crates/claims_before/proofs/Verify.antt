@@ -19,7 +19,7 @@ use Rattle.chip_core.specs.declared.Hearing.the-variants.{HearsData}
 use Rattle.chip_core.specs.declared.Phase.{Phase}
 use Rattle.chip_core.specs.declared.Phase.the-variants.{Awaiting}
 use Rattle.chip_pages.specs.Pages.{compared, footerOf, isLastPage, lengthOf, nextPage, pageIn, pair, verifyPage, verifyStatus}
-use Rattle.chip_reply.specs.Reply.{framesOf, payloads, saidOf}
+use Rattle.chip_reply.specs.Reply.{faultIn, framesOf, payloads, saidOf}
 use Rattle.chip_state.proofs.Laws.{accepts}
 use Rattle.chip_state.specs.Refusals.{goodPhase, goodState}
 use Rattle.claims_before.proofs.Rules.{PageTaken, equal-step, own-rules}
@@ -87,13 +87,15 @@ as-before-verify p o v n = go (verdictIn p o) refl
         sym
         (equal-step p (o .chip) v (o .memory) (o .room)
         (record {
-          same = λ d. refl;
+          same = λ d n. refl;
           erases = λ x. refl;
           sums = λ g start end ph q u e. refl;
           stores = λ w g q e. refl;
           compares = λ w g q x.
               ap (λ (d : Done). effect d (o .memory))
               (same-rule k w _ _ _ (λ e l. n (early w (at-page a w g q x false e) l)) (λ e l d. n (late w (at-page a w g q x true e) l d)));
+          frames = λ c j. refl;
+          pages = λ c j. refl;
         }))
 
 pub run-as-before-verify : RunAsBeforeVerify
@@ -130,7 +132,7 @@ module _ (R : Rules) (p : Part) (k : Core) (hs : List ℕ) (m : Memory) (w : Awa
 says-second : {equal : Bool} (R : Rules) (p : Part) (o : Outcome) (v : Event) (w : Awaited) (s : ℕ) (f : Phase) → Stands p o → (q : PageCompared p o v w equal)
     → R .compares (o .chip .core) w (placeOf p (w .next)) (payload (q .frame)) (o .memory .flash) ≡ pair acknowledge s (entered (o .chip .core) f)
     → SaysSecond o (onwardUnder R p o v) s f
-unfolding stepUnder settled hearing saidOf payloads framesOf framed goodFor
+unfolding stepUnder settled hearing saidOf faultIn payloads framesOf framed goodFor
 says-second R p o v w s f st q e =
     let k : Core = o .chip .core in
     rw (st .accepted, frame-heard R p k _ (o .memory) w (q .frame) v (ap hearing (q .phase)) (q .taken), page-does R p k (heard (o .chip .collector)) (o .memory) w (q .frame) (q .command) (q .good), e)

@@ -15,6 +15,7 @@ use Rattle.part.specs.declared.Part.{Part}
 -- Two outcomes that differ at most in the sums.
 pub record SameButSums (o u : Outcome) : Type 0 where
   pub answer : o .answer ≡ u .answer
+  pub fault : o .fault ≡ u .fault
   pub chip : o .chip ≡ u .chip
   pub flash : o .memory .flash ≡ u .memory .flash
   pub room : o .room ≡ u .room

@@ -17,7 +17,7 @@ use Rattle.chip_pages.specs.Pages.{nextPage, pageIn, pageStored, pair, ready, s
 use Rattle.chip_reply.specs.declared.Reply.the-variants.{Sum}
 use Rattle.chip_sums.specs.Sums.{rangeBytes}
 use Rattle.chip_work.specs.Work.{erasedIn, forbidden, isBoot}
-use Rattle.claims_before.specs.Rules.{Rules, answersUnder, onwardUnder, runUnder}
+use Rattle.claims_before.specs.Rules.{Rules, answersUnder, onwardUnder, rulesNow, runUnder}
 use Rattle.part.specs.Part.{blockSize}
 use Rattle.part.specs.declared.Part.{Part}
 use Rattle.part.specs.declared.Place.{Place}
@@ -45,7 +45,7 @@ programPageBefore k w at ds m =
     if not (blank (pageIn at (m .flash))) then effect (pair acknowledge writeError (ready k)) m
     else effect (told (storedReply w) (nextPage w k)) (withFlash m (pageStored at ds (m .flash)))
 
--- The rules of the chip before §1, which did not replace 13h's.
+-- The rules of the chip before §1, which replaced neither 13h's nor how a bad frame is answered.
 abbrev pub rulesBeforeSums : Rules
 rulesBeforeSums =
     record {
@@ -53,6 +53,8 @@ rulesBeforeSums =
       sums = λ p k r m. checksumBefore p k r (m .flash);
       stores = λ p. programPageBefore;
       compares = verifyPage;
+      toBadFrame = rulesNow .toBadFrame;
+      toBadPage = rulesNow .toBadPage;
     }
 
 -- Runs of it.

@@ -4,5 +4,6 @@ pub mod Asked
 pub mod AsBefore
 pub mod Said
 pub mod Verify
+pub mod Faults
 pub mod Examples
 pub mod VerifyExamples

@@ -18,8 +18,9 @@ use Rattle.chip_core.specs.declared.Core.{Core}
 use Rattle.chip_core.specs.declared.Done.{Done}
 use Rattle.chip_core.specs.declared.Hearing.{Hearing}
 use Rattle.chip_core.specs.declared.Hearing.the-variants.{HearsCommands, HearsData, HearsNothing}
-use Rattle.chip_pages.specs.Pages.{badData, footerOf, lengthOf, programPage, securityData, verifyPage}
-use Rattle.chip_reply.specs.declared.Reply.the-variants.{Security, Signature}
+use Rattle.chip_pages.specs.Pages.{footerOf, lengthOf, programPage, ready, securityData, verifyPage}
+use Rattle.chip_reply.specs.declared.Reply.{Reply}
+use Rattle.chip_reply.specs.declared.Reply.the-variants.{BadFrame, BadPage, Security, Signature}
 use Rattle.chip_state.specs.Refusals.{verdictOn}
 use Rattle.chip_state.specs.declared.Chip.{Chip}
 use Rattle.chip_work.specs.Work.{blankCheck, blockErase, checksum, programming, rateSet, securityRelease, verify}
@@ -31,9 +32,10 @@ use Rattle.commands.specs.declared.Reading.{Reading}
 use Rattle.commands.specs.declared.Reading.the-variants.{Meant, UnfitLen, Unknown}
 use Rattle.frame.specs.Collector.{hear, heard}
 use Rattle.frame.specs.Frame.{payload}
-use Rattle.frame.specs.Judgement.{fitting, isGood, judgeOf, statusOf}
+use Rattle.frame.specs.Judgement.{fitting, isGood, judgeOf}
 use Rattle.frame.specs.declared.Footer.the-variants.{Last}
 use Rattle.frame.specs.declared.Header.the-variants.{Command, Data}
+use Rattle.frame.specs.declared.judgement.Judgement.{Judgement}
 use Rattle.frame.specs.declared.judgement.Judgement.the-variants.{UnfitLength}
 use Rattle.part.specs.Part.{placeOf, rangeOf}
 use Rattle.part.specs.declared.Part.{Part}
@@ -41,12 +43,15 @@ use Rattle.part.specs.declared.Place.{Place}
 use Rattle.part.specs.declared.Range.{Range}
 use Rattle.words.specs.Words.{if_then_else_}
 
--- 22h's rule, B0h's, and those of a good page of 40h and of 13h. §1 replaces the first three, §2 the last, §6 the third again.
+-- 22h's rule, B0h's, those of a good page of 40h and of 13h, and how a bad frame and a bad page are answered. §1 replaces the first three, §2 the fourth, §4 the
+-- last two, §6 the third again.
 pub record Rules : Type 0 where
   pub erases : Part → Core → Place → Memory → Effect
   pub sums : Part → Core → Range → Memory → Done
   pub stores : Part → Core → Awaited → Place → List ℕ → Memory → Effect
   pub compares : Core → Awaited → Place → List ℕ → Flash → Done
+  pub toBadFrame : Judgement → Reply
+  pub toBadPage : Judgement → Reply
 
 -- The commands' work, in the order of the table.
 unfoldable pub workUnder : Rules → Commands.Command → Part → Core → Memory → Effect
@@ -64,15 +69,18 @@ workUnder R SecurityRelease p k m = effect (securityRelease p k (m .flash)) m
 
 unfoldable pub readingDoesUnder : Rules → Reading → Part → Core → Memory → Effect
 readingDoesUnder R Unknown p k m = effect (says commandError k) m
-readingDoesUnder R UnfitLen p k m = effect (says (statusOf UnfitLength) k) m
+readingDoesUnder R UnfitLen p k m = effect (told (R .toBadFrame UnfitLength) k) m
 readingDoesUnder R (Meant c) p k m = workUnder R c p k m
 
 -- A complete command frame.
 unfoldable pub commandDoesUnder : Rules → Part → Core → List ℕ → Memory → Effect
 commandDoesUnder R p k f m =
-    if not (isGood (judgeOf Last f)) then effect (says (statusOf (judgeOf Last f)) k) m
+    if not (isGood (judgeOf Last f)) then effect (told (R .toBadFrame (judgeOf Last f)) k) m
     else if not (allowedIn (k .phase) (getD (payload f) 0 0)) then effect (says commandError k) m
     else readingDoesUnder R (readCommand (payload f)) p k m
+
+unfoldable pub badDataUnder : Rules → Awaited → Judgement → Core → Done
+badDataUnder R w j k = if eqb (w .command) 0xA0 then told (R .toBadFrame j) (ready k) else told (R .toBadPage j) (ready k)
 
 unfoldable pub goodDataUnder : Rules → Part → Core → Awaited → List ℕ → Memory → Effect
 goodDataUnder R p k w ds m =
@@ -84,7 +92,7 @@ goodDataUnder R p k w ds m =
 unfoldable pub dataDoesUnder : Rules → Part → Core → Awaited → List ℕ → Memory → Effect
 dataDoesUnder R p k w f m =
     let judgement = fitting (lengthOf w) f (judgeOf (footerOf w) f) in
-    if not (isGood judgement) then effect (badData w (statusOf judgement) k) m
+    if not (isGood judgement) then effect (badDataUnder R w judgement k) m
     else goodDataUnder R p k w (payload f) m
 
 unfoldable pub frameDoesUnder : Rules → Hearing → Part → Core → List ℕ → Memory → Effect
@@ -122,7 +130,8 @@ answersUnder R p (v ∷ vs) o = spokenIn (onwardUnder R p o v) ∷ answersUnder 
 
 -- The chip's own rules: under them it is the chip.
 abbrev pub rulesNow : Rules
-rulesNow = record { erases = blockErase; sums = checksum; stores = programPage; compares = verifyPage }
+rulesNow =
+    record { erases = blockErase; sums = checksum; stores = programPage; compares = verifyPage; toBadFrame = λ j. BadFrame j; toBadPage = λ j. BadPage j }
 
 abbrev pub OwnRules : Type 0
 OwnRules = (p : Part) (c : Chip) (v : Event) (m : Memory) (room : List ℕ) → stepUnder rulesNow p c v m room ≡ stepOf p c v m room

@@ -13,12 +13,13 @@ use Rattle.claims_before.specs.Asked.{SumOver}
 use Rattle.claims_good.specs.Good.{Stands, Utterance, uttered}
 use Rattle.frame.specs.Frame.{dataFrame}
 use Rattle.frame.specs.declared.Footer.the-variants.{Last}
+use Rattle.frame.specs.declared.judgement.Judgement.the-variants.{Good}
 use Rattle.part.specs.declared.Area.{Area}
 use Rattle.part.specs.declared.Part.{Part}
 
 -- "06h, then a two-byte data frame, low first": two frames, of 11 bytes.
 unfoldable pub saysSum : ℕ → Utterance
-saysSum n = record { answer = Replied 11 2; bytes = dataFrame (0x06 ∷ []) Last ++ dataFrame (n % 256 ∷ n / 256 % 256 ∷ []) Last }
+saysSum n = record { answer = Replied 11 2; fault = Good; bytes = dataFrame (0x06 ∷ []) Last ++ dataFrame (n % 256 ∷ n / 256 % 256 ∷ []) Last }
 
 -- This number is said, and nothing is changed: not flash, not a sum, not the record.
 pub record TellsSum (p : Part) (o : Outcome) (v : Event) (n : ℕ) : Type 0 where

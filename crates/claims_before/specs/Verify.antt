@@ -13,9 +13,8 @@ use Rattle.chip_core.specs.declared.Core.{Core}
 use Rattle.chip_core.specs.declared.Done.{Done}
 use Rattle.chip_core.specs.declared.Phase.{Phase}
 use Rattle.chip_core.specs.declared.Phase.the-variants.{Awaiting, Ready}
-use Rattle.chip_pages.specs.Pages.{isLastPage, nextPage, pageIn, pair, programPage, ready}
-use Rattle.chip_work.specs.Work.{blockErase, checksum}
-use Rattle.claims_before.specs.Rules.{Rules, answersUnder, onwardUnder, runUnder}
+use Rattle.chip_pages.specs.Pages.{isLastPage, nextPage, pageIn, pair, ready}
+use Rattle.claims_before.specs.Rules.{Rules, answersUnder, onwardUnder, rulesNow, runUnder}
 use Rattle.claims_fed.specs.Fed.{saysFrame}
 use Rattle.claims_good.specs.Good.{Stands, uttered}
 use Rattle.claims_runs.specs.Options.{Never}
@@ -34,7 +33,15 @@ verifyPageBefore k w at ds m =
 
 -- The rules of the chip before §2, which replaced 13h's alone.
 abbrev pub rulesBeforeVerify : Rules
-rulesBeforeVerify = record { erases = blockErase; sums = checksum; stores = programPage; compares = verifyPageBefore }
+rulesBeforeVerify =
+    record {
+      erases = rulesNow .erases;
+      sums = rulesNow .sums;
+      stores = rulesNow .stores;
+      compares = verifyPageBefore;
+      toBadFrame = rulesNow .toBadFrame;
+      toBadPage = rulesNow .toBadPage;
+    }
 
 -- Where the two differ: a page that differs and is not the last, whose difference was told too early; and a last page that is equal after one that was not, to which
 -- the difference is told now.

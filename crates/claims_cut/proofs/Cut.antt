@@ -1,8 +1,8 @@
 -- The proofs of `OneEvent` and `PowerOnKeeps`.
 -- Assumes nothing.
-use mathlib.Core.Bool.{Bool, false, false≢true, true}
+use mathlib.Core.Bool.{Bool, false, false≢true, not, true}
 use mathlib.Core.List.{List}
-use mathlib.Core.Path.{_≡_, ap, refl}
+use mathlib.Core.Path.{_∙_, _≡_, ap, refl, sym}
 use Prim.Native.Nat.{_%_, _*_, _+_, _-_, _≤_, ℕ}
 use native.Mathlib.Nat.{mul-le-mul-right, suc-mul}
 use native.Mathlib.Numerals.{add-one}
@@ -42,7 +42,7 @@ use Rattle.chip_flash.specs.Flash.{eraseOf, erased}
 use Rattle.frame.specs.Collector.{heard}
 use Rattle.frame.specs.Judgement.{fitting, isGood, judgeOf}
 use Rattle.frame.specs.declared.judgement.Judgement.{Judgement}
-use Rattle.frame.specs.declared.judgement.Judgement.the-variants.{Good, UnfitLength, WrongFooter, WrongSum}
+use Rattle.frame.specs.declared.judgement.Judgement.the-variants.{UnfitLength}
 use Rattle.part.proofs.Laws.{Spot, block-page, lies-place, place-lies}
 use Rattle.part.specs.Part.{blockSize, blocks, described, first, pageSize, placeIn, placeOf, size}
 use Rattle.part.specs.declared.Area.{Area}
@@ -51,7 +51,7 @@ use Rattle.part.specs.declared.Part.{Part}
 use Rattle.part.specs.declared.Place.{Place}
 use Rattle.part.specs.declared.Place.the-variants.{In, Outside}
 use Rattle.words.proofs.Laws.{and-right, if-all}
-use Rattle.words.specs.Words.{if_then_else_}
+use Rattle.words.specs.Words.{_and_, if_then_else_}
 
 record Does (p : Part) (m : Memory) (x : Effect) : Type 0 where
   change : Change p m (x .memory)
@@ -71,15 +71,13 @@ block-inside p at a offset block page s z =
 
 -- A good page has 256 bytes.
 fitting-long : (n : ℕ) (bs : List ℕ) (j : Judgement) → isGood (fitting n bs j) ≡ true → length bs ≡ n + 4
-unfolding fitting if_then_else_
-fitting-long n bs Good e = go (eqb (length bs) (n + 4)) refl e
+unfolding fitting if_then_else_ _and_
+fitting-long n bs j e = go (isGood j) refl (eqb (length bs) (n + 4)) refl e
   where
-    go : (t : Bool) → eqb (length bs) (n + 4) ≡ t → isGood (if t then Good else UnfitLength) ≡ true → length bs ≡ n + 4
-    go true q e = eqb-true _ _ q
-    go false q e = absurd (false≢true e)
-fitting-long n bs WrongFooter e = absurd (false≢true e)
-fitting-long n bs WrongSum e = absurd (false≢true e)
-fitting-long n bs UnfitLength e = absurd (false≢true e)
+    go : (t : Bool) → isGood j ≡ t → (u : Bool) → eqb (length bs) (n + 4) ≡ u → isGood (if t and not u then UnfitLength else j) ≡ true → length bs ≡ n + 4
+    go t q true r g = eqb-true _ _ r
+    go true q false r g = absurd (false≢true g)
+    go false q false r g = absurd (false≢true (sym q ∙ g))
 
 pub page-long : (w : Awaited) (f : List ℕ) → eqb (w .command) 0xA0 ≡ false → isGood (fitting (lengthOf w) f (judgeOf (footerOf w) f)) ≡ true
     → length (payload f) ≡ 256

@@ -31,6 +31,8 @@ use Rattle.dock_job.specs.declared.Stage.{Stage}
 use Rattle.dock_job.specs.declared.Stage.the-variants.{InBlock, Over, SetUp}
 use Rattle.dock_job.specs.declared.Work.{Work}
 use Rattle.dock_job.specs.declared.Work.the-variants.{Blank, Erase, Program, ProgramPage, VerifyBlock, VerifyPage}
+use Rattle.frame.specs.declared.judgement.Judgement.{Judgement}
+use Rattle.frame.specs.declared.judgement.Judgement.the-variants.{Good}
 use Rattle.words.proofs.Laws.{and-both, and-left, if-both}
 use Rattle.words.specs.Words.{_and_, _or_, if_then_else_}
 
@@ -157,24 +159,25 @@ next-kept j used (SetUp s) u g o = setup-kept j used s u
 next-kept j used (InBlock k w) u g o = work-kept j used k u (place-is j k w g .in-job) w (place-is j k w g .in-block)
 next-kept j used (Over e) u g o = absurd (true≢false o)
 
-failing-good : (j : Job) (c : Cause) (s : ℕ) (st : Stage) → goodStage j st ≡ true → goodFailure j (failing c s (queryAt j st)) ≡ true
+failing-good : (j : Job) (c : Cause) (s : ℕ) (fault : Judgement) (st : Stage) → goodStage j st ≡ true
+    → goodFailure j (failing c s fault (queryAt j st)) ≡ true
 unfolding goodFailure goodNamedBlock goodNamedPage queryWith comOf goodWork _and_
-failing-good j c s (SetUp BaudRate) g = refl
-failing-good j c s (SetUp ResetChip) g = refl
-failing-good j c s (SetUp SiliconSignature) g = refl
-failing-good j c s (InBlock k Blank) g = and-both (place-is j k Blank g .in-job) refl
-failing-good j c s (InBlock k Erase) g = and-both (place-is j k Erase g .in-job) refl
-failing-good j c s (InBlock k Program) g = and-both (place-is j k Program g .in-job) refl
-failing-good j c s (InBlock k (ProgramPage p)) g = let q = place-is j k (ProgramPage p) g in and-both (q .in-job) (q .in-block)
-failing-good j c s (InBlock k VerifyBlock) g = and-both (place-is j k VerifyBlock g .in-job) refl
-failing-good j c s (InBlock k (VerifyPage p)) g = let q = place-is j k (VerifyPage p) g in and-both (q .in-job) (q .in-block)
-failing-good j c s (Over e) g = refl
+failing-good j c s fault (SetUp BaudRate) g = refl
+failing-good j c s fault (SetUp ResetChip) g = refl
+failing-good j c s fault (SetUp SiliconSignature) g = refl
+failing-good j c s fault (InBlock k Blank) g = and-both (place-is j k Blank g .in-job) refl
+failing-good j c s fault (InBlock k Erase) g = and-both (place-is j k Erase g .in-job) refl
+failing-good j c s fault (InBlock k Program) g = and-both (place-is j k Program g .in-job) refl
+failing-good j c s fault (InBlock k (ProgramPage p)) g = let q = place-is j k (ProgramPage p) g in and-both (q .in-job) (q .in-block)
+failing-good j c s fault (InBlock k VerifyBlock) g = and-both (place-is j k VerifyBlock g .in-job) refl
+failing-good j c s fault (InBlock k (VerifyPage p)) g = let q = place-is j k (VerifyPage p) g in and-both (q .in-job) (q .in-block)
+failing-good j c s fault (Over e) g = refl
 
-fails-kept : (j : Job) (used : ℕ) (st : Stage) (c : Cause) (s : ℕ) → used ≤ j .retries → goodStage j st ≡ true → isOver st ≡ false
-    → Kept j used st (fails j c s st)
+fails-kept : (j : Job) (used : ℕ) (st : Stage) (c : Cause) (s : ℕ) (fault : Judgement) → used ≤ j .retries → goodStage j st ≡ true → isOver st ≡ false
+    → Kept j used st (fails j c s fault st)
 unfolding needs goodStage goodEnding
-fails-kept j used st c s u g o =
-    free j used st (Over (Failed (failing c s (queryAt j st)))) u (failing-good j c s st g) (omega (arith, needs-some j st g o))
+fails-kept j used st c s fault u g o =
+    free j used st (Over (Failed (failing c s fault (queryAt j st)))) u (failing-good j c s fault st g) (omega (arith, needs-some j st g o))
 
 restart-good : (j : Job) (st : Stage) → goodStage j st ≡ true → goodStage j (inBlock Blank st) ≡ true
 unfolding inBlock goodStage goodWork
@@ -193,12 +196,12 @@ retried-kept : (j : Job) (used : ℕ) (st : Stage) (s : ℕ) → used ≤ j .ret
 unfolding retried if_then_else_
 retried-kept j used st s u g o = go (ltb used (j .retries)) refl
   where
-    go : (t : Bool) → ltb used (j .retries) ≡ t → Kept j used st (if t then leads (inBlock Blank st) 1 else fails j UnexpectedStatus s st)
+    go : (t : Bool) → ltb used (j .retries) ≡ t → Kept j used st (if t then leads (inBlock Blank st) 1 else fails j UnexpectedStatus s Good st)
     go true e =
         let h : used < j .retries = ltb-true used (j .retries) e in
         let m = one-more (perBlock j) (j .retries - used) (j .retries - (used + 1)) (omega arith) in
         record { good = restart-good j st g; allowed = omega arith; paid = omega (arith, restart-few j st g o) }
-    go false e = fails-kept j used st UnexpectedStatus s u g o
+    go false e = fails-kept j used st UnexpectedStatus s Good u g o
 
 -- 22h comes only after 32h.
 erasing-kept : (j : Job) (used : ℕ) (st : Stage) (s : ℕ) → used ≤ j .retries → goodStage j st ≡ true → saysNotBlank j st s ≡ true
@@ -220,23 +223,23 @@ status-kept : (j : Job) (used : ℕ) (st : Stage) (s : ℕ) (m : Bool) → used 
 unfolding afterStatus if_then_else_
 status-kept j used st s m u g o =
     if-both (Kept j used st) (eqb s 0x06)
-    (if-both (Kept j used st) m (next-kept j used st u g o) (fails-kept j used st Mismatch 0x06 u g o))
+    (if-both (Kept j used st) m (next-kept j used st u g o) (fails-kept j used st Mismatch 0x06 Good u g o))
     (go (saysNotBlank j st s) refl)
   where
     go : (t : Bool) → saysNotBlank j st s ≡ t
-        → Kept j used st (if t then leads (inBlock Erase st) 0 else if eqb s 0x07 or eqb s 0x15 then retried j used st s else fails j UnexpectedStatus s st)
+        → Kept j used st (if t then leads (inBlock Erase st) 0 else if eqb s 0x07 or eqb s 0x15 then retried j used st s else fails j UnexpectedStatus s Good st)
     go true e = erasing-kept j used st s u g e
-    go false e = if-both (Kept j used st) (eqb s 0x07 or eqb s 0x15) (retried-kept j used st s u g o) (fails-kept j used st UnexpectedStatus s u g o)
+    go false e = if-both (Kept j used st) (eqb s 0x07 or eqb s 0x15) (retried-kept j used st s u g o) (fails-kept j used st UnexpectedStatus s Good u g o)
 
 pub heard-kept : (j : Job) (used : ℕ) (st : Stage) (h : Heard) → used ≤ j .retries → goodStage j st ≡ true → isOver st ≡ false
     → Kept j used st (afterHeard j used st h)
 unfolding afterHeard afterAnswer
-heard-kept j used st (answered bs) u g o = go (readAnswer (j .part) (j .supply) (queryAt j st .form) bs)
+heard-kept j used st (answered bs) u g o = let a = readAnswer (j .part) (j .supply) (queryAt j st .form) bs in go (a .decoded) (a .fault)
   where
-    go : (d : Decoded) → Kept j used st (afterAnswer j used st d)
-    go (Said s m) = status-kept j used st s m u g o
-    go Garbled = fails-kept j used st Unreadable 0x00 u g o
-heard-kept j used st silence u g o = fails-kept j used st TimedOut 0x00 u g o
+    go : (d : Decoded) (fault : Judgement) → Kept j used st (afterAnswer j used st d fault)
+    go (Said s m) fault = status-kept j used st s m u g o
+    go Garbled fault = fails-kept j used st Unreadable 0x00 fault u g o
+heard-kept j used st silence u g o = fails-kept j used st TimedOut 0x00 Good u g o
 
 -- At the start what is needed, and a block's frames for each retry allowed, are the bound.
 pub start-needs : (j : Job) → needs j (firstStage j) + perBlock j * j .retries ≡ bound j

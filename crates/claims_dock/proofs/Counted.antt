@@ -26,6 +26,8 @@ use Rattle.dock_job.specs.declared.Stage.{Stage}
 use Rattle.dock_job.specs.declared.Stage.the-variants.{InBlock, Over, SetUp}
 use Rattle.dock_job.specs.declared.Work.the-variants.{Blank, Erase}
 use Rattle.dock_job.specs.declared.refusals.Call.the-variants.{Begins}
+use Rattle.frame.specs.declared.judgement.Judgement.{Judgement}
+use Rattle.frame.specs.declared.judgement.Judgement.the-variants.{Good}
 use Rattle.part.specs.declared.refusal.Verdict.the-variants.{Accepted}
 use Rattle.words.proofs.Laws.{and-right, if-both}
 use Rattle.words.specs.Words.{_and_, _or_, if_then_else_}
@@ -39,10 +41,10 @@ not-again : (again : Bool) (st : Stage) → again ≡ false → Counts again (le
 unfolding _and_ if_then_else_
 not-again again st e = record { spends = rw e }
 
-over-after : (again : Bool) (j : Job) (c : Cause) (s : ℕ) (st : Stage) → Counts again (fails j c s st)
+over-after : (again : Bool) (j : Job) (c : Cause) (s : ℕ) (fault : Judgement) (st : Stage) → Counts again (fails j c s fault st)
 unfolding isOver _and_ if_then_else_
-over-after true j c s st = record { spends = refl }
-over-after false j c s st = record { spends = refl }
+over-after true j c s fault st = record { spends = refl }
+over-after false j c s fault st = record { spends = refl }
 
 restart-goes-on : (st : Stage) → isOver st ≡ false → isOver (inBlock Blank st) ≡ false
 unfolding isOver inBlock
@@ -54,9 +56,9 @@ retried-counts : (j : Job) (used : ℕ) (st : Stage) (s : ℕ) → isOver st ≡
 unfolding retried _and_ if_then_else_
 retried-counts j used st s o = go (ltb used (j .retries))
   where
-    go : (t : Bool) → Counts true (if t then leads (inBlock Blank st) 1 else fails j UnexpectedStatus s st)
+    go : (t : Bool) → Counts true (if t then leads (inBlock Blank st) 1 else fails j UnexpectedStatus s Good st)
     go true = record { spends = rw (restart-goes-on st o) }
-    go false = over-after true j UnexpectedStatus s st
+    go false = over-after true j UnexpectedStatus s Good st
 
 abbrev again : ℕ → Bool
 again s = eqb s 0x07 or eqb s 0x15
@@ -69,32 +71,33 @@ status-counts : (j : Job) (used : ℕ) (st : Stage) (s : ℕ) (m : Bool) → isO
 unfolding afterStatus saysNotBlank _or_ if_then_else_
 status-counts j used st s m o = expected (eqb s 0x06) refl
   where
-    asked : (t : Bool) → again s ≡ t → Counts (again s) (if t then retried j used st s else fails j UnexpectedStatus s st)
+    asked : (t : Bool) → again s ≡ t → Counts (again s) (if t then retried j used st s else fails j UnexpectedStatus s Good st)
     asked true e = rw e (retried-counts j used st s o)
-    asked false e = over-after (again s) j UnexpectedStatus s st
+    asked false e = over-after (again s) j UnexpectedStatus s Good st
 
     notBlank : (t : Bool) → saysNotBlank j st s ≡ t
-        → Counts (again s) (if t then leads (inBlock Erase st) 0 else if again s then retried j used st s else fails j UnexpectedStatus s st)
+        → Counts (again s) (if t then leads (inBlock Erase st) 0 else if again s then retried j used st s else fails j UnexpectedStatus s Good st)
     notBlank true e = not-again (again s) (inBlock Erase st) (other-status s 0x1B (and-right _ _ e) refl)
     notBlank false e = asked (again s) refl
 
     expected : (t : Bool) → eqb s 0x06 ≡ t
         → Counts (again s)
-        (if t then (if m then leads (next j st) 0 else fails j Mismatch 0x06 st)
+        (if t then (if m then leads (next j st) 0 else fails j Mismatch 0x06 Good st)
         else if saysNotBlank j st s then leads (inBlock Erase st) 0
         else if again s then retried j used st s
-        else fails j UnexpectedStatus s st)
-    expected true e = if-both (Counts (again s)) m (not-again (again s) (next j st) (other-status s 0x06 e refl)) (over-after (again s) j Mismatch 0x06 st)
+        else fails j UnexpectedStatus s Good st)
+    expected true e = if-both (Counts (again s)) m (not-again (again s) (next j st) (other-status s 0x06 e refl)) (over-after (again s) j Mismatch 0x06 Good st)
     expected false e = notBlank (saysNotBlank j st s) refl
 
 heard-counts : (j : Job) (used : ℕ) (st : Stage) (h : Heard) → isOver st ≡ false → afterHeard j used st h .spent ≡ restart j st h (afterHeard j used st h .stage)
 unfolding afterHeard restart saysAgain afterAnswer asksAgain
-heard-counts j used st (answered bs) o = go (readAnswer (j .part) (j .supply) (queryAt j st .form) bs)
+heard-counts j used st (answered bs) o = let a = readAnswer (j .part) (j .supply) (queryAt j st .form) bs in go (a .decoded) (a .fault)
   where
-    go : (d : Decoded) → afterAnswer j used st d .spent ≡ (if asksAgain d and not (isOver (afterAnswer j used st d .stage)) then 1 else 0)
-    go (Said s m) = status-counts j used st s m o .spends
-    go Garbled = over-after false j Unreadable 0x00 st .spends
-heard-counts j used st silence o = over-after false j TimedOut 0x00 st .spends
+    go : (d : Decoded) (fault : Judgement)
+        → afterAnswer j used st d fault .spent ≡ (if asksAgain d and not (isOver (afterAnswer j used st d fault .stage)) then 1 else 0)
+    go (Said s m) fault = status-counts j used st s m o .spends
+    go Garbled fault = over-after false j Unreadable 0x00 fault st .spends
+heard-counts j used st silence o = over-after false j TimedOut 0x00 Good st .spends
 
 spent-counted : (j : Job) (image : List ℕ) (used : ℕ) (st : Stage) (hs : List Heard) → spentIn (exchanges j image used st hs) ≡ restarts j used st hs
 unfolding exchanges spentIn restarts if_then_else_

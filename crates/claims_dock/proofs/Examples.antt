@@ -3,8 +3,8 @@
 use mathlib.Core.List.{map}
 use mathlib.Core.Path.{_≡_, refl}
 use lib.ListN.{length}
-use Rattle.dock_answer.specs.Answer.{carriedBy, deciding, exactly, matching, rateMatches, readAnswer, readable, shape, signatureMatches, statuses}
-use Rattle.claims_dock.specs.Examples.{Frame, PlaceRow, RefusalRow, framesPrinted, places, refusals, twoBlockImage, twoBlockJob, worst}
+use Rattle.dock_answer.specs.Answer.{deciding, judgeAnswer, judgeFrames, matching, rateMatches, readAnswer, shape, signatureMatches, statuses}
+use Rattle.claims_dock.specs.Examples.{Frame, PlaceRow, RefusalRow, faultsFound, framesPrinted, places, refusals, twoBlockImage, twoBlockJob, worst}
 use Rattle.claims_dock.specs.Order.{beforeEach, dockOrder, has, inOrder, refusedBy}
 use Rattle.dock.specs.Calls.{askOf, asked, beginOf, hearOf, standing, starting, turning}
 use Rattle.dock_flow.specs.Flow.{afterAnswer, afterHeard, afterSetup, afterStatus, afterWork, blockFrom, exchanges, flow, framesIn, inBlock, next, placeAfter, retried, saysNotBlank, setupFrom, spentIn}
@@ -12,7 +12,7 @@ use Rattle.dock_flow.specs.Frames.{firstOfBlock, frameAt, handOf, handed, lastO
 use Rattle.frame.specs.Frame.{counted, framed, isFrame}
 use Rattle.frame.specs.Judgement.{judgeOf, summed}
 use Rattle.frame.specs.Sum.{less, lessAll, sumOf}
-use Rattle.frame.specs.Wire.{readOf}
+use Rattle.frame.specs.Wire.{judgeReply, unfitReply}
 use Rattle.dock_job.specs.Job.{areaIn, blocksIn, bound, isOver, setup}
 use Rattle.dock_job.specs.Refusals.{badJob, badState, callVerdict, due, goodBlock, goodDock, goodEnding, goodFailure, goodNamedBlock, goodNamedPage, goodPage, goodStage, goodWork, isBad, outOfTurn, shortRoom, spent}
 use Rattle.dock_job.specs.declared.Ending.the-variants.{Finished}
@@ -32,19 +32,27 @@ unfolding framesPrinted comOf informationOf payloadOf firstOfBlock frameAt lastO
 frames-printed = refl
 
 pub places-expected : map (λ (x : PlaceRow). x .stands) places ≡ map (λ (x : PlaceRow). x .expected) places
-unfolding places comOf informationOf payloadOf carriedBy deciding exactly matching rateMatches readAnswer readable shape signatureMatches statuses afterAnswer
+unfolding places comOf informationOf payloadOf deciding judgeAnswer judgeFrames matching rateMatches readAnswer shape signatureMatches statuses afterAnswer
     afterHeard afterSetup afterStatus afterWork blockFrom exchanges flow framesIn inBlock next placeAfter retried saysNotBlank setupFrom spentIn firstOfBlock
     frameAt lastOfBlock lastPage pageFooter queryWith storedForm workFrame areaIn blocksIn isOver setup counted framed isFrame judgeOf summed less lessAll
-    sumOf readOf same lowFirst blockOf blockSize endsBlock lastOf liesIn rangeOf startsBlock stretch wholeBlocks modeOf signature _and_ _from_to_ _or_
+    sumOf judgeReply unfitReply same lowFirst blockOf blockSize endsBlock lastOf liesIn rangeOf startsBlock stretch wholeBlocks modeOf signature _and_ _from_to_ _or_
     if_then_else_
 places-expected = refl
 
+pub faults-expected : map (λ (x : PlaceRow). x .stands) faultsFound ≡ map (λ (x : PlaceRow). x .expected) faultsFound
+unfolding faultsFound comOf informationOf payloadOf deciding judgeAnswer judgeFrames matching rateMatches readAnswer shape signatureMatches statuses afterAnswer
+    afterHeard afterSetup afterStatus afterWork blockFrom exchanges flow framesIn inBlock next placeAfter retried saysNotBlank setupFrom spentIn firstOfBlock
+    frameAt lastOfBlock lastPage pageFooter queryWith storedForm workFrame areaIn blocksIn isOver setup counted framed isFrame judgeOf summed less lessAll
+    sumOf judgeReply unfitReply same lowFirst blockOf blockSize endsBlock lastOf liesIn rangeOf startsBlock stretch wholeBlocks modeOf signature _and_ _from_to_ _or_
+    if_then_else_
+faults-expected = refl
+
 -- "at most 3 + 12(B + R) frames": 39 for two blocks and one retry, and that many are sent.
 pub bound-reached : (length (flow twoBlockJob twoBlockImage worst .sent) ≡ 39) × (flow twoBlockJob twoBlockImage worst .spent ≡ 1) × (flow twoBlockJob twoBlockImage worst .place ≡ Over Finished) × (bound twoBlockJob ≡ 39)
-unfolding worst comOf informationOf payloadOf carriedBy deciding exactly matching rateMatches readAnswer readable shape signatureMatches statuses afterAnswer
+unfolding worst comOf informationOf payloadOf deciding judgeAnswer judgeFrames matching rateMatches readAnswer shape signatureMatches statuses afterAnswer
     afterHeard afterSetup afterStatus afterWork blockFrom exchanges flow framesIn inBlock next placeAfter retried saysNotBlank setupFrom spentIn firstOfBlock
     frameAt lastOfBlock lastPage pageFooter queryWith storedForm workFrame areaIn blocksIn bound isOver setup due spent counted framed isFrame judgeOf summed
-    less lessAll sumOf readOf same lowFirst blockOf blockSize endsBlock lastOf liesIn rangeOf startsBlock stretch wholeBlocks modeOf signature _and_ _from_to_
+    less lessAll sumOf judgeReply unfitReply same lowFirst blockOf blockSize endsBlock lastOf liesIn rangeOf startsBlock stretch wholeBlocks modeOf signature _and_ _from_to_
     _or_ if_then_else_
 bound-reached = (refl, refl, refl, refl)
 
@@ -56,8 +64,8 @@ refusals-expected = refl
 
 -- "Order .. for the dock: 1, 5, 6, 7, 9, 4, 8", for each call and each two of its numbers.
 pub order-expected : map (λ (x : RefusalRow). x .gives) dockOrder ≡ map (λ (x : RefusalRow). x .expected) dockOrder
-unfolding dockOrder inOrder beforeEach has refusedBy askOf asked beginOf hearOf standing starting turning carriedBy deciding exactly matching readAnswer readable shape
+unfolding dockOrder inOrder beforeEach has refusedBy askOf asked beginOf hearOf standing starting turning deciding judgeAnswer judgeFrames matching readAnswer shape
     statuses afterAnswer afterHeard afterStatus afterWork next queryWith handOf handed areaIn blocksIn bound isOver setup badJob badState callVerdict due
-    goodBlock goodDock goodStage goodWork isBad outOfTurn shortRoom spent counted framed isFrame judgeOf summed less lessAll sumOf readOf blockOf blockSize
+    goodBlock goodDock goodStage goodWork isBad outOfTurn shortRoom spent counted framed isFrame judgeOf summed less lessAll sumOf judgeReply unfitReply blockOf blockSize
     described endsBlock liesIn rangeOf startsBlock stretch wholeBlocks acceptsRate firstOf _and_ _from_to_ _or_ if_then_else_
 order-expected = refl

@@ -5,3 +5,5 @@ pub mod Counted
 pub mod Examples
 pub mod Written
 pub mod Wanted
+pub mod Readable
+pub mod Faults

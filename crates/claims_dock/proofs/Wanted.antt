@@ -10,9 +10,9 @@ use native.Mathlib.Omega.{arith}
 use lib.Dec.{eqb}
 use lib.ListN.{drop, getD, length, length-drop, take}
 use lib.Seq.{getD-take, length-take-le}
-use borrow.Author.Tests.{eqb-true}
 use Rattle.dock.specs.Calls.{wantsBy, wantsOf}
-use Rattle.dock_answer.specs.Answer.{carried, carriedBy, exactly, inFirst, long, readable, shape, wanted}
+use Rattle.claims_dock.proofs.Readable.{fit-whole, frames-good, reply-is}
+use Rattle.dock_answer.specs.Answer.{inFirst, judgeAnswer, judgeFrames, long, readable, shape, wanted}
 use Rattle.dock_answer.specs.declared.Form.{Form}
 use Rattle.dock_answer.specs.declared.Form.the-variants.{OfLastPage, OfPage, OneStatus, WithRate, WithSignature}
 use Rattle.dock_flow.specs.Flow.{wantedAt}
@@ -21,62 +21,39 @@ use Rattle.dock_job.specs.Refusals.{callVerdict}
 use Rattle.dock_job.specs.declared.Dock.{Dock}
 use Rattle.dock_job.specs.declared.Job.{Job}
 use Rattle.dock_job.specs.declared.refusals.Call.the-variants.{Tells}
-use Rattle.frame.proofs.Laws.Wire.{read-cut}
-use Rattle.frame.specs.Frame.{counted}
-use Rattle.frame.specs.Judgement.{isGood, judgeOf}
-use Rattle.frame.specs.Wire.{readOf}
-use Rattle.frame.specs.declared.Footer.the-variants.{Last}
-use Rattle.frame.specs.declared.wire.Read.the-variants.{Frame, NotOne}
+use Rattle.frame.proofs.Laws.Wire.{fit-long}
+use Rattle.frame.specs.Judgement.{isGood}
 use Rattle.part.specs.declared.refusal.Verdict.{Verdict}
 use Rattle.part.specs.declared.refusal.Verdict.the-variants.{Accepted, Refused}
 use Rattle.words.proofs.Laws.{and-left, and-right, if-both}
 use Rattle.words.specs.Words.{_and_, if_then_else_}
 
--- A frame that carries n bytes is n + 4 bytes long.
-carries : (t : Bool) (c n k : ℕ) → carriedBy (if t then Frame 2 c (c + 4) else NotOne) ≡ n → 1 ≤ n → c + 4 ≤ k → n + 4 ≤ k
-unfolding carriedBy if_then_else_
-carries true c n k e h l = omega arith
-carries false c n k e h l = absurd (omega arith)
-
-cut : (bs : List ℕ) (n : ℕ) → NotOne ≡ readOf bs → carried bs ≡ n → n ≡ 0
-unfolding carriedBy
-cut bs n f e = sym e ∙ sym (ap carriedBy f)
-
-carried-fits : (bs : List ℕ) (n : ℕ) → carried bs ≡ n → 1 ≤ n → n + 4 ≤ length bs
-unfolding readOf
-carried-fits bs n e h = go (decLt (length bs) (counted (getD bs 1 0) + 4))
-  where
-    go : Dec (length bs < counted (getD bs 1 0) + 4) → n + 4 ≤ length bs
-    go (yes k) = absurd (let z : n ≡ 0 = cut bs n (read-cut bs k) e in omega arith)
-    go (no k) = carries (eqb (getD bs 0 0) 2 and isGood (judgeOf Last (take (counted (getD bs 1 0) + 4) bs))) (counted (getD bs 1 0)) n (length bs) e h (omega arith)
-
--- Each frame carries something.
-data Filled : List ℕ → Type 0 where
-  none : Filled []
-  more : {n : ℕ} {ns : List ℕ} → 1 ≤ n → Filled ns → Filled (n ∷ ns)
-
-exactly-long : (ns bs : List ℕ) → exactly ns bs ≡ true → Filled ns → length bs ≡ long ns
-unfolding exactly long
-exactly-long [] bs e none = eqb-true (length bs) 0 e
-exactly-long (n ∷ ns) bs e (more h f) =
-    let c : n + 4 ≤ length bs = carried-fits bs n (eqb-true _ _ (and-left _ _ e)) h in
-    let r : length (drop (n + 4) bs) ≡ long ns = exactly-long ns (drop (n + 4) bs) (and-right _ _ e) f in
+-- Frames that are good, one behind the other with nothing after the last, are as long as their shape.
+frames-long : (n : ℕ) (ns bs : List ℕ) → isGood (judgeFrames (n ∷ ns) bs) ≡ true → length bs ≡ long (n ∷ ns)
+unfolding long
+frames-long n [] bs e =
+    let g = reply-is n true bs (and-left _ _ (sym (frames-good n [] bs) ∙ e)) in
+    omega (arith, fit-long n true bs (g .fit), fit-whole n bs (g .fit))
+frames-long n (m ∷ ns) bs e =
+    let t = sym (frames-good n (m ∷ ns) bs) ∙ e in
+    let l : n + 4 ≤ length bs = fit-long n false bs (reply-is n false bs (and-left _ _ t) .fit) in
+    let r : length (drop (n + 4) bs) ≡ long (m ∷ ns) = frames-long m ns (drop (n + 4) bs) (and-right _ _ t) in
     let d : length (drop (n + 4) bs) ≡ length bs - (n + 4) = length-drop (n + 4) bs in
     omega arith
 
--- What is true of the shapes: each frame carries something, and they are 5 to 31 bytes long.
+-- What is true of the shapes: there is a frame, and they are 5 to 31 bytes long.
 record Fits (ns : List ℕ) : Type 0 where
-  filled : Filled ns
+  some : (bs : List ℕ) → isGood (judgeFrames ns bs) ≡ true → length bs ≡ long ns
   least : 5 ≤ long ns
   most : long ns ≤ 31
 
 one : (n : ℕ) → 1 ≤ n → n ≤ 3 → Fits (n ∷ [])
 unfolding long
-one n h k = record { filled = more h none; least = omega arith; most = omega arith }
+one n h k = record { some = frames-long n []; least = omega arith; most = omega arith }
 
 two : (n m : ℕ) → 1 ≤ n → n ≤ 2 → 1 ≤ m → m + n ≤ 23 → Fits (n ∷ m ∷ [])
 unfolding long
-two n m h k i l = record { filled = more h (more i none); least = omega arith; most = omega arith }
+two n m h k i l = record { some = frames-long n (m ∷ []); least = omega arith; most = omega arith }
 
 shape-fits : (f : Form) (s t : ℕ) → Fits (shape f s t)
 unfolding shape
@@ -89,8 +66,8 @@ shape-fits OfLastPage s t =
     if-both Fits (eqb s 0x06 and eqb t 0x06) (two 2 1 (omega arith) (omega arith) (omega arith) (omega arith)) (one 2 (omega arith) (omega arith))
 
 readable-long : (f : Form) (bs : List ℕ) → readable f bs ≡ true → length bs ≡ long (shape f (inFirst 0 bs) (inFirst 1 bs))
-unfolding readable
-readable-long f bs e = exactly-long (shape f (inFirst 0 bs) (inFirst 1 bs)) bs e (shape-fits f (inFirst 0 bs) (inFirst 1 bs) .filled)
+unfolding judgeAnswer
+readable-long f bs e = shape-fits f (inFirst 0 bs) (inFirst 1 bs) .some bs e
 
 whole-wanted : (f : Form) (bs : List ℕ) → readable f bs ≡ true → wanted f bs ≡ 0
 unfolding wanted

@@ -20,7 +20,7 @@ asksAgain (Said s matches) = eqb s 0x07 or eqb s 0x15
 asksAgain Garbled = false
 
 unfoldable pub saysAgain : Job → Stage → Heard → Bool
-saysAgain j st (answered bs) = asksAgain (readAnswer (j .part) (j .supply) (queryAt j st .form) bs)
+saysAgain j st (answered bs) = asksAgain (readAnswer (j .part) (j .supply) (queryAt j st .form) bs .decoded)
 saysAgain j st silence = false
 
 -- It said so to the frame of a stage, and the job went on: one retry. Where the job failed, none.

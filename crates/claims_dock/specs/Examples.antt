@@ -2,7 +2,7 @@
 use mathlib.Core.Bool.{Bool, false, true}
 use mathlib.Core.List.{List, [], _++_, _∷_}
 use Prim.Native.Nat.{ℕ}
-use lib.ListN.{replicate}
+use lib.ListN.{replicate, set, take}
 use Rattle.dock_flow.specs.Flow.{Heard, answered, flow, silence}
 use Rattle.dock_flow.specs.Frames.{frameAt}
 use Rattle.frame.specs.Frame.{dataFrame}
@@ -21,6 +21,8 @@ use Rattle.dock_job.specs.declared.Stage.the-variants.{InBlock, Over, SetUp}
 use Rattle.dock_job.specs.declared.Work.the-variants.{Blank, Erase, Program, ProgramPage, VerifyBlock, VerifyPage}
 use Rattle.dock_job.specs.declared.refusals.Call.{Call}
 use Rattle.dock_job.specs.declared.refusals.Call.the-variants.{Asks, Begins, Tells}
+use Rattle.frame.specs.declared.judgement.Judgement.{Judgement}
+use Rattle.frame.specs.declared.judgement.Judgement.the-variants.{Good, UnfitLength, WrongFirst, WrongFooter, WrongSum}
 use Rattle.part.specs.Refusal.{number}
 use Rattle.part.specs.Signature.{signature}
 use Rattle.part.specs.declared.Part.{Part}
@@ -138,16 +140,20 @@ abbrev pub after : List Heard → Stage → PlaceRow
 after hs st = record { stands = flow twoBlockJob twoBlockImage hs .place; expected = st }
 
 abbrev pub failedAt : Cause → ℕ → Named → ℕ → Named → Stage
-failedAt c cmd p s k = Over (Failed (record { cause = c; command = cmd; page = p; status = s; block = k }))
+failedAt c cmd p s k = Over (Failed (record { cause = c; command = cmd; page = p; status = s; block = k; fault = Good }))
+
+-- An unreadable answer, with its fault (document 02, §4).
+abbrev pub unreadableAt : ℕ → Named → Named → Judgement → Stage
+unreadableAt cmd p k fault = Over (Failed (record { cause = Unreadable; command = cmd; page = p; status = 0x00; block = k; fault = fault }))
 
 unfoldable pub places : List PlaceRow
 places =
     -- setup: a timeout; 06h alone, nothing, or a byte too many to 9Ah; another clock, another mode; another status
     after (silence ∷ []) (failedAt TimedOut 0x9A Unnamed 0x00 Unnamed)
-    ∷ after (say 0x06 ∷ []) (failedAt Unreadable 0x9A Unnamed 0x00 Unnamed)
-    ∷ after (answered [] ∷ []) (failedAt Unreadable 0x9A Unnamed 0x00 Unnamed)
-    ∷ after (answered (dataFrame (0x06 ∷ 0x20 ∷ 0x00 ∷ []) Last ++ 0x00 ∷ []) ∷ []) (failedAt Unreadable 0x9A Unnamed 0x00 Unnamed)
-    ∷ after (answered (dataFrame (0x06 ∷ 0x20 ∷ 0x00 ∷ []) More) ∷ []) (failedAt Unreadable 0x9A Unnamed 0x00 Unnamed)
+    ∷ after (say 0x06 ∷ []) (unreadableAt 0x9A Unnamed Unnamed UnfitLength)
+    ∷ after (answered [] ∷ []) (unreadableAt 0x9A Unnamed Unnamed WrongFirst)
+    ∷ after (answered (dataFrame (0x06 ∷ 0x20 ∷ 0x00 ∷ []) Last ++ 0x00 ∷ []) ∷ []) (unreadableAt 0x9A Unnamed Unnamed UnfitLength)
+    ∷ after (answered (dataFrame (0x06 ∷ 0x20 ∷ 0x00 ∷ []) More) ∷ []) (unreadableAt 0x9A Unnamed Unnamed (WrongFooter 6))
     ∷ after (rateSaid 31 0x00 ∷ []) (failedAt Mismatch 0x9A Unnamed 0x06 Unnamed)
     ∷ after (rateSaid 32 0x01 ∷ []) (failedAt Mismatch 0x9A Unnamed 0x06 Unnamed)
     ∷ after (say 0x05 ∷ []) (failedAt UnexpectedStatus 0x9A Unnamed 0x05 Unnamed)
@@ -156,7 +162,7 @@ places =
     ∷ after (say 0x15 ∷ say 0x07 ∷ []) (failedAt UnexpectedStatus 0x9A Unnamed 0x07 Unnamed)
     -- C0h: another signature; 06h alone
     ∷ after (rateSaid 32 0x00 ∷ say 0x06 ∷ signedAs (replicate 22 0x00) ∷ []) (failedAt Mismatch 0xC0 Unnamed 0x06 Unnamed)
-    ∷ after (rateSaid 32 0x00 ∷ say 0x06 ∷ say 0x06 ∷ []) (failedAt Unreadable 0xC0 Unnamed 0x00 Unnamed)
+    ∷ after (rateSaid 32 0x00 ∷ say 0x06 ∷ say 0x06 ∷ []) (unreadableAt 0xC0 Unnamed Unnamed WrongFirst)
     -- 32h: blank goes to 40h, not blank to 22h
     ∷ after (setupWell ++ say 0x06 ∷ []) (InBlock 0 Program)
     ∷ after (setupWell ++ say 0x1B ∷ []) (InBlock 0 Erase)
@@ -171,9 +177,9 @@ places =
     -- the last page of 40h: the third status, and none
     ∷ after (setupWell ++ say 0x06 ∷ say 0x06 ∷ both 0x06 0x06 ∷ both 0x06 0x06 ∷ both 0x06 0x06 ∷ third 0x1B ∷ []) (failedAt UnexpectedStatus 0x40 (It 3) 0x1B (It 0))
     ∷ after (setupWell ++ say 0x06 ∷ say 0x06 ∷ both 0x06 0x06 ∷ both 0x06 0x06 ∷ both 0x06 0x06 ∷ third 0x15 ∷ []) (InBlock 0 Blank)
-    ∷ after (setupWell ++ say 0x06 ∷ say 0x06 ∷ both 0x06 0x06 ∷ both 0x06 0x06 ∷ both 0x06 0x06 ∷ both 0x06 0x06 ∷ []) (failedAt Unreadable 0x40 (It 3) 0x00 (It 0))
+    ∷ after (setupWell ++ say 0x06 ∷ say 0x06 ∷ both 0x06 0x06 ∷ both 0x06 0x06 ∷ both 0x06 0x06 ∷ both 0x06 0x06 ∷ []) (unreadableAt 0x40 (It 3) (It 0) WrongFirst)
     -- a middle page with a third status is none of its frames
-    ∷ after (setupWell ++ say 0x06 ∷ say 0x06 ∷ third 0x06 ∷ []) (failedAt Unreadable 0x40 (It 0) 0x00 (It 0))
+    ∷ after (setupWell ++ say 0x06 ∷ say 0x06 ∷ third 0x06 ∷ []) (unreadableAt 0x40 (It 0) (It 0) UnfitLength)
     -- 13h: 0Fh on a middle page fails the job too, though a chip that follows document 02, §2 says it on the last alone
     ∷ after (setupWell ++ toVerify ++ both 0x06 0x06 ∷ both 0x06 0x0F ∷ []) (failedAt UnexpectedStatus 0x13 (It 1) 0x0F (It 0))
     -- the last page, in block 1
@@ -181,6 +187,37 @@ places =
     ∷ after (setupWell ++ blockWell ++ both 0x06 0x06 ∷ blockWell ++ both 0x06 0x06 ∷ []) (Over Finished)
     -- what comes after the end changes nothing
     ∷ after (silence ∷ setupWell) (failedAt TimedOut 0x9A Unnamed 0x00 Unnamed)
+    ∷ []
+
+-- The fault of an unreadable answer, from its first faulty frame: first byte, LEN, footer, SUM, each place counted from that frame's header.
+abbrev pub atReset : List ℕ → Judgement → PlaceRow
+atReset bs fault = after (rateSaid 32 0x00 ∷ answered bs ∷ []) (unreadableAt 0x00 Unnamed Unnamed fault)
+
+abbrev pub atSignature : List ℕ → Judgement → PlaceRow
+atSignature bs fault = after (rateSaid 32 0x00 ∷ say 0x06 ∷ answered bs ∷ []) (unreadableAt 0xC0 Unnamed Unnamed fault)
+
+abbrev pub signed : List ℕ
+signed = dataFrame (signature twoBlockPart) Last
+
+unfoldable pub faultsFound : List PlaceRow
+faultsFound =
+    atReset (0x01 ∷ 0x01 ∷ 0x06 ∷ 0xF9 ∷ 0x03 ∷ []) WrongFirst
+    ∷ atReset (0x02 ∷ []) UnfitLength
+    ∷ atReset (0x02 ∷ 0x01 ∷ 0x06 ∷ 0xF9 ∷ []) UnfitLength
+    -- overlong, whatever else is wrong; with another first byte that is judged first
+    ∷ atReset (0x02 ∷ 0x01 ∷ 0x06 ∷ 0xF8 ∷ 0x17 ∷ 0x00 ∷ []) UnfitLength
+    ∷ atReset (0x00 ∷ 0x01 ∷ 0x06 ∷ 0xF8 ∷ 0x17 ∷ 0x00 ∷ []) WrongFirst
+    ∷ atReset (0x02 ∷ 0x01 ∷ 0x06 ∷ 0xF8 ∷ 0x03 ∷ []) (WrongSum 3)
+    ∷ atReset (0x02 ∷ 0x01 ∷ 0x06 ∷ 0xF8 ∷ 0x17 ∷ []) (WrongFooter 4)
+    -- C0h: the first frame is judged first; the second's places count from its own header, byte 5 of the answer
+    ∷ atSignature (0x02 ∷ 0x01 ∷ 0x06 ∷ 0xF8 ∷ 0x03 ∷ set signed 24 0x00) (WrongSum 3)
+    ∷ atSignature (dataFrame (0x06 ∷ []) Last ++ set signed 24 0x00) (WrongSum 24)
+    ∷ atSignature (dataFrame (0x06 ∷ []) Last ++ set signed 25 0x17) (WrongFooter 25)
+    ∷ atSignature (dataFrame (0x06 ∷ []) Last ++ set signed 0 0x01) WrongFirst
+    ∷ atSignature (dataFrame (0x06 ∷ []) Last ++ take 25 signed) UnfitLength
+    ∷ atSignature (dataFrame (0x06 ∷ []) Last ++ set signed 24 0x00 ++ 0x00 ∷ []) UnfitLength
+    -- its 06h become 07h asks for one frame, and what follows is too much
+    ∷ atSignature (0x02 ∷ 0x01 ∷ 0x07 ∷ 0xF9 ∷ 0x03 ∷ signed) UnfitLength
     ∷ []
 
 -- The number of a verdict, 0 where the call is accepted; beside the number that it should be.

@@ -6,3 +6,4 @@ pub mod DockRefused
 pub mod DockEnded
 pub mod Described
 pub mod Laid
+pub mod Told

@@ -11,6 +11,7 @@ pub record HeldDock (d : Dock) : Type 0 where
   pub frames : d .frames < 256 ^ 4
   pub block : named (flatOf (d .stage) .block) < 256 ^ 4
   pub page : named (flatOf (d .stage) .page) < 256 ^ 4
+  pub place : flatOf (d .stage) .fault .place < 256 ^ 2
 
 -- "State and lent bytes stay.", and so do the numbers told.
 pub record AskKept (t : AskTold) (told state room : List ℕ) : Type 0 where

@@ -4,3 +4,4 @@ pub mod Docked
 pub mod Ended
 pub mod Described
 pub mod Laid
+pub mod Told

@@ -28,7 +28,7 @@ use Rattle.frame.specs.Frame.{counted, headerByte, isFrame}
 use Rattle.frame.specs.Framing.{Framed, Framing, Sound, begun, byte, completes, framing, idle, inside, quiet}
 use Rattle.frame.specs.declared.Header.{Header}
 use Rattle.part.specs.declared.Part.{Part}
-use Rattle.chip_reply.specs.Reply.{framesOf, payloads}
+use Rattle.chip_reply.specs.Reply.{faultIn, framesOf, payloads}
 use Rattle.words.proofs.Laws.{and-left, and-right}
 
 pub bytes-proper : {bs : List ℕ} → Below 256 bs → AllProper (map Byte bs)
@@ -68,7 +68,7 @@ same-idle e (header x) = absurd (let z : _≡_ {A = ℕ} 0 1 = cc in omega arith
 same-idle e (some x l rest n k m) = absurd (let z : _≡_ {A = ℕ} 0 1 = cc in omega arith)
 
 silent-says : (p : Part) (k : Core) (m : Memory) → utteranceOf p (reaction [] (silent k m)) ≡ silence
-unfolding utteranceOf payloads framesOf
+unfolding utteranceOf faultIn payloads framesOf
 silent-says p k m = refl
 
 pub no-frame : (f : List ℕ) (fs : List (List ℕ)) → _≡_ {A = List (List ℕ)} [] (f ∷ fs) → ⊥

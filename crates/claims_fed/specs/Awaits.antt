@@ -14,6 +14,7 @@ use Rattle.frame.specs.declared.Footer.{Footer}
 use Rattle.frame.specs.declared.Footer.the-variants.{Last}
 use Rattle.frame.specs.declared.Header.{Header}
 use Rattle.frame.specs.declared.Header.the-variants.{Command, Data}
+use Rattle.frame.specs.declared.judgement.Judgement.{Judgement}
 
 -- What is awaited: a command frame, or a data frame with this footer and so many data bytes.
 pub data Awaits : Type 0 where
@@ -24,10 +25,14 @@ abbrev pub headerOf : Awaits → Header
 headerOf aCommand = Command
 headerOf (aPage f n) = Data
 
--- "A good frame has right footer and SUM; a data frame also needs the right LEN.": for a command whatever the command.
+-- The judgement of a complete frame where it is awaited: of its footer and SUM, for a command whatever the command; of a data frame also of its LEN.
+abbrev pub judgedIn : Awaits → List ℕ → Judgement
+judgedIn aCommand bs = judgeOf Last bs
+judgedIn (aPage f n) bs = fitting n bs (judgeOf f bs)
+
+-- "A good frame has right footer and SUM; a data frame also needs the right LEN."
 unfoldable pub goodFor : Awaits → List ℕ → Bool
-goodFor aCommand bs = isGood (judgeOf Last bs)
-goodFor (aPage f n) bs = isGood (fitting n bs (judgeOf f bs))
+goodFor a bs = isGood (judgedIn a bs)
 
 -- What a phase awaits. (Phase 1 awaits no frame, and no claim is made of it.)
 abbrev pub awaitsIn : Phase → Awaits

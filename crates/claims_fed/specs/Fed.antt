@@ -17,7 +17,10 @@ use Rattle.chip_pages.specs.Pages.{ready}
 use Rattle.claims_good.proofs.Rooms.{utteranceOf}
 use Rattle.claims_good.specs.Good.{Utterance, utterances, uttered}
 use Rattle.frame.specs.Frame.{dataFrame}
+use Rattle.frame.specs.Judgement.{statusOf}
 use Rattle.frame.specs.declared.Footer.the-variants.{Last}
+use Rattle.frame.specs.declared.judgement.Judgement.{Judgement}
+use Rattle.frame.specs.declared.judgement.Judgement.the-variants.{Good}
 use Rattle.part.specs.declared.Part.{Part}
 use Rattle.words.specs.Words.{if_then_else_}
 
@@ -31,7 +34,7 @@ doesIn p f k m = does (k .phase) p k m f
 
 -- A byte that is only heard is answered by nothing.
 abbrev pub silence : Utterance
-silence = record { answer = Replied 0 0; bytes = [] }
+silence = record { answer = Replied 0 0; fault = Good; bytes = [] }
 
 -- A frame fed is the frame done: nothing is said before its last byte, and to that what the frame's work says; that work is done, and nothing is collected.
 pub record FedIsDone (p : Part) (u : Outcome) (bs f : List ℕ) : Type 0 where
@@ -42,20 +45,25 @@ pub record FedIsDone (p : Part) (u : Outcome) (bs f : List ℕ) : Type 0 where
   pub memory : run p (map Byte bs) u .memory ≡ doesIn p f (u .chip .core) (u .memory) .memory
   pub count : run p (map Byte bs) u .chip .collector .len ≡ 0
 
--- A bad frame's status: 15h or 07h.
-pub data Blame : ℕ → Type 0 where
-  is15h : Blame 0x15
-  is07h : Blame 0x07
+-- One reply frame is said to a frame of this judgement; and to one with no fault.
+abbrev pub saysTo : Judgement → List ℕ → Utterance
+saysTo j ds = record { answer = Replied (length (dataFrame ds Last)) 1; fault = j; bytes = dataFrame ds Last }
 
--- A bad command frame and A0h's bad data are answered by one status, a bad page by the status twice.
 abbrev pub saysFrame : List ℕ → Utterance
-saysFrame ds = record { answer = Replied (length (dataFrame ds Last)) 1; bytes = dataFrame ds Last }
+saysFrame ds = saysTo Good ds
 
-abbrev pub blames : Phase → ℕ → Utterance
-blames ModeByte s = saysFrame (s ∷ [])
-blames Setup s = saysFrame (s ∷ [])
-blames Ready s = saysFrame (s ∷ [])
-blames (Awaiting w) s = if eqb (w .command) 0xA0 then saysFrame (s ∷ []) else saysFrame (s ∷ s ∷ [])
+-- A bad command frame and A0h's bad data are answered by one status, a bad page by the status twice. The fault told is the frame's judgement (document 02, §4).
+abbrev pub blamesOnce : Judgement → Utterance
+blamesOnce j = saysTo j (statusOf j ∷ [])
+
+abbrev pub blamesTwice : Judgement → Utterance
+blamesTwice j = saysTo j (statusOf j ∷ statusOf j ∷ [])
+
+abbrev pub blames : Phase → Judgement → Utterance
+blames ModeByte j = blamesOnce j
+blames Setup j = blamesOnce j
+blames Ready j = blamesOnce j
+blames (Awaiting w) j = if eqb (w .command) 0xA0 then blamesOnce j else blamesTwice j
 
 -- The record after it.
 unfoldable pub badCore : Phase → Core → Core
@@ -64,9 +72,8 @@ badCore Setup k = k
 badCore Ready k = k
 badCore (Awaiting w) k = ready k
 
-pub record BadDoes (f : Phase) (p : Part) (k : Core) (m : Memory) (x : Effect) : Type 0 where
+-- What a frame does that is not good in its phase, but has this judgement: it is blamed for that, and nothing else happens but that a command with data is over.
+pub record BadDoes (f : Phase) (p : Part) (k : Core) (m : Memory) (j : Judgement) (x : Effect) : Type 0 where
   pub core : x .core ≡ badCore f k
   pub memory : x .memory ≡ m
-  pub status : ℕ
-  pub blame : Blame status
-  pub utters : utteranceOf p (reaction [] x) ≡ blames f status
+  pub utters : utteranceOf p (reaction [] x) ≡ blames f j

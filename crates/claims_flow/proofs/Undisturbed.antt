@@ -14,7 +14,7 @@ use Rattle.claims_dock.specs.Stepping.{resultAt, resultsOf}
 use Rattle.claims_flow.specs.Undisturbed.{Undisturbed, UndisturbedDock, allAnswers, allFrames, answersOf, blankAnswers, blockAnswers, blockCount, blockFrames, commandFrame, eraseCount, eraseFrames, fourPages, fromTo, framesFrom, pageAnswers}
 use Rattle.claims_frame.proofs.RoundTrip.{ReadBack, read-back}
 use Rattle.commands.specs.Commands.{comOf, informationOf, payloadOf}
-use Rattle.dock_answer.specs.Answer.{carriedBy, deciding, exactly, matching, rateMatches, readAnswer, readable, shape, signatureMatches, statuses}
+use Rattle.dock_answer.specs.Answer.{deciding, judgeAnswer, judgeFrames, matching, rateMatches, readAnswer, shape, signatureMatches, statuses}
 use Rattle.dock_answer.specs.declared.Decoded.the-variants.{Said}
 use Rattle.dock_answer.specs.declared.Form.{Form}
 use Rattle.dock_answer.specs.declared.Form.the-variants.{OfLastPage, OfPage, OneStatus, WithRate, WithSignature}
@@ -31,8 +31,9 @@ use Rattle.dock_job.specs.declared.Work.the-variants.{Blank, Erase, Program, Pr
 use Rattle.frame.specs.Frame.{counted, dataFrame, framed, isFrame}
 use Rattle.frame.specs.Judgement.{judgeOf, summed}
 use Rattle.frame.specs.Sum.{less, lessAll, sumOf}
-use Rattle.frame.specs.Wire.{readOf}
+use Rattle.frame.specs.Wire.{judgeReply, unfitReply}
 use Rattle.frame.specs.declared.Footer.the-variants.{Last}
+use Rattle.frame.specs.declared.judgement.Judgement.the-variants.{Good}
 use Rattle.lent.proofs.Laws.{same-self}
 use Rattle.numbers.specs.Numbers.{lowFirst}
 use Rattle.part.proofs.LawsSignature.{signature-long}
@@ -60,18 +61,18 @@ step j image st after h hs fs o e r =
     }
 
 -- An answer that is read as 06h and matches leads to what follows.
-well : (j : Job) (st : Stage) (bs : List ℕ) → readAnswer (j .part) (j .supply) (queryAt j st .form) bs ≡ Said 0x06 true
+well : (j : Job) (st : Stage) (bs : List ℕ) → readAnswer (j .part) (j .supply) (queryAt j st .form) bs .decoded ≡ Said 0x06 true
     → afterHeard j 0 st (answered bs) ≡ leads (next j st) 0
 unfolding afterHeard afterAnswer afterStatus if_then_else_
 well j st bs e = rw e
 
 -- The good answers are read so.
 rate-read : (p : Part) (supply : ℕ)
-    → readAnswer p supply WithRate (dataFrame (0x06 ∷ p .clock ∷ (if leb 27 supply then 0x00 else 0x01) ∷ []) Last) ≡ Said 0x06 true
-unfolding readAnswer readable shape exactly carriedBy statuses deciding matching rateMatches modeOf framed _and_ if_then_else_
+    → readAnswer p supply WithRate (dataFrame (0x06 ∷ p .clock ∷ (if leb 27 supply then 0x00 else 0x01) ∷ []) Last) .decoded ≡ Said 0x06 true
+unfolding readAnswer judgeAnswer judgeFrames shape statuses deciding matching rateMatches modeOf framed _and_ if_then_else_
 rate-read p supply =
     let m : ℕ = if leb 27 supply then 0x00 else 0x01 in
-    rw (read-back (0x06 ∷ p .clock ∷ m ∷ []) [] (omega arith) (omega arith) .read, eq-eqb (p .clock) (p .clock) refl, eq-eqb m m refl)
+    rw (read-back (0x06 ∷ p .clock ∷ m ∷ []) [] (omega arith) (omega arith) .read true refl, eq-eqb (p .clock) (p .clock) refl, eq-eqb m m refl)
 
 -- The two frames that answer C0h.
 module _ (sig : List ℕ) (l : length sig ≡ 22) where
@@ -89,48 +90,49 @@ module _ (sig : List ℕ) (l : length sig ≡ 22) where
   unfolding framed
   second-carries = refl
 
-  nothing-after : drop 26 (dataFrame sig Last) ≡ []
-  nothing-after = ap (λ (n : ℕ). drop (n + 4) (dataFrame sig Last)) (sym l) ∙ second .follows
-
   carried-signature : take 22 (drop 7 both-frames) ≡ sig
   carried-signature =
       ap (λ (xs : List ℕ). take 22 xs) second-carries ∙ ap (λ (n : ℕ). take n (drop 2 (dataFrame sig Last))) (sym l) ∙ second .payload
 
-  two-frames : exactly (1 ∷ 22 ∷ []) both-frames ≡ true
-  unfolding exactly carriedBy _and_
+  two-frames : judgeFrames (1 ∷ 22 ∷ []) both-frames ≡ Good
+  unfolding judgeFrames if_then_else_ _and_
   two-frames =
       let first = read-back (0x06 ∷ []) (dataFrame sig Last) (omega arith) (omega arith) in
-      rw (first .read, first .follows, second .read, eq-eqb (length sig) 22 l, nothing-after)
+      rw (first .read false refl, first .follows, ap (λ (n : ℕ). judgeReply n true (dataFrame sig Last)) (sym l) ∙ second .read true refl)
 
-signature-read : (p : Part) (supply : ℕ) → Arrays p → readAnswer p supply WithSignature (dataFrame (0x06 ∷ []) Last ++ dataFrame (signature p) Last) ≡ Said 0x06 true
-unfolding readAnswer readable shape statuses deciding matching signatureMatches if_then_else_
+signature-read : (p : Part) (supply : ℕ) → Arrays p → readAnswer p supply WithSignature (dataFrame (0x06 ∷ []) Last ++ dataFrame (signature p) Last) .decoded ≡ Said 0x06 true
+unfolding readAnswer judgeAnswer shape statuses deciding matching signatureMatches if_then_else_
 signature-read p supply a =
     let l = signature-long p (a .deviceLong) (a .nameLong) (a .versionLong) in
     let sig = signature p in
     rw (says-06 sig l, two-frames sig l, carried-signature sig l, same-self sig)
 
 -- The other answers are the same in every job, and are read by computation.
-one-read : (p : Part) (supply : ℕ) → readAnswer p supply OneStatus (dataFrame (0x06 ∷ []) Last) ≡ Said 0x06 true
-unfolding readAnswer readable shape exactly carriedBy statuses deciding matching framed readOf counted isFrame judgeOf summed less lessAll sumOf _and_ if_then_else_
+one-read : (p : Part) (supply : ℕ) → readAnswer p supply OneStatus (dataFrame (0x06 ∷ []) Last) .decoded ≡ Said 0x06 true
+unfolding readAnswer judgeAnswer judgeFrames shape statuses deciding matching framed judgeReply unfitReply counted isFrame judgeOf summed less lessAll sumOf _and_
+    _or_ if_then_else_
 one-read p supply = refl
 
-not-blank-read : (p : Part) (supply : ℕ) → readAnswer p supply OneStatus (dataFrame (0x1B ∷ []) Last) ≡ Said 0x1B true
-unfolding readAnswer readable shape exactly carriedBy statuses deciding matching framed readOf counted isFrame judgeOf summed less lessAll sumOf _and_ if_then_else_
+not-blank-read : (p : Part) (supply : ℕ) → readAnswer p supply OneStatus (dataFrame (0x1B ∷ []) Last) .decoded ≡ Said 0x1B true
+unfolding readAnswer judgeAnswer judgeFrames shape statuses deciding matching framed judgeReply unfitReply counted isFrame judgeOf summed less lessAll sumOf _and_
+    _or_ if_then_else_
 not-blank-read p supply = refl
 
-page-read : (p : Part) (supply : ℕ) → readAnswer p supply OfPage (dataFrame (0x06 ∷ 0x06 ∷ []) Last) ≡ Said 0x06 true
-unfolding readAnswer readable shape exactly carriedBy statuses deciding matching framed readOf counted isFrame judgeOf summed less lessAll sumOf _and_ if_then_else_
+page-read : (p : Part) (supply : ℕ) → readAnswer p supply OfPage (dataFrame (0x06 ∷ 0x06 ∷ []) Last) .decoded ≡ Said 0x06 true
+unfolding readAnswer judgeAnswer judgeFrames shape statuses deciding matching framed judgeReply unfitReply counted isFrame judgeOf summed less lessAll sumOf _and_
+    _or_ if_then_else_
 page-read p supply = refl
 
 last-page-read : (p : Part) (supply : ℕ)
-    → readAnswer p supply OfLastPage (dataFrame (0x06 ∷ 0x06 ∷ []) Last ++ dataFrame (0x06 ∷ []) Last) ≡ Said 0x06 true
-unfolding readAnswer readable shape exactly carriedBy statuses deciding matching framed readOf counted isFrame judgeOf summed less lessAll sumOf _and_ if_then_else_
+    → readAnswer p supply OfLastPage (dataFrame (0x06 ∷ 0x06 ∷ []) Last ++ dataFrame (0x06 ∷ []) Last) .decoded ≡ Said 0x06 true
+unfolding readAnswer judgeAnswer judgeFrames shape statuses deciding matching framed judgeReply unfitReply counted isFrame judgeOf summed less lessAll sumOf _and_
+    _or_ if_then_else_
 last-page-read p supply = refl
 
 module _ (j : Job) (image : List ℕ) where
   -- The frame of a stage, answered well.
   said : (st after : Stage) (f : Form) (bs : List ℕ) (hs : List Heard) (fs : List (List ℕ)) → isOver st ≡ false → queryAt j st .form ≡ f
-      → readAnswer (j .part) (j .supply) f bs ≡ Said 0x06 true → next j st ≡ after → Runs j image after hs fs
+      → readAnswer (j .part) (j .supply) f bs .decoded ≡ Said 0x06 true → next j st ≡ after → Runs j image after hs fs
       → Runs j image st (answered bs ∷ hs) (frameAt j image st ∷ fs)
   said st after f bs hs fs o q e n r = step j image st after (answered bs) hs fs o (well j st bs (rw q e) ∙ ap (λ (x : Stage). leads x 0) n) r
 

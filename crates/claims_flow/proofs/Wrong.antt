@@ -21,7 +21,7 @@ use Rattle.claims_flow.specs.Wrong.{AddingSendsMore, BlindDiffers, Diffe
 use Rattle.claims_flow.specs.Wrong.{afterAgain, atOnce, byCalls, byFlow, here, nothingSent, overBound, reporting, seen, there, unanswered, undisturbed, wrongFrames, wrongRetries}
 use Rattle.commands.specs.Commands.{comOf}
 use Rattle.dock.specs.declared.Account.{Account}
-use Rattle.dock_answer.specs.Answer.{carriedBy, deciding, exactly, matching, readAnswer, readable, shape, statuses}
+use Rattle.dock_answer.specs.Answer.{deciding, judgeAnswer, judgeFrames, matching, readAnswer, shape, statuses}
 use Rattle.dock_flow.specs.Flow.{Heard, afterAnswer, afterHeard, afterStatus, exchanges, firstStage, flow, framesIn, inBlock, placeAfter, retried, saysNotBlank, setupFrom, spentIn}
 use Rattle.dock_flow.specs.Frames.{frameAt, queryWith}
 use Rattle.dock_job.specs.Job.{areaIn, blocksIn, isOver, setup}
@@ -33,7 +33,7 @@ use Rattle.dock_job.specs.declared.refusals.Call.the-variants.{Begins}
 use Rattle.frame.specs.Frame.{counted, framed, isFrame}
 use Rattle.frame.specs.Judgement.{judgeOf, summed}
 use Rattle.frame.specs.Sum.{less, lessAll, sumOf}
-use Rattle.frame.specs.Wire.{readOf}
+use Rattle.frame.specs.Wire.{judgeReply, unfitReply}
 use Rattle.part.specs.Part.{blockOf, blockSize, described, endsBlock, liesIn, rangeOf, startsBlock, stretch, wholeBlocks}
 use Rattle.part.specs.Rate.{acceptsRate}
 use Rattle.part.specs.Refusal.{firstOf}
@@ -117,8 +117,8 @@ more-differs M j image hs v (undisturbed blank a l e h) =
 
 -- Two histories with one ending, by computation.
 pub one-ending : OneEnding
-unfolding comOf carriedBy deciding exactly matching readAnswer readable shape statuses afterAnswer afterHeard afterStatus exchanges flow framesIn inBlock
-    placeAfter retried saysNotBlank setupFrom spentIn queryWith isOver setup counted framed isFrame judgeOf summed less lessAll sumOf readOf resultAt _and_
+unfolding comOf deciding judgeAnswer judgeFrames matching readAnswer shape statuses afterAnswer afterHeard afterStatus exchanges flow framesIn inBlock
+    placeAfter retried saysNotBlank setupFrom spentIn queryWith isOver setup counted framed isFrame judgeOf summed less lessAll sumOf judgeReply unfitReply resultAt _and_
     _or_ if_then_else_
 one-ending = record { first = refl; second = refl }
 

@@ -20,6 +20,7 @@ use Rattle.dock_job.specs.declared.Ending.the-variants.{Failed}
 use Rattle.dock_job.specs.declared.Job.{Job}
 use Rattle.dock_job.specs.declared.Named.the-variants.{Unnamed}
 use Rattle.dock_job.specs.declared.refusals.Call.the-variants.{Begins}
+use Rattle.frame.specs.declared.judgement.Judgement.the-variants.{Good}
 use Rattle.part.specs.Part.{Arrays}
 use Rattle.part.specs.declared.refusal.Verdict.the-variants.{Accepted}
 
@@ -71,7 +72,7 @@ afterAgain = say 0x15 ∷ silence ∷ []
 abbrev pub timedOut : ℕ → ℕ → List Account
 timedOut frames retries =
     record {
-      ending = Failed (record { cause = TimedOut; command = 0x9A; page = Unnamed; status = 0x00; block = Unnamed });
+      ending = Failed (record { cause = TimedOut; command = 0x9A; page = Unnamed; status = 0x00; block = Unnamed; fault = Good });
       frames = frames;
       retries = retries;
     }

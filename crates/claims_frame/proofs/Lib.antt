@@ -2,3 +2,4 @@ pub mod Examples
 pub mod Framing
 pub mod OneByte
 pub mod RoundTrip
+pub mod Faults

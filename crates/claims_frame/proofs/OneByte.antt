@@ -6,18 +6,21 @@ use mathlib.Core.List.{List}
 use mathlib.Core.Logic.{_≢_}
 use mathlib.Core.Path.{_∙_, _≡_, ap, sym}
 use Prim.Native.Nat.{_+_, _-_, _<_, _≤_, ℕ}
-use native.Mathlib.Decide.{decLt}
+use native.Mathlib.Decide.{decLt, ℕ-discrete}
 use native.Mathlib.Omega.{arith}
+use lib.Dec.{eqb}
 use lib.ListN.{drop, getD, length, length-drop, length-set, set, take}
 use lib.Seq.{drop-set-add, getD-drop, getD-set-other, getD-set-same, getD-take, length-take-le, take-set-le, take-set-lt}
-use Rattle.claims_frame.specs.OneByte.{AfterLen, OneChanged}
-use Rattle.frame.proofs.Laws.Judgement.{GoodFrame, frame-long, good-is}
+use borrow.Author.Tests.{eq-eqb, ne-eqb}
+use Rattle.claims_frame.specs.OneByte.{AfterLen, OneChanged, faultChanged}
+use Rattle.frame.proofs.Laws.Judgement.{GoodFrame, frame-long, good-is, judged-footer, judged-sum}
 use Rattle.frame.proofs.Laws.Sum.{Below, below-drop, below-take, one-byte}
 use Rattle.frame.specs.Frame.{footerByte, isFrame}
 use Rattle.frame.specs.Judgement.{judgeOf, summed}
 use Rattle.frame.specs.Sum.{lessAll, sumOf}
 use Rattle.frame.specs.declared.Footer.{Footer}
-use Rattle.frame.specs.declared.judgement.Judgement.the-variants.{Good}
+use Rattle.frame.specs.declared.judgement.Judgement.the-variants.{Good, WrongFooter, WrongSum}
+use Rattle.words.specs.Words.{if_then_else_}
 
 module _ (f : Footer) (bs : List ℕ) (i v : ℕ) (good : judgeOf f bs ≡ Good) (bytes : Below 256 bs) (after : 2 ≤ i) (inside : i < length bs) (small : v < 256)
     (changed : getD bs i 0 ≢ v) where
@@ -74,6 +77,38 @@ module _ (f : Footer) (bs : List ℕ) (i v : ℕ) (good : judgeOf f bs ≡ Good)
       go j (no h) (yes k) = let l = long-enough in sum-changed (omega arith) (ap (λ (k : ℕ). getD (set bs i v) (k - 2) 0) (sym (length-set bs i v)) ∙ j .sum)
       go j (no h) (no k) = let l = long-enough in footer-changed (omega arith) (ap (λ (k : ℕ). getD (set bs i v) (k - 1) 0) (sym (length-set bs i v)) ∙ j .footer)
 
+  not-last : (i ≡ length bs - 1 → ⊥) → (i < length bs - 2 → ⊥) → i ≡ length bs - 2
+  not-last h k = go (ℕ-discrete i (length bs - 1))
+    where
+      go : Dec (i ≡ length bs - 1) → i ≡ length bs - 2
+      go (yes e) = absurd (h e)
+      go (no e) = omega (arith, long-enough)
+
+  -- Which fault: of the footer, or else of the SUM, with the footer as it was.
+  fault-is : judgeOf f (set bs i v) ≡ faultChanged bs i
+  unfolding faultChanged if_then_else_
+  fault-is = go (ℕ-discrete i (length bs - 1)) (decLt i (length bs - 2))
+    where
+      long : length (set bs i v) ≡ length bs
+      long = length-set bs i v
+
+      at-length : (k : ℕ) → getD (set bs i v) (length bs - k) 0 ≡ getD (set bs i v) (length (set bs i v) - k) 0
+      at-length k = ap (λ (n : ℕ). getD (set bs i v) (n - k) 0) (sym long)
+
+      sum-is-wrong : (i ≡ length bs - 1 → ⊥) → Dec (i < length bs - 2) → getD (set bs i v) (length (set bs i v) - 2) 0 ≡ sumOf (summed (set bs i v)) → ⊥
+      sum-is-wrong h (yes k) e = payload-changed k (at-length 2 ∙ e)
+      sum-is-wrong h (no k) e = let l = long-enough in sum-changed (not-last h k) (at-length 2 ∙ e)
+
+      go : Dec (i ≡ length bs - 1) → Dec (i < length bs - 2)
+          → judgeOf f (set bs i v) ≡ (if eqb i (length bs - 1) then WrongFooter (length bs - 1) else WrongSum (length bs - 2))
+      go (yes h) d =
+          rw (eq-eqb i (length bs - 1) h)
+          (judged-footer f (set bs i v) still-frame (λ e. footer-changed h (at-length 1 ∙ e)) ∙ ap (λ (n : ℕ). WrongFooter (n - 1)) long)
+      go (no h) d =
+          rw (ne-eqb i (length bs - 1) h)
+          (judged-sum f (set bs i v) still-frame (sym (at-length 1) ∙ getD-set-other bs i (length bs - 1) v 0 (λ z. h (omega arith)) ∙ good-is f bs good .footer) (sum-is-wrong h d)
+          ∙ ap (λ (n : ℕ). WrongSum (n - 2)) long)
+
   is-changed : OneChanged f bs i v
   is-changed =
       record {
@@ -81,6 +116,7 @@ module _ (f : Footer) (bs : List ℕ) (i v : ℕ) (good : judgeOf f bs ≡ Good)
         header = getD-set-other bs i 0 v 0 (λ e. omega arith);
         frame = still-frame;
         bad = not-good;
+        fault = fault-is;
       }
 
 pub one-changed : (f : Footer) (bs : List ℕ) (i v : ℕ) → AfterLen f bs i v → OneChanged f bs i v

@@ -1,3 +1,4 @@
 pub mod Examples
 pub mod Collecting
 pub mod OneByte
+pub mod Faults

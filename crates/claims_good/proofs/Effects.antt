@@ -25,6 +25,7 @@ use Rattle.chip_core.specs.declared.Core.{Core}
 use Rattle.chip_core.specs.declared.Done.{Done}
 use Rattle.chip_core.specs.declared.Phase.the-variants.{Awaiting}
 use Rattle.chip_flash.proofs.Laws.{erase-of-long}
+use Rattle.frame.specs.declared.judgement.Judgement.{Judgement}
 use Rattle.lent.proofs.Laws.{put-long}
 use Rattle.lent.specs.Lent.{same}
 use Rattle.chip_options.proofs.Laws.{released-good}
@@ -164,9 +165,9 @@ module _ (p : Part) (k : Core) (part : described p ≡ true) (good : GoodCore p 
         (λ t. if-all (GoodDone p) _ (λ u. done-so (made-ready good))
         (λ u. done-so (record { rate = good .rate; options = and-left _ _ (not-false _ t); phase = refl })))
 
-    bad-keeps : (s : ℕ) → GoodDone p (badData w s k)
+    bad-keeps : (j : Judgement) → GoodDone p (badData w j k)
     unfolding badData
-    bad-keeps s = if-all (GoodDone p) _ (λ t. done-so (made-ready good)) (λ t. done-so (made-ready good))
+    bad-keeps j = if-all (GoodDone p) _ (λ t. done-so (made-ready good)) (λ t. done-so (made-ready good))
 
     pub data-keeps : (f : List ℕ) (m : Memory) → Keeps p m (dataDoes p k w f m)
     unfolding dataDoes goodData

@@ -21,21 +21,22 @@ use Rattle.frame.specs.Framing.{frames}
 use Rattle.part.specs.declared.Part.{Part}
 use Rattle.part.specs.declared.refusal.Verdict.the-variants.{Accepted}
 use Rattle.chip_reply.proofs.Laws.{reply-long, said-lands}
-use Rattle.chip_reply.specs.Reply.{Said, framesOf, payloads, said}
+use Rattle.chip_reply.specs.Reply.{Said, faultIn, framesOf, payloads, said}
 
 -- What a reaction says.
 unfoldable pub utteranceOf : Part → Reaction → Utterance
 utteranceOf p x =
     let rs = payloads p (x .does .core .options) (x .does .reply) in
-    record { answer = Replied (length (framesOf rs)) (length rs); bytes = framesOf rs }
+    record { answer = Replied (length (framesOf rs)) (length rs); fault = faultIn (x .does .reply); bytes = framesOf rs }
 
 settled-utters : (p : Part) (x : Reaction) (c : Chip) (m : Memory) (room : List ℕ) → 32 ≤ length room
     → uttered (spokenIn (settled Accepted p x c m room)) ≡ utteranceOf p x
 unfolding settled utteranceOf
 settled-utters p x c m room h =
     let rs = payloads p (x .does .core .options) (x .does .reply) in
-    ap {B = Utterance} (λ (z : Said). record { answer = replied (z .sent); bytes = bytesSaid (replied (z .sent)) (z .room) }) (said-lands rs room)
-    ∙ ap {B = Utterance} (λ (l : List ℕ). record { answer = Replied (length (framesOf rs)) (length rs); bytes = l })
+    let j = faultIn (x .does .reply) in
+    ap {B = Utterance} (λ (z : Said). record { answer = replied (z .sent); fault = j; bytes = bytesSaid (replied (z .sent)) (z .room) }) (said-lands rs room)
+    ∙ ap {B = Utterance} (λ (l : List ℕ). record { answer = Replied (length (framesOf rs)) (length rs); fault = j; bytes = l })
     (take-append-seam (framesOf rs) (drop (length (framesOf rs)) room))
 
 roomy : {p : Part} {o : Outcome} → Stands p o → 32 ≤ length (o .room)

@@ -13,6 +13,7 @@ use Rattle.chip.specs.declared.Event.{Event}
 use Rattle.chip.specs.declared.Event.the-variants.{Byte, Gap, PowerOn}
 use Rattle.frame.proofs.Laws.Sum.{Below}
 use Rattle.frame.specs.Collector.{heard}
+use Rattle.frame.specs.declared.judgement.Judgement.{Judgement}
 use Rattle.part.specs.declared.Part.{Part}
 use Rattle.part.specs.declared.refusal.Verdict.{Verdict}
 use Rattle.part.specs.declared.refusal.Verdict.the-variants.{Accepted}
@@ -50,13 +51,14 @@ pub data AllAnswered : List Spoken → Type 0 where
   noAnswer : AllAnswered []
   andAnswer : {s : Spoken} {ss : List Spoken} → Answered s → AllAnswered ss → AllAnswered (s ∷ ss)
 
--- What is said: the answer, and the bytes of the room that it counts; not the room past them.
+-- What is said: the answer, its fault, and the bytes of the room that the answer counts; not the room past them.
 pub record Utterance : Type 0 where
   pub answer : Answer
+  pub fault : Judgement
   pub bytes : List ℕ
 
 abbrev pub uttered : Spoken → Utterance
-uttered s = record { answer = s .answer; bytes = bytesSaid (s .answer) (s .room) }
+uttered s = record { answer = s .answer; fault = s .fault; bytes = bytesSaid (s .answer) (s .room) }
 
 -- What is said to each event of a run.
 unfoldable pub utterances : Part → List Event → Outcome → List Utterance

@@ -20,6 +20,7 @@ use Rattle.part.specs.Part.{Arrays, blockOf, blockSize, described, liesIn, page
 use Rattle.claims_good.specs.Good.{AllProper, Stands, aByte, aGap, andEvent, noEvent}
 use Rattle.claims_noise.proofs.Claims.{noise-at-command, noise-branches}
 use Rattle.claims_noise.proofs.OneByte.{one-byte-changed}
+use Rattle.claims_frame.specs.OneByte.{faultChanged}
 use Rattle.claims_noise.specs.Claims.{AsIf, IsBad, Noise, NoiseAfter, OneByte, commandOver, runBy, saysBy, withCollected}
 use Rattle.claims_fed.specs.Awaits.{aCommand, eventOf, goodFor, inReady, page}
 use Rattle.claims_noise.specs.Examples.{allSaid, begunErase, begunPage, cutPage, damagedHalf, damagedRest, eraseFrame, innerReset, longNoise, pageFrame, reset, restOfErase, secondPage, writingChip, wrongPage}
@@ -38,6 +39,7 @@ use Rattle.frame.specs.Collector.{fresh, hear, heard, holding}
 use Rattle.frame.specs.Frame.{complete, counted, framed, full, isFrame, payload}
 use Rattle.frame.specs.Framing.{Sound, byte, frames, framing, gap, idle, inside, quiet}
 use Rattle.frame.specs.Judgement.{fitting, judgeOf, summed}
+use Rattle.frame.specs.declared.judgement.Judgement.the-variants.{WrongFooter}
 use Rattle.frame.specs.Sum.{less, lessAll, sumOf}
 use Rattle.frame.specs.declared.Header.the-variants.{Command}
 use Rattle.lent.specs.Lent.{allAre, putAt, putOf, same}
@@ -192,7 +194,8 @@ unfolding runBy pageFrame dataDoes goodData payload programPage pageIn pageStore
     frameDoes commandDoes judgeOf summed sumOf lessAll less placeOf liesIn placeIn blockOf pageOf blockSize saidOf framesOf framed payloads
 page-stored = refl
 
-pub page-changed-is-bad : IsBad stepOf thePart writingChip (set pageFrame 259 0x03)
+pub page-changed-is-bad : IsBad stepOf thePart writingChip (set pageFrame 259 0x03) (WrongFooter 259)
+unfolding faultChanged pageFrame framed if_then_else_
 page-changed-is-bad = one-byte-changed thePart writingChip pageFrame 259 0x03 (page secondPage) page-changed
 
 pub page-changed-not-stored : getD (runBy stepOf thePart (map Byte (set pageFrame 259 0x03)) writingChip .memory .flash .codeFlash) 0x0500 0 ≡ 0xFF

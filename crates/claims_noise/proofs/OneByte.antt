@@ -1,29 +1,33 @@
 -- One changed byte: the proof of `OneByteChanged` for the definition of demand 2.
 -- Assumes nothing.
-use mathlib.Core.Bool.{false, false≢true, true}
+use mathlib.Core.Bool.{Bool, false, not, true}
 use mathlib.Core.List.{List, [], _++_, _∷_, map}
 use mathlib.Core.Path.{_∙_, _≡_, ap, refl, sym}
-use Prim.Native.Nat.{_-_, _<_, suc, zero, ℕ}
+use Prim.Native.Nat.{_+_, _-_, _<_, suc, zero, ℕ}
+use lib.Dec.{eqb}
 use lib.ListN.{length, replicate, set}
 use Rattle.chip.specs.Run.{answers, run}
 use Rattle.chip.specs.Step.{Outcome, stepOf}
 use Rattle.chip.specs.declared.Event.the-variants.{Byte}
 use Rattle.claims_frame.proofs.Framing.{frame-heard}
 use Rattle.claims_frame.proofs.OneByte.{one-changed}
+use Rattle.claims_frame.specs.OneByte.{AfterLen, faultChanged}
 use Rattle.claims_good.proofs.Rooms.{leaves}
 use Rattle.claims_good.proofs.Stays.{run-stands}
 use Rattle.claims_good.specs.Good.{Stands, Utterance}
 use Rattle.claims_fed.proofs.Bad.{bad-frame-does}
-use Rattle.claims_fed.specs.Fed.{badCore, doesIn, silence}
+use Rattle.claims_fed.specs.Fed.{badCore, blames, doesIn, silence}
 use Rattle.claims_noise.proofs.Claims.{over-stands}
 use Rattle.claims_fed.proofs.Frames.{bytes-proper, fed-is-done}
-use Rattle.claims_fed.specs.Awaits.{Awaits, AwaitsFrame, aCommand, aPage, awaitsIn, command, goodFor, headerIn, inReady, inSetup, page}
+use Rattle.claims_fed.specs.Awaits.{Awaits, AwaitsFrame, aCommand, aPage, awaitsIn, command, goodFor, headerIn, inReady, inSetup, judgedIn, page}
 use Rattle.claims_noise.proofs.Rooms.{as-if, run-by, says-by}
 use Rattle.claims_noise.specs.Claims.{OneByteChanged, afterBad, commandOver}
 use Rattle.chip_core.specs.declared.Phase.{Phase}
 use Rattle.chip_core.specs.declared.Phase.the-variants.{Awaiting, ModeByte, Ready, Setup}
 use Rattle.frame.proofs.Laws.Collector.{heard-none}
+use Rattle.frame.proofs.Laws.Judgement.{is-good}
 use Rattle.frame.proofs.Laws.Sum.{Below, more, none}
+use Rattle.frame.specs.Frame.{overhead}
 use Rattle.frame.specs.Judgement.{fitting, isGood, judgeOf}
 use Rattle.frame.specs.declared.Footer.{Footer}
 use Rattle.frame.specs.declared.Footer.the-variants.{Last}
@@ -31,32 +35,19 @@ use Rattle.frame.specs.declared.collector.Collector.{Collector}
 use Rattle.frame.specs.declared.judgement.Judgement.{Judgement}
 use Rattle.frame.specs.declared.judgement.Judgement.the-variants.{Good, UnfitLength, WrongFooter, WrongSum}
 use Rattle.part.specs.declared.Part.{Part}
+use Rattle.words.specs.Words.{_and_, if_then_else_}
 
-isGood-is : (j : Judgement) → isGood j ≡ true → j ≡ Good
-isGood-is Good e = refl
-isGood-is WrongFooter e = absurd (false≢true e)
-isGood-is WrongSum e = absurd (false≢true e)
-isGood-is UnfitLength e = absurd (false≢true e)
+fitting-good : (n : ℕ) (bs : List ℕ) (j : Judgement) → isGood (fitting n bs j) ≡ true → isGood j ≡ true
+unfolding fitting if_then_else_ _and_
+fitting-good n bs j e = go (isGood j) refl e
+  where
+    go : (t : Bool) → isGood j ≡ t → isGood (if t and not (eqb (length bs) (n + overhead)) then UnfitLength else j) ≡ true → t ≡ true
+    go true q g = refl
+    go false q g = sym q ∙ g
 
-not-isGood : (j : Judgement) → (j ≡ Good → ⊥) → isGood j ≡ false
-not-isGood Good e = absurd (e refl)
-not-isGood WrongFooter e = refl
-not-isGood WrongSum e = refl
-not-isGood UnfitLength e = refl
-
-fitting-good : (n : ℕ) (bs : List ℕ) (j : Judgement) → isGood (fitting n bs j) ≡ true → j ≡ Good
-unfolding fitting
-fitting-good n bs Good e = refl
-fitting-good n bs WrongFooter e = absurd (false≢true e)
-fitting-good n bs WrongSum e = absurd (false≢true e)
-fitting-good n bs UnfitLength e = absurd (false≢true e)
-
-fitting-bad : (n : ℕ) (bs : List ℕ) (j : Judgement) → (j ≡ Good → ⊥) → isGood (fitting n bs j) ≡ false
-unfolding fitting
-fitting-bad n bs Good e = absurd (e refl)
-fitting-bad n bs WrongFooter e = refl
-fitting-bad n bs WrongSum e = refl
-fitting-bad n bs UnfitLength e = refl
+fitting-bad : (n : ℕ) (bs : List ℕ) (j : Judgement) → isGood j ≡ false → fitting n bs j ≡ j
+unfolding fitting if_then_else_ _and_
+fitting-bad n bs j e = ap (λ (t : Bool). if t and not (eqb (length bs) (n + overhead)) then UnfitLength else j) e
 
 -- The footer that is awaited.
 pub footerIn : Awaits → Footer
@@ -65,13 +56,22 @@ footerIn (aPage f n) = f
 
 pub good-judged : (a : Awaits) (bs : List ℕ) → goodFor a bs ≡ true → judgeOf (footerIn a) bs ≡ Good
 unfolding goodFor footerIn
-good-judged aCommand bs e = isGood-is (judgeOf Last bs) e
-good-judged (aPage f n) bs e = fitting-good n bs (judgeOf f bs) e
+good-judged aCommand bs e = is-good (judgeOf Last bs) e
+good-judged (aPage f n) bs e = is-good (judgeOf f bs) (fitting-good n bs (judgeOf f bs) e)
 
-bad-judged : (a : Awaits) (bs : List ℕ) → (judgeOf (footerIn a) bs ≡ Good → ⊥) → goodFor a bs ≡ false
-unfolding goodFor footerIn
-bad-judged aCommand bs e = not-isGood (judgeOf Last bs) e
-bad-judged (aPage f n) bs e = fitting-bad n bs (judgeOf f bs) e
+-- Footer and SUM are judged first, and a fault of theirs is the frame's.
+bad-judged : (a : Awaits) (bs : List ℕ) (j : Judgement) → judgeOf (footerIn a) bs ≡ j → isGood j ≡ false → judgedIn a bs ≡ j
+unfolding footerIn
+bad-judged aCommand bs j e b = e
+bad-judged (aPage f n) bs j e b = ap (fitting n bs) e ∙ fitting-bad n bs j b
+
+change-bad : (bs : List ℕ) (i : ℕ) → isGood (faultChanged bs i) ≡ false
+unfolding faultChanged if_then_else_
+change-bad bs i = go (eqb i (length bs - 1))
+  where
+    go : (t : Bool) → isGood (if t then WrongFooter (length bs - 1) else WrongSum (length bs - 2)) ≡ false
+    go true = refl
+    go false = refl
 
 below-set : {m : ℕ} {bs : List ℕ} (i v : ℕ) → v < m → Below m bs → Below m (set bs i v)
 below-set i v h none = none
@@ -109,14 +109,16 @@ after-stands p Ready o s n = s
 after-stands p (Awaiting w) o s n = over-stands p o s n
 
 pub one-byte-changed : OneByteChanged stepOf
-unfolding doesIn
+unfolding doesIn goodFor
 one-byte-changed p o f i v a n =
     let b = awaitsIn (o .chip .core .phase) in
     let h = headerIn (o .chip .core .phase) in
-    let c =
-    one-changed (footerIn b) f i v
-    (record { good = good-judged b f (n .good); bytes = n .bytes; after = n .after; inside = n .inside; small = n .small; changed = n .changed }) in
-    let bad = bad-judged b (set f i v) (c .bad) in
+    let k : AfterLen (footerIn b) f i v =
+    record { good = good-judged b f (n .good); bytes = n .bytes; after = n .after; inside = n .inside; small = n .small; changed = n .changed } in
+    let c = one-changed (footerIn b) f i v k in
+    let j = faultChanged f i in
+    let judged = bad-judged b (set f i v) j (c .fault) (change-bad f i) in
+    let bad : goodFor b (set f i v) ≡ false = ap (λ (j : Judgement). isGood j) judged ∙ change-bad f i in
     let below = below-set i v (n .small) (n .bytes) in
     let g = fed-is-done p o (set f i v) (n .stands) a (n .nothing) (c .frame) (c .header ∙ n .header) below in
     let x = bad-frame-does (o .chip .core .phase) p (o .chip .core) (o .memory) (set f i v) a bad in
@@ -126,12 +128,11 @@ one-byte-changed p o f i v a n =
     let st = run-stands p (map Byte (set f i v)) o (n .stands) (bytes-proper below) in
     record {
       alone = frame-heard h (set f i v) (c .frame) (c .header ∙ n .header) .alone;
+      judged = judged;
       bad = bad;
-      status = x .status;
-      blame = x .blame;
       answers =
           says-by p (map Byte (set f i v)) o ∙ g .answers
-          ∙ ap (λ (z : Utterance). replicate (length (set f i v) - 1) silence ++ z ∷ []) (x .utters);
+          ∙ ap (λ (z : Utterance). replicate (length (set f i v) - 1) silence ++ z ∷ []) (x .utters ∙ ap (blames (o .chip .core .phase)) judged);
       leaves =
           rw (run-by p (map Byte (set f i v)) o)
           (as-if p (afterBad (o .chip .core .phase) o) t (after-stands p (o .chip .core .phase) o (n .stands) (n .nothing)) st

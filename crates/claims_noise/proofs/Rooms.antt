@@ -24,6 +24,7 @@ use Rattle.claims_good.specs.Good.{Alike, AllProper, Proper, SameChip, Stands, 
 use Rattle.claims_noise.specs.Claims.{AnyRooms, AsIf, ChipCall, Roomy, ShortRefused, andCall, answersBy, callsBy, eventsIn, noCall, runBy, saysBy}
 use Rattle.frame.specs.Collector.{heard}
 use Rattle.part.proofs.Laws.{first-here, first-on}
+use Rattle.frame.specs.declared.judgement.Judgement.the-variants.{Good}
 use Rattle.part.specs.declared.Part.{Part}
 use Rattle.part.specs.declared.refusal.Refusal.the-variants.{ShortRoom}
 use Rattle.part.specs.declared.refusal.Verdict.{Verdict}
@@ -43,7 +44,7 @@ says-by p (v ∷ vs) o = ap (λ (xs : List Utterance). uttered (spokenIn (onward
 
 -- The chip and flash that an outcome left, with another room lent.
 abbrev lent : Outcome → List ℕ → Outcome
-lent o room = record { answer = o .answer; chip = o .chip; memory = o .memory; room = room }
+lent o room = record { answer = o .answer; fault = o .fault; chip = o .chip; memory = o .memory; room = room }
 
 -- What is accepted with its room is refused with a short one, and for no other reason.
 short-row : (p : Part) (k : Core) (h : Handed) (n : ℕ) → Accepts p k h → n < 32
@@ -108,7 +109,7 @@ module _ (p : Part) (o u : Outcome) (v : Event) (room : List ℕ) (so : Lives p 
       }
 
   refusal : Outcome → Outcome
-  refusal q = record { answer = Refused ShortRoom; chip = q .chip; memory = q .memory; room = room }
+  refusal q = record { answer = Refused ShortRoom; fault = Good; chip = q .chip; memory = q .memory; room = room }
 
   short-call : length room < 32 → Called p (onward p (lent o room) v) (onward p (lent u room) v)
   unfolding Lives refusal

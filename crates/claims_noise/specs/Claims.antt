@@ -6,7 +6,8 @@ use mathlib.Core.Logic.{_≢_}
 use mathlib.Core.Path.{_≡_}
 use Prim.Native.Nat.{_-_, _<_, _≤_, ℕ}
 use lib.ListN.{getD, length, replicate, set}
-use Rattle.claims_fed.specs.Fed.{Blame, blames, silence}
+use Rattle.claims_frame.specs.OneByte.{faultChanged}
+use Rattle.claims_fed.specs.Fed.{blames, silence}
 use Rattle.chip.specs.Run.{Spoken, spokenIn}
 use Rattle.chip.specs.Step.{Outcome}
 use Rattle.chip.specs.declared.Answer.the-variants.{Refused}
@@ -15,7 +16,7 @@ use Rattle.chip.specs.declared.Event.{Event}
 use Rattle.chip.specs.declared.Event.the-variants.{Byte, Gap, PowerOn}
 use Rattle.claims_good.specs.Good.{Alike, AllProper, Stands, Utterance, uttered}
 use Rattle.claims_noise.specs.Noise.{Allowed, completesOnly, dataCompleted, noFrame, only, thenAwaits, thenGap, thenPowerOn}
-use Rattle.claims_fed.specs.Awaits.{Awaits, AwaitsCommand, AwaitsFrame, awaitsIn, eventOf, goodFor, headerOf}
+use Rattle.claims_fed.specs.Awaits.{Awaits, AwaitsCommand, AwaitsFrame, awaitsIn, eventOf, goodFor, headerOf, judgedIn}
 use Rattle.chip_core.specs.Effect.{Memory, memory}
 use Rattle.chip_pages.specs.Pages.{ready}
 use Rattle.chip_core.specs.declared.Awaited.{Awaited}
@@ -25,6 +26,8 @@ use Rattle.frame.proofs.Laws.Sum.{Below}
 use Rattle.frame.specs.Collector.{heard}
 use Rattle.frame.specs.Frame.{headerByte}
 use Rattle.frame.specs.Framing.{Framing, Sound, byte, frames, framing, idle}
+use Rattle.frame.specs.declared.judgement.Judgement.{Judgement}
+use Rattle.frame.specs.declared.judgement.Judgement.the-variants.{Good}
 use Rattle.part.specs.declared.Part.{Part}
 use Rattle.part.specs.declared.refusal.Refusal.the-variants.{ShortRoom}
 use Rattle.words.specs.Words.{if_then_else_}
@@ -76,7 +79,7 @@ pub record AsIf (M : Machine) (p : Part) (o u : Outcome) : Type 0 where
 abbrev pub ShortRefused : Machine → Type 0
 ShortRefused M =
     (p : Part) (o : Outcome) (v : Event) (room : List ℕ) → Stands p o → length room < 32
-    → M p (o .chip) v (o .memory) room ≡ record { answer = Refused ShortRoom; chip = o .chip; memory = o .memory; room = room }
+    → M p (o .chip) v (o .memory) room ≡ record { answer = Refused ShortRoom; fault = Good; chip = o .chip; memory = o .memory; room = room }
 
 -- The runs below go with one room. It has no part in them: any rooms that are accepted, one for each event, are as good as that one.
 pub data Roomy : List ChipCall → Type 0 where
@@ -108,6 +111,7 @@ unfoldable pub commandOver : Outcome → Outcome
 commandOver o =
     record {
       answer = o .answer;
+      fault = o .fault;
       chip = record { core = ready (o .chip .core); collector = o .chip .collector };
       memory = memory (o .memory .flash .codeFlash) (o .memory .flash .dataFlash) (o .memory .sums);
       room = o .room;
@@ -180,19 +184,19 @@ afterBad Setup o = o
 afterBad Ready o = o
 afterBad (Awaiting w) o = commandOver o
 
--- ".. is not good in the state that awaited it": it is one complete frame, it is not good, it is blamed, and nothing else happens but that a command with
--- data is over.
-pub record IsBad (M : Machine) (p : Part) (o : Outcome) (f : List ℕ) : Type 0 where
+-- ".. is not good in the state that awaited it": it is one complete frame, it is judged so there and is not good, it is blamed for that, and nothing else happens
+-- but that a command with data is over.
+pub record IsBad (M : Machine) (p : Part) (o : Outcome) (f : List ℕ) (j : Judgement) : Type 0 where
   pub alone : frames (headerOf (awaitsIn (o .chip .core .phase))) idle (map byte f) ≡ f ∷ []
+  pub judged : judgedIn (awaitsIn (o .chip .core .phase)) f ≡ j
   pub bad : goodFor (awaitsIn (o .chip .core .phase)) f ≡ false
-  pub status : ℕ
-  pub blame : Blame status
-  pub answers : saysBy M p (map Byte f) o ≡ replicate (length f - 1) silence ++ blames (o .chip .core .phase) status ∷ []
+  pub answers : saysBy M p (map Byte f) o ≡ replicate (length f - 1) silence ++ blames (o .chip .core .phase) j ∷ []
   pub leaves : AsIf M p (afterBad (o .chip .core .phase) o) (runBy M p (map Byte f) o)
 
+-- Its fault is the footer's where that is the byte changed, else SUM's (`faultChanged`, claims_frame; document 02, §4).
 abbrev pub OneByteChanged : Machine → Type 0
 OneByteChanged M =
-    (p : Part) (o : Outcome) (f : List ℕ) (i v : ℕ) → AwaitsFrame (o .chip .core .phase) → OneByte p o f i v → IsBad M p o (set f i v)
+    (p : Part) (o : Outcome) (f : List ℕ) (i v : ℕ) → AwaitsFrame (o .chip .core .phase) → OneByte p o f i v → IsBad M p o (set f i v) (faultChanged f i)
 
 -- With one frame allowed, for a claim about a whole cable: where the rule stands after some sounds, and what the premise then says.
 pub record Line : Type 0 where

@@ -23,6 +23,8 @@ use Rattle.frame.proofs.judgement.Judgement.is_good.Reads as judgement-Judgemen
 use Rattle.frame.proofs.judgement.Judgement.is_good.Kinds as judgement-Judgement-is-good-kinds
 use Rattle.frame.proofs.judgement.Judgement.status.Reads as judgement-Judgement-status
 use Rattle.frame.proofs.judgement.Judgement.status.Kinds as judgement-Judgement-status-kinds
+use Rattle.frame.proofs.judgement.Judgement.fault.Reads as judgement-Judgement-fault
+use Rattle.frame.proofs.judgement.Judgement.fault.Kinds as judgement-Judgement-fault-kinds
 use Rattle.frame.proofs.judgement.judge.Reads as judgement-judge
 use Rattle.frame.proofs.judgement.judge.Kinds as judgement-judge-kinds
 use Rattle.frame.proofs.judgement.judge_fit.Reads as judgement-judge-fit
@@ -39,8 +41,8 @@ use Rattle.frame.proofs.wire.write_command.Reads as wire-write-command
 use Rattle.frame.proofs.wire.write_command.Kinds as wire-write-command-kinds
 use Rattle.frame.proofs.wire.write_data.Reads as wire-write-data
 use Rattle.frame.proofs.wire.write_data.Kinds as wire-write-data-kinds
-use Rattle.frame.proofs.wire.read_data.Reads as wire-read-data
-use Rattle.frame.proofs.wire.read_data.Kinds as wire-read-data-kinds
+use Rattle.frame.proofs.wire.judge_reply.Reads as wire-judge-reply
+use Rattle.frame.proofs.wire.judge_reply.Kinds as wire-judge-reply-kinds
 use Rattle.frame.proofs.Header.byte.Reads as Header-byte
 use Rattle.frame.proofs.Header.byte.Kinds as Header-byte-kinds
 use Rattle.frame.proofs.Footer.byte.Reads as Footer-byte
@@ -85,6 +87,9 @@ judgement-Judgement-is-good-once κs a r s x y p q = p ∙ sym q
 pub judgement-Judgement-status-once : Once judgement-Judgement-status-kinds.ps judgement-Judgement-status-kinds.r judgement-Judgement-status.Post (λ κs r x. r)
 judgement-Judgement-status-once κs a r s x y p q = p ∙ sym q
 
+pub judgement-Judgement-fault-once : Once judgement-Judgement-fault-kinds.ps judgement-Judgement-fault-kinds.r judgement-Judgement-fault.Post (λ κs r x. r)
+judgement-Judgement-fault-once κs a r s x y p q = p ∙ sym q
+
 pub judgement-judge-once : Once judgement-judge-kinds.ps judgement-judge-kinds.r judgement-judge.Post (λ κs r x. r)
 judgement-judge-once κs a r s x y p q = p ∙ sym q
 
@@ -109,8 +114,8 @@ wire-write-command-once κs a r s x y p q = p ∙ sym q
 pub wire-write-data-once : Once wire-write-data-kinds.ps wire-write-data-kinds.r wire-write-data.Post (λ κs r x. wrote r (now (x .0)))
 wire-write-data-once κs a r s x y p q = p ∙ sym q
 
-pub wire-read-data-once : Once wire-read-data-kinds.ps wire-read-data-kinds.r wire-read-data.Post (λ κs r x. r)
-wire-read-data-once κs a r s x y p q = p ∙ sym q
+pub wire-judge-reply-once : Once wire-judge-reply-kinds.ps wire-judge-reply-kinds.r wire-judge-reply.Post (λ κs r x. r)
+wire-judge-reply-once κs a r s x y p q = p ∙ sym q
 
 pub Header-byte-once : Once Header-byte-kinds.ps Header-byte-kinds.r Header-byte.Post (λ κs r x. r)
 Header-byte-once κs a r s x y p q = p ∙ sym q

@@ -5,7 +5,7 @@ use mathlib.Core.Bool.{true}
 use mathlib.Core.List.{_++_}
 use mathlib.Core.Path.{_≡_, ap, refl}
 use lib.ListN.{replicate}
-use Rattle.dock_answer.specs.Answer.{carriedBy, deciding, exactly, matching, rateMatches, readAnswer, readable, shape, signatureMatches, statuses}
+use Rattle.dock_answer.specs.Answer.{deciding, judgeAnswer, judgeFrames, matching, rateMatches, readAnswer, shape, signatureMatches, statuses}
 use Rattle.chip.specs.Step.{byteIn, frameDoes, heardByte, modeByte, reactTo, settled, stepOf}
 use Rattle.chip_state.specs.Refusals.{goodAwaited, goodBegun, goodCollected, goodCore, goodPhase, goodPlaces, goodState, verdictOf}
 use Rattle.claims_rehearsal.specs.Cable.{cable, exchange, speaks}
@@ -23,7 +23,7 @@ use Rattle.frame.specs.Collector.{fresh, hear, heard, holding}
 use Rattle.frame.specs.Frame.{complete, counted, framed, full, isFrame, payload}
 use Rattle.frame.specs.Judgement.{fitting, judgeOf, summed}
 use Rattle.frame.specs.Sum.{less, lessAll, sumOf}
-use Rattle.frame.specs.Wire.{readOf}
+use Rattle.frame.specs.Wire.{judgeReply, unfitReply}
 use Rattle.dock_job.specs.Job.{areaIn, blocksIn, bound, isOver, setup}
 use Rattle.dock_job.specs.Refusals.{badJob, badState, callVerdict, due, goodBlock, goodDock, goodEnding, goodFailure, goodNamedBlock, goodNamedPage, goodPage, goodStage, goodWork, isBad, outOfTurn, shortRoom, spent}
 use Rattle.lent.specs.Lent.{allAre, putAt, putOf, same}
@@ -51,11 +51,11 @@ unfolding byteIn frameDoes heardByte modeByte reactTo settled stepOf allowedIn c
     nextPage pageIn pageStored programPage securityData storedReply compared verifyStatus verifyPage framesOf payloads saidOf goodAwaited goodBegun goodCollected goodCore goodPhase
     goodPlaces goodState verdictOf blankCheck blockErase checksum erasedIn forbidden programming allSummed blockSum rangeBytes resummed slot summedTo rateSet securityRelease verify cable exchange
     speaks holds isSummed remainsOf mixed rehearsalImage rehearsed theChip comOf commandTable fitted informationOf payloadOf readCommand readIn askOf asked beginOf freshDock
-    hearOf standing starting turning carriedBy deciding exactly matching rateMatches readAnswer readable shape signatureMatches statuses afterAnswer
+    hearOf standing starting turning deciding judgeAnswer judgeFrames matching rateMatches readAnswer shape signatureMatches statuses afterAnswer
     afterHeard afterSetup afterStatus afterWork blockFrom inBlock next retried saysNotBlank setupFrom firstOfBlock frameAt handOf handed lastOfBlock lastPage
     pageFooter queryWith storedForm workFrame areaIn blocksIn bound isOver setup badJob badState callVerdict due goodBlock goodDock goodEnding goodFailure
     goodNamedBlock goodNamedPage goodPage goodStage goodWork isBad outOfTurn shortRoom spent fresh hear heard holding complete counted framed full isFrame
-    payload frames framing fitting judgeOf summed less lessAll sumOf readOf allAre putAt putOf same lowFirst numberAt blockOf blockSize described endsBlock
+    payload frames framing fitting judgeOf summed less lessAll sumOf judgeReply unfitReply allAre putAt putOf same lowFirst numberAt blockOf blockSize described endsBlock
     lastOf liesIn pageOf placeIn placeOf rangeOf startsBlock stretch wholeBlocks acceptsRate modeOf firstOf signature _and_ _from_to_ _or_ if_then_else_
 rehearsal = refl
 
@@ -82,11 +82,11 @@ unfolding byteIn frameDoes heardByte modeByte reactTo settled stepOf allowedIn c
     nextPage pageIn pageStored programPage securityData storedReply compared verifyStatus verifyPage framesOf payloads saidOf goodAwaited goodBegun goodCollected goodCore goodPhase
     goodPlaces goodState verdictOf blankCheck blockErase checksum erasedIn forbidden programming allSummed blockSum rangeBytes resummed slot summedTo rateSet securityRelease verify cable exchange
     speaks holds isSummed remainsOf mixed rehearsedData theChip theDataImage comOf commandTable fitted informationOf payloadOf readCommand readIn askOf asked beginOf freshDock
-    hearOf standing starting turning carriedBy deciding exactly matching rateMatches readAnswer readable shape signatureMatches statuses afterAnswer
+    hearOf standing starting turning deciding judgeAnswer judgeFrames matching rateMatches readAnswer shape signatureMatches statuses afterAnswer
     afterHeard afterSetup afterStatus afterWork blockFrom inBlock next retried saysNotBlank setupFrom firstOfBlock frameAt handOf handed lastOfBlock lastPage
     pageFooter queryWith storedForm workFrame areaIn blocksIn bound isOver setup badJob badState callVerdict due goodBlock goodDock goodEnding goodFailure
     goodNamedBlock goodNamedPage goodPage goodStage goodWork isBad outOfTurn shortRoom spent fresh hear heard holding complete counted framed full isFrame
-    payload frames framing fitting judgeOf summed less lessAll sumOf readOf allAre putAt putOf same lowFirst numberAt blockOf blockSize described endsBlock
+    payload frames framing fitting judgeOf summed less lessAll sumOf judgeReply unfitReply allAre putAt putOf same lowFirst numberAt blockOf blockSize described endsBlock
     lastOf liesIn pageOf placeIn placeOf rangeOf startsBlock stretch wholeBlocks acceptsRate modeOf firstOf signature _and_ _from_to_ _or_ if_then_else_
 data-rehearsal = refl
 

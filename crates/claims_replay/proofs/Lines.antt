@@ -19,7 +19,7 @@ use Rattle.chip_options.specs.Options.{security}
 use Rattle.chip_options.specs.declared.Options.{Options}
 use Rattle.chip_reply.specs.Reply.{framesOf, payloads}
 use Rattle.chip_reply.specs.declared.Reply.{Reply}
-use Rattle.chip_reply.specs.declared.Reply.the-variants.{LastStored, Pair, Rate, Security, Signature, Silence, Status, Sum}
+use Rattle.chip_reply.specs.declared.Reply.the-variants.{BadFrame, BadPage, LastStored, Pair, Rate, Security, Signature, Silence, Status, Sum}
 use Rattle.claims_frame.proofs.RoundTrip.{framed-whole}
 use Rattle.claims_good.proofs.Rooms.{reactionOf, says-reaction, utteranceOf}
 use Rattle.claims_good.proofs.Stays.{stays}
@@ -96,8 +96,10 @@ reply-frames : (p : Part) (o : Options) (r : Reply) → Arrays p → FramesIn (f
 unfolding payloads
 reply-frames p o Silence a = none-more
 reply-frames p o (Status s) a = one-more _ _ (omega arith) (omega arith) none-more
+reply-frames p o (BadFrame j) a = one-more _ _ (omega arith) (omega arith) none-more
 reply-frames p o (Rate mode) a = one-more _ _ (omega arith) (omega arith) none-more
 reply-frames p o (Pair s t) a = one-more _ _ (omega arith) (omega arith) none-more
+reply-frames p o (BadPage j) a = one-more _ _ (omega arith) (omega arith) none-more
 reply-frames p o LastStored a = one-more _ _ (omega arith) (omega arith) (one-more _ _ (omega arith) (omega arith) none-more)
 reply-frames p o (Sum n) a = one-more _ _ (omega arith) (omega arith) (one-more (lowFirst 2 n) [] (omega (arith, low-long 2 n)) (omega (arith, low-long 2 n)) none-more)
 reply-frames p o Signature a =

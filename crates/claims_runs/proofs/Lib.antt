@@ -4,3 +4,5 @@ pub mod Refused
 pub mod Options
 pub mod Window
 pub mod Unfinished
+pub mod Faults
+pub mod FaultExamples

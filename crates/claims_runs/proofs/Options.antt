@@ -5,15 +5,14 @@ use mathlib.Core.List.{List, [], _∷_, append-nil}
 use mathlib.Core.Path.{_∙_, _≡_, ap, refl, sym}
 use Prim.Native.Nat.{ℕ}
 use lib.Dec.{eqb}
-use lib.ListN.{getD, length}
+use lib.ListN.{getD}
 use borrow.Author.Tests.{eqb-true, not-false}
 use Rattle.chip.specs.Run.{onward, run}
-use Rattle.chip.specs.Step.{Reaction, frameDoes, modeByte, silent}
-use Rattle.chip.specs.declared.Answer.the-variants.{Replied}
+use Rattle.chip.specs.Step.{Reaction, frameDoes, modeByte, reaction, silent}
 use Rattle.chip.specs.declared.Event.{Event}
 use Rattle.chip.specs.declared.Event.the-variants.{Byte, Gap, PowerOn}
 use Rattle.chip_commands.specs.Commands.{allowedIn, commandDoes, readingDoes, work}
-use Rattle.chip_core.specs.Effect.{Effect, Memory, effect, says}
+use Rattle.chip_core.specs.Effect.{Effect, Memory, effect, says, told}
 use Rattle.chip_core.specs.Hearing.{hearing}
 use Rattle.chip_core.specs.declared.Awaited.{Awaited}
 use Rattle.chip_core.specs.declared.Core.{Core}
@@ -24,7 +23,7 @@ use Rattle.chip_core.specs.declared.Phase.the-variants.{Awaiting, ModeByte, Rea
 use Rattle.chip_options.specs.Options.{optionsIn, raises, released, rises}
 use Rattle.chip_options.specs.declared.Options.{Options}
 use Rattle.chip_pages.specs.Pages.{badData, dataDoes, goodData, nextPage, programPage, securityData, verifyPage}
-use Rattle.chip_reply.specs.Reply.{framesOf, payloads}
+use Rattle.chip_reply.specs.Reply.{faultIn, framesOf, payloads}
 use Rattle.chip_reply.specs.declared.Reply.{Reply}
 use Rattle.chip_reply.specs.declared.Reply.the-variants.{Status}
 use Rattle.chip_work.specs.Work.{blankCheck, blockErase, checksum, programming, rateSet, securityRelease, verify}
@@ -172,13 +171,13 @@ quiet-options Gap k = refl
 quiet-options PowerOn k = refl
 
 status-says : (p : Part) (x : Reaction) (s : ℕ) → x .does .reply ≡ Status s → utteranceOf p x ≡ saysFrame (s ∷ [])
-unfolding utteranceOf payloads framesOf
-status-says p x s e = ap (λ (r : Reply). spoken (payloads p (x .does .core .options) r)) e ∙ one
+unfolding utteranceOf faultIn payloads framesOf
+status-says p x s e = ap spoken e ∙ one
   where
-    spoken : List (List ℕ) → Utterance
-    spoken rs = record { answer = Replied (length (framesOf rs)) (length rs); bytes = framesOf rs }
+    spoken : Reply → Utterance
+    spoken r = utteranceOf p (reaction [] (effect (told r (x .does .core)) (x .does .memory)))
 
-    one : spoken (payloads p (x .does .core .options) (Status s)) ≡ saysFrame (s ∷ [])
+    one : spoken (Status s) ≡ saysFrame (s ∷ [])
     one = rw append-nil
 
 pub options-change : OptionsChange

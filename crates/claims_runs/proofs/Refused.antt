@@ -19,7 +19,7 @@ use Rattle.chip_options.specs.declared.Options.{Options}
 use Rattle.chip_pages.specs.Pages.{badData, dataDoes, goodData, isLastPage, nextPage, pair, programPage, ready, securityData, storedReply, verifyPage, verifyStatus}
 use Rattle.chip_reply.specs.Reply.{framesOf, payloads}
 use Rattle.chip_reply.specs.declared.Reply.{Reply}
-use Rattle.chip_reply.specs.declared.Reply.the-variants.{LastStored, Pair, Rate, Security, Signature, Silence, Status, Sum}
+use Rattle.chip_reply.specs.declared.Reply.the-variants.{BadFrame, BadPage, LastStored, Pair, Rate, Security, Signature, Silence, Status, Sum}
 use Rattle.chip_work.specs.Work.{blankCheck, blockErase, checksum, programming, rateSet, securityRelease, verify}
 use Rattle.claims_fed.specs.Fed.{does, doesIn}
 use Rattle.claims_good.proofs.Rooms.{Leaves, leaves, reactionOf, says-reaction, utteranceOf}
@@ -31,6 +31,7 @@ use Rattle.commands.specs.declared.Command.the-variants.{BlankCheck, BlockErase
 use Rattle.commands.specs.declared.Reading.{Reading}
 use Rattle.commands.specs.declared.Reading.the-variants.{Meant, UnfitLen, Unknown}
 use Rattle.frame.specs.Frame.{framed}
+use Rattle.frame.specs.Judgement.{statusOf}
 use Rattle.lent.specs.Lent.{allAre}
 use Rattle.part.specs.declared.Part.{Part}
 use Rattle.part.specs.declared.Place.{Place}
@@ -40,12 +41,14 @@ use Rattle.part.specs.declared.Range.the-variants.{Bad, Blocks}
 use Rattle.words.proofs.Laws.{and-true, if-all}
 use Rattle.words.specs.Words.{_and_, if_then_else_}
 
--- The same of a reply: only a status and a pair can be another than 06h.
+-- The same of a reply: only a status and a pair can be another than 06h, and the status of a bad frame.
 denies : Reply → Bool
 denies Silence = false
 denies (Status s) = not (eqb s 0x06)
+denies (BadFrame j) = not (eqb (statusOf j) 0x06)
 denies (Rate mode) = false
 denies (Pair s t) = not (eqb s 0x06 and eqb t 0x06)
+denies (BadPage j) = not (eqb (statusOf j) 0x06 and eqb (statusOf j) 0x06)
 denies LastStored = false
 denies (Sum n) = false
 denies Signature = false
@@ -55,8 +58,10 @@ said-denies : (p : Part) (o : Options) (r : Reply) → not (allAre 0x06 (statuse
 unfolding statusesSaid payloads framesOf framed allAre denies _and_ if_then_else_
 said-denies p o Silence = refl
 said-denies p o (Status s) = ap not (and-true (eqb s 0x06))
+said-denies p o (BadFrame j) = ap not (and-true (eqb (statusOf j) 0x06))
 said-denies p o (Rate mode) = refl
 said-denies p o (Pair s t) = ap (λ (x : Bool). not (eqb s 0x06 and x)) (and-true (eqb t 0x06))
+said-denies p o (BadPage j) = ap (λ (x : Bool). not (eqb (statusOf j) 0x06 and x)) (and-true (eqb (statusOf j) 0x06))
 said-denies p o LastStored = refl
 said-denies p o (Sum n) = refl
 said-denies p o Signature = refl

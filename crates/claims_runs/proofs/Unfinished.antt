@@ -17,7 +17,7 @@ use Rattle.chip_core.specs.Hearing.{hearing}
 use Rattle.chip_core.specs.declared.Core.{Core}
 use Rattle.chip_core.specs.declared.Hearing.{Hearing}
 use Rattle.chip_core.specs.declared.Hearing.the-variants.{HearsCommands, HearsData, HearsNothing}
-use Rattle.chip_reply.specs.Reply.{framesOf, payloads}
+use Rattle.chip_reply.specs.Reply.{faultIn, framesOf, payloads}
 use Rattle.chip_state.proofs.Laws.{accepts}
 use Rattle.chip_state.specs.Refusals.{goodCollected, goodState}
 use Rattle.claims_fed.specs.Fed.{silence}
@@ -75,7 +75,7 @@ nothing-heard p o s e =
     (ap (λ (h : Hearing). goodCollected h (c .len) (getD (c .bytes) 0 0) (getD (c .bytes) 1 0)) (sym e) ∙ and-left _ _ (accepts (s .accepted) .state)))
 
 silent-says : (p : Part) (hs : List ℕ) (k : Core) (m : Memory) → utteranceOf p (reaction hs (silent k m)) ≡ silence
-unfolding utteranceOf payloads framesOf
+unfolding utteranceOf faultIn payloads framesOf
 silent-says p hs k m = refl
 
 -- The same of what an event leaves.

@@ -24,9 +24,9 @@ use Rattle.chip_core.specs.declared.Phase.the-variants.{Awaiting, ModeByte, Rea
 use Rattle.chip_options.specs.Options.{isFresh, released}
 use Rattle.chip_options.specs.declared.Options.{Options}
 use Rattle.chip_pages.specs.Pages.{badData, dataDoes, goodData, nextPage, programPage, securityData, storedReply, verifyPage}
-use Rattle.chip_reply.specs.Reply.{framesOf, payloads}
+use Rattle.chip_reply.specs.Reply.{faultIn, framesOf, payloads}
 use Rattle.chip_reply.specs.declared.Reply.{Reply}
-use Rattle.chip_reply.specs.declared.Reply.the-variants.{LastStored, Pair, Rate, Security, Signature, Silence, Status, Sum}
+use Rattle.chip_reply.specs.declared.Reply.the-variants.{BadFrame, BadPage, LastStored, Pair, Rate, Security, Signature, Silence, Status, Sum}
 use Rattle.chip_work.specs.Work.{blankCheck, blockErase, checksum, programming, rateSet, securityRelease, verify}
 use Rattle.claims_fed.specs.Fed.{does}
 use Rattle.claims_frame.specs.Collecting.{collectsOn, take-up}
@@ -54,7 +54,7 @@ use Rattle.words.proofs.Laws.{if-all}
 use Rattle.words.specs.Words.{_and_, _or_, if_then_else_}
 
 -- A claim about two choices by one test.
-if-two : {A B : Type 0} (P : A → B → Type 0) (t : Bool) {a c : A} {b d : B} → (t ≡ true → P a b) → (t ≡ false → P c d)
+pub if-two : {A B : Type 0} (P : A → B → Type 0) (t : Bool) {a c : A} {b d : B} → (t ≡ true → P a b) → (t ≡ false → P c d)
     → P (if t then a else c) (if t then b else d)
 unfolding if_then_else_
 if-two P true f g = f refl
@@ -70,31 +70,39 @@ data Told (L : Type 0) {A : Type 0} (a b : A) : Type 0 where
   alike : b ≡ a → Told L a b
   looks : L → Told L a b
 
+-- What a reply says.
+spoken : Part → Options → Reply → Utterance
+spoken p o r = let rs = payloads p o r in record { answer = Replied (length (framesOf rs)) (length rs); fault = faultIn r; bytes = framesOf rs }
+
 -- What a frame did to two records that differ in the window: x and y.
 record Beside (p : Part) (L : Type 0) (x y : Effect) : Type 0 where
   start : ℕ
   end : ℕ
   core : y .core ≡ withWindow start end (x .core)
   memory : y .memory ≡ x .memory
-  tells : Told L (payloads p (x .core .options) (x .reply)) (payloads p (y .core .options) (y .reply))
+  tells : Told L (spoken p (x .core .options) (x .reply)) (spoken p (y .core .options) (y .reply))
 
 -- Only one reply is about the options.
 reads : Reply → Bool
 reads Silence = false
 reads (Status s) = false
+reads (BadFrame j) = false
 reads (Rate mode) = false
 reads (Pair s t) = false
+reads (BadPage j) = false
 reads LastStored = false
 reads (Sum n) = false
 reads Signature = false
 reads Security = true
 
-same-told : (p : Part) (o n : Options) (r : Reply) → reads r ≡ false → payloads p n r ≡ payloads p o r
-unfolding payloads reads
+same-told : (p : Part) (o n : Options) (r : Reply) → reads r ≡ false → spoken p n r ≡ spoken p o r
+unfolding spoken payloads reads
 same-told p o n Silence e = refl
 same-told p o n (Status s) e = refl
+same-told p o n (BadFrame j) e = refl
 same-told p o n (Rate mode) e = refl
 same-told p o n (Pair s t) e = refl
+same-told p o n (BadPage j) e = refl
 same-told p o n LastStored e = refl
 same-told p o n (Sum n′) e = refl
 same-told p o n Signature e = refl
@@ -252,11 +260,11 @@ record Both (L : Type 0) (p : Part) (x y : Reaction) : Type 0 where
   end : ℕ
   core : y .does .core ≡ withWindow start end (x .does .core)
   memory : y .does .memory ≡ x .does .memory
-  tells : Told L (payloads p (x .does .core .options) (x .does .reply)) (payloads p (y .does .core .options) (y .does .reply))
+  tells : Told L (spoken p (x .does .core .options) (x .does .reply)) (spoken p (y .does .core .options) (y .does .reply))
 
 quiet-both : (L : Type 0) (p : Part) (hs : List ℕ) (k l : Core) (m : Memory) (s e : ℕ) → l ≡ withWindow s e k
     → Both L p (reaction hs (silent k m)) (reaction hs (silent l m))
-unfolding payloads
+unfolding spoken payloads
 quiet-both L p hs k l m s e q = record { hears = refl; start = s; end = e; core = q; memory = refl; tells = alike refl }
 
 taken-whole : (hs : List ℕ) → complete hs ≡ true → take-up hs .taken ≡ hs ∷ []
@@ -270,7 +278,7 @@ heard-both p L K k m s e hs x y at b =
     if-two (Both K p) (complete hs)
     (λ t. record { hears = refl; start = b .start; end = b .end; core = b .core; memory = b .memory; tells = go (at t) (b .tells) }) (λ t. quiet-both _ p hs k _ m s e refl)
   where
-    go : (L → K) → {rs qs : List (List ℕ)} → Told L rs qs → Told K rs qs
+    go : (L → K) → {s t : Utterance} → Told L s t → Told K s t
     go at (alike q) = alike q
     go at (looks l) = looks (at l)
 
@@ -296,7 +304,7 @@ record OneEvent (p : Part) (o u : Outcome) (v : Event) : Type 0 where
   says : Told (LooksAtWindow o v) (uttered (spokenIn (onward p o v))) (uttered (spokenIn (onward p u v)))
 
 one-event : (p : Part) (o u : Outcome) (v : Event) → Stands p o → Stands p u → OtherWindow o u → OneEvent p o u v
-unfolding reactionOf utteranceOf
+unfolding reactionOf utteranceOf spoken
 one-event p o u v so su w =
     let a = leaves p o v so in
     let c = leaves p u v su in
@@ -322,12 +330,9 @@ one-event p o u v so su w =
     b : Both (Looking (takenBy o v) (o .chip .core)) p x y
     b = rw (w .core, w .hears, w .memory) (react-both v p (o .chip .core) (heard (o .chip .collector)) (o .memory) (w .start) (w .end))
 
-    spoken : List (List ℕ) → Utterance
-    spoken rs = record { answer = Replied (length (framesOf rs)) (length rs); bytes = framesOf rs }
-
-    go : Told (Looking (takenBy o v) (o .chip .core)) (payloads p (x .does .core .options) (x .does .reply)) (payloads p (y .does .core .options) (y .does .reply))
+    go : Told (Looking (takenBy o v) (o .chip .core)) (spoken p (x .does .core .options) (x .does .reply)) (spoken p (y .does .core .options) (y .does .reply))
         → Told (LooksAtWindow o v) (uttered (spokenIn (onward p o v))) (uttered (spokenIn (onward p u v)))
-    go (alike q) = alike (says-reaction p u v su ∙ ap spoken q ∙ sym (says-reaction p o v so))
+    go (alike q) = alike (says-reaction p u v su ∙ q ∙ sym (says-reaction p o v so))
     go (looks l) = looks (at (l .opens .at-window))
       where
         at : Looks (l .frame) → LooksAtWindow o v

@@ -21,7 +21,7 @@ use Rattle.chip_options.specs.declared.Options.{Options}
 use Rattle.chip_pages.specs.Pages.{dataDoes, storedReply}
 use Rattle.chip_reply.specs.Reply.{payloads}
 use Rattle.chip_reply.specs.declared.Reply.{Reply}
-use Rattle.chip_reply.specs.declared.Reply.the-variants.{LastStored, Pair, Rate, Security, Signature, Silence, Status, Sum}
+use Rattle.chip_reply.specs.declared.Reply.the-variants.{BadFrame, BadPage, LastStored, Pair, Rate, Security, Signature, Silence, Status, Sum}
 use Rattle.claims_good.proofs.Rooms.{leaves, reactionOf, says-reaction, utteranceOf}
 use Rattle.claims_good.specs.Good.{Utterance}
 use Rattle.claims_sums.proofs.Untouched.{only-stored, refused-erase}
@@ -95,8 +95,10 @@ silence-only : (p : Part) (o : Options) (r : Reply) → length (payloads p o r) 
 unfolding payloads
 silence-only p o Silence e = refl
 silence-only p o (Status s) e = absurd (omega arith)
+silence-only p o (BadFrame j) e = absurd (omega arith)
 silence-only p o (Rate mode) e = absurd (omega arith)
 silence-only p o (Pair s t) e = absurd (omega arith)
+silence-only p o (BadPage j) e = absurd (omega arith)
 silence-only p o LastStored e = absurd (omega arith)
 silence-only p o (Sum n) e = absurd (omega arith)
 silence-only p o Signature e = absurd (omega arith)

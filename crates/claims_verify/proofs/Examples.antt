@@ -18,8 +18,8 @@ use Rattle.chip_options.proofs.Laws.{fresh-good}
 use Rattle.chip_pages.specs.Pages.{footerOf, isLastPage, lengthOf}
 use Rattle.chip_state.specs.Refusals.{goodAwaited, goodPhase, goodPlaces}
 use Rattle.chip_sums.specs.Sums.{rangeBytes}
-use Rattle.claims_fed.specs.Awaits.{awaitsIn, goodFor}
-use Rattle.claims_fed.specs.Fed.{saysFrame, silence}
+use Rattle.claims_fed.specs.Awaits.{awaitsIn, goodFor, judgedIn}
+use Rattle.claims_fed.specs.Fed.{blamesTwice, saysFrame, silence}
 use Rattle.claims_good.proofs.Fresh.{new-stands, the-part-is}
 use Rattle.claims_good.specs.Good.{Stands, Utterance, utterances, uttered}
 use Rattle.claims_noise.proofs.Examples.{cut-page, cut-page-completes-none, ready-stands}
@@ -30,7 +30,7 @@ use Rattle.claims_stars.specs.Table.{acknowledged, freshMemory, readyChip, repl
 use Rattle.claims_verify.proofs.Told.{earlier-told, verify-told}
 use Rattle.claims_verify.proofs.Whole.{command-told, damaged-ends, told-after-noise}
 use Rattle.claims_verify.specs.Examples.{InBetween, ToldLate, WholeTold, acknowledgedTwice, allEqual, blockAwaited, differedChip, differentPage, equalPage, lastSays, secondDiffers, sumBlamed, verifyFailed, verifyingChip, wrongSum}
-use Rattle.claims_verify.specs.Told.{AllPages, Damaged, GoesOn, Page, Told, VerifyAsked, Verifying, andPage, anyDiffers, blameOf, flashFrom, joinedPages, noPage, pageFrames, pageSeen, toPage, toPages, verifyFrame}
+use Rattle.claims_verify.specs.Told.{AllPages, Damaged, GoesOn, Page, Told, VerifyAsked, Verifying, andPage, anyDiffers, flashFrom, joinedPages, noPage, pageFrames, pageSeen, toPage, toPages, verifyFrame}
 use Rattle.commands.specs.Commands.{comOf, informationOf, payloadOf}
 use Rattle.frame.proofs.Laws.Sum.{Below, below-append, more, none}
 use Rattle.frame.specs.Collector.{fresh}
@@ -206,13 +206,13 @@ sum-damaged =
       bad = refl;
     }
 
-damaged-told : Told thePart differedChip wrongSum (replicate (length wrongSum - 1) silence ++ saysFrame (blameOf afterDifference wrongSum ∷ blameOf afterDifference wrongSum ∷ []) ∷ [])
+damaged-told : Told thePart differedChip wrongSum (replicate (length wrongSum - 1) silence ++ blamesTwice (judgedIn (awaitsIn (Awaiting afterDifference)) wrongSum) ∷ [])
 damaged-told = damaged-ends thePart differedChip afterDifference wrongSum sum-damaged
 
 record OtherReplies : Type 0 where
   first : allSaid (toPage acknowledge acknowledge) ≡ acknowledgedTwice
   three : allSaid (toPages true threeEqual) ≡ acknowledgedTwice ++ acknowledgedTwice ++ verifyFailed
-  blamed : allSaid (replicate (length wrongSum - 1) silence ++ saysFrame (blameOf afterDifference wrongSum ∷ blameOf afterDifference wrongSum ∷ []) ∷ []) ≡ sumBlamed
+  blamed : allSaid (replicate (length wrongSum - 1) silence ++ blamesTwice (judgedIn (awaitsIn (Awaiting afterDifference)) wrongSum) ∷ []) ≡ sumBlamed
 
 other-replies : OtherReplies
 unfolding allSaid toPages toPage wrongSum equalPage framed footerOf lengthOf isLastPage fitting judgeOf isFrame counted summed sumOf lessAll less _and_ _or_ if_then_else_

@@ -21,7 +21,7 @@ use Rattle.chip_core.specs.declared.Core.{Core}
 use Rattle.chip_core.specs.declared.Phase.{Phase}
 use Rattle.chip_core.specs.declared.Phase.the-variants.{Awaiting}
 use Rattle.chip_pages.specs.Pages.{compared, dataDoes, footerOf, goodData, isLastPage, lengthOf, nextPage, pageAfter, pageIn, pair, ready, verifyPage, verifyStatus}
-use Rattle.chip_reply.specs.Reply.{framesOf, payloads}
+use Rattle.chip_reply.specs.Reply.{faultIn, framesOf, payloads}
 use Rattle.chip_state.proofs.Laws.{accepts}
 use Rattle.chip_state.specs.Refusals.{goodAwaited, goodPhase, goodState}
 use Rattle.claims_fed.proofs.Frames.{bytes-proper, fed-is-done}
@@ -88,7 +88,7 @@ framed-header h ds f = refl
 -- A page of 13h, good where its footer is awaited, is compared.
 module _ (p : Part) (k : Core) (w : Awaited) (ds : List ℕ) (f : Footer) (m : Memory) (c : w .command ≡ 0x13) (d : Page ds) (e : footerOf w ≡ f) where
   page-judged : fitting (lengthOf w) (dataFrame ds f) (judgeOf (footerOf w) (dataFrame ds f)) ≡ Good
-  unfolding fitting lengthOf if_then_else_
+  unfolding fitting lengthOf if_then_else_ _and_
   page-judged =
       let n = d .long in
       let l : length (dataFrame ds f) ≡ 260 = framed-long Data ds f ∙ (omega arith) in
@@ -99,7 +99,7 @@ module _ (p : Part) (k : Core) (w : Awaited) (ds : List ℕ) (f : Footer) (m : M
   page-does = rw (page-judged, payload-framed Data ds f) (rw c)
 
 pub two-said : (p : Part) (k : Core) (m : Memory) (s t : ℕ) → utteranceOf p (reaction [] (effect (pair s t k) m)) ≡ saysFrame (s ∷ t ∷ [])
-unfolding utteranceOf payloads framesOf
+unfolding utteranceOf faultIn payloads framesOf
 two-said p k m s t = rw append-nil
 
 -- What the page at the awaited place makes of the record.

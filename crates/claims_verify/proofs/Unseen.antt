@@ -195,7 +195,8 @@ own : (u : Outcome) → withDifference (differedIn (u .chip .core .phase)) u ≡
 unfolding withDifference
 own u =
     ap {B = Outcome}
-    (λ (f : Phase). record { answer = u .answer; chip = record { core = entered (u .chip .core) f; collector = u .chip .collector }; memory = u .memory; room = u .room })
+    (λ (f : Phase). record
+    { answer = u .answer; fault = u .fault; chip = record { core = entered (u .chip .core) f; collector = u .chip .collector }; memory = u .memory; room = u .room })
     (own-phase (u .chip .core .phase))
 
 pub never-looked-at : NeverLookedAt

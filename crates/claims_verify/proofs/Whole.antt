@@ -5,6 +5,7 @@ use mathlib.Core.List.{List, [], _++_, _∷_, append-nil, map}
 use mathlib.Core.Path.{_∙_, _≡_, ap, refl, subst, subst₂, sym}
 use Prim.Native.Nat.{_*_, _-_, _<_, _^_, ℕ}
 use native.Mathlib.Omega.{arith}
+use lib.Dec.{eqb}
 use lib.ListN.{getD, length, replicate}
 use Rattle.chip.specs.Run.{run}
 use Rattle.chip.specs.Step.{Outcome, frameDoes, reaction}
@@ -17,14 +18,15 @@ use Rattle.chip_core.specs.declared.Awaited.{Awaited}
 use Rattle.chip_core.specs.declared.Core.{Core}
 use Rattle.chip_core.specs.declared.Phase.{Phase}
 use Rattle.chip_core.specs.declared.Phase.the-variants.{Awaiting}
-use Rattle.chip_pages.specs.Pages.{badData, dataDoes, pair, ready}
-use Rattle.chip_reply.specs.Reply.{framesOf, payloads}
+use Rattle.chip_pages.specs.Pages.{ready}
+use Rattle.chip_reply.specs.Reply.{faultIn, framesOf, payloads}
 use Rattle.chip_state.proofs.Laws.{accepts}
 use Rattle.chip_sums.specs.Sums.{rangeBytes}
 use Rattle.chip_work.specs.Work.{verify}
+use Rattle.claims_fed.proofs.Bad.{bad-frame-does}
 use Rattle.claims_fed.proofs.Frames.{bytes-proper, fed-is-done}
-use Rattle.claims_fed.specs.Awaits.{awaitsIn, command, goodFor, inReady, page}
-use Rattle.claims_fed.specs.Fed.{FedIsDone, does, doesIn, saysFrame, silence}
+use Rattle.claims_fed.specs.Awaits.{awaitsIn, command, inReady, judgedIn, page}
+use Rattle.claims_fed.specs.Fed.{FedIsDone, badCore, blames, blamesOnce, blamesTwice, does, doesIn, saysFrame, silence}
 use Rattle.claims_frame.proofs.RoundTrip.{framed-good, framed-whole}
 use Rattle.claims_good.proofs.Awaited.{pagesOf}
 use Rattle.claims_good.proofs.Rooms.{utteranceOf}
@@ -34,8 +36,8 @@ use Rattle.claims_noise.proofs.Claims.{noise-at-data}
 use Rattle.claims_noise.proofs.Rooms.{run-by}
 use Rattle.claims_noise.specs.Claims.{commandOver, leftBy}
 use Rattle.claims_noise.specs.Noise.{dataCompleted, thenGap}
-use Rattle.claims_verify.proofs.Told.{framed-below, framed-header, from-in, then-told, two-said, verify-told}
-use Rattle.claims_verify.specs.Told.{CommandTold, DamagedEnds, Told, ToldAfterNoise, VerifyAsked, Verifying, anyDiffers, blameOf, flashFrom, joinedPages, pageFrames, toPages, verifyFrame}
+use Rattle.claims_verify.proofs.Told.{framed-below, framed-header, from-in, then-told, verify-told}
+use Rattle.claims_verify.specs.Told.{CommandTold, DamagedEnds, Told, ToldAfterNoise, VerifyAsked, Verifying, anyDiffers, flashFrom, joinedPages, pageFrames, toPages, verifyFrame}
 use Rattle.commands.proofs.Laws.{read-back}
 use Rattle.commands.specs.Commands.{comOf, informationOf, payloadOf}
 use Rattle.commands.specs.declared.Command.the-variants.{Verify}
@@ -46,6 +48,7 @@ use Rattle.frame.specs.Frame.{framed}
 use Rattle.frame.specs.Framing.{Sound}
 use Rattle.frame.specs.declared.Footer.the-variants.{Last}
 use Rattle.frame.specs.declared.Header.the-variants.{Command}
+use Rattle.frame.specs.declared.judgement.Judgement.{Judgement}
 use Rattle.lent.specs.Lent.{same}
 use Rattle.numbers.proofs.Laws.{low-below}
 use Rattle.numbers.specs.Numbers.{lowFirst}
@@ -55,29 +58,31 @@ use Rattle.part.specs.declared.Area.{Area}
 use Rattle.part.specs.declared.Part.{Part}
 use Rattle.words.specs.Words.{_or_, if_then_else_}
 
--- A damaged page: its status twice, and the command is over.
-damaged-does : (p : Part) (k : Core) (w : Awaited) (f : List ℕ) (m : Memory) → w .command ≡ 0x13 → goodFor (awaitsIn (Awaiting w)) f ≡ false
-    → dataDoes p k w f m ≡ effect (pair (blameOf w f) (blameOf w f) (ready k)) m
-unfolding dataDoes badData goodFor if_then_else_
-damaged-does p k w f m c e = rw e (rw c)
-
 one-said : (p : Part) (k : Core) (m : Memory) (s : ℕ) → utteranceOf p (reaction [] (effect (says s k) m)) ≡ saysFrame (s ∷ [])
-unfolding utteranceOf payloads framesOf
+unfolding utteranceOf faultIn payloads framesOf
 one-said p k m s = rw append-nil
 
+-- A damaged page: its status twice, and the command is over.
+blamed-twice : (w : Awaited) (j : Judgement) → w .command ≡ 0x13 → blames (Awaiting w) j ≡ blamesTwice j
+unfolding if_then_else_
+blamed-twice w j c = ap (λ (n : ℕ). if eqb n 0xA0 then blamesOnce j else blamesTwice j) c
+
 pub damaged-ends : DamagedEnds
-unfolding doesIn does frameDoes hearing
+unfolding doesIn badCore
 damaged-ends p o w f d =
     let k = o .chip .core in
     let m = o .memory in
     let e = d .phase in
+    let j = judgedIn (awaitsIn (Awaiting w)) f in
     let t : FedIsDone p o f f = fed-is-done p o f (d .stands) (rw e (page w)) (d .nothing) (d .frame) (rw e (d .header)) (d .bytes) in
-    let x : doesIn p f k m ≡ effect (pair (blameOf w f) (blameOf w f) (ready k)) m =
-    ap (λ (g : Phase). frameDoes (hearing g) p k f m) e ∙ damaged-does p k w f m (d .command) (d .bad) in
+    let x : does (k .phase) p k m f ≡ does (Awaiting w) p k m f = ap (λ (g : Phase). does g p k m f) e in
+    let b = bad-frame-does (Awaiting w) p k m f (page w) (d .bad) in
+    let says : utteranceOf p (reaction [] (does (k .phase) p k m f)) ≡ blamesTwice j =
+    ap (λ (y : Effect). utteranceOf p (reaction [] y)) x ∙ b .utters ∙ blamed-twice w j (d .command) in
     record {
-      says = t .answers ∙ ap (λ (y : Effect). replicate (length f - 1) silence ++ utteranceOf p (reaction [] y) ∷ []) x ∙ ap (λ (u : Utterance). replicate (length f - 1) silence ++ u ∷ []) (two-said p _ m _ _);
-      core = t .core ∙ ap (λ (y : Effect). y .core) x;
-      memory = t .memory ∙ ap (λ (y : Effect). y .memory) x;
+      says = t .answers ∙ ap (λ (u : Utterance). replicate (length f - 1) silence ++ u ∷ []) says;
+      core = t .core ∙ ap (λ (y : Effect). y .core) x ∙ b .core;
+      memory = t .memory ∙ ap (λ (y : Effect). y .memory) x ∙ b .memory;
       nothing = t .count;
     }
 

@@ -37,6 +37,7 @@ unfoldable pub withDifference : Bool → Outcome → Outcome
 withDifference d o =
     record {
       answer = o .answer;
+      fault = o .fault;
       chip = record { core = entered (o .chip .core) (remembering d (o .chip .core .phase)); collector = o .chip .collector };
       memory = o .memory;
       room = o .room;

@@ -11,10 +11,10 @@ use Rattle.chip.specs.declared.Event.the-variants.{Byte}
 use Rattle.chip_core.specs.Effect.{Flash, acknowledge, bytesIn, entered, verifyError}
 use Rattle.chip_core.specs.declared.Awaited.{Awaited}
 use Rattle.chip_core.specs.declared.Phase.the-variants.{Awaiting, Ready}
-use Rattle.chip_pages.specs.Pages.{footerOf, lengthOf, ready}
+use Rattle.chip_pages.specs.Pages.{ready}
 use Rattle.chip_sums.specs.Sums.{rangeBytes}
-use Rattle.claims_fed.specs.Awaits.{awaitsIn, goodFor}
-use Rattle.claims_fed.specs.Fed.{saysFrame, silence}
+use Rattle.claims_fed.specs.Awaits.{awaitsIn, goodFor, judgedIn}
+use Rattle.claims_fed.specs.Fed.{blamesTwice, saysFrame, silence}
 use Rattle.claims_good.specs.Good.{Stands, Utterance, utterances}
 use Rattle.claims_noise.specs.Claims.{Noise}
 use Rattle.claims_noise.specs.Noise.{dataCompleted, noFrame, thenGap}
@@ -23,7 +23,6 @@ use Rattle.commands.specs.declared.Command.the-variants.{Verify}
 use Rattle.frame.proofs.Laws.Sum.{Below}
 use Rattle.frame.specs.Frame.{dataFrame, framed, headerByte, isFrame}
 use Rattle.frame.specs.Framing.{Sound}
-use Rattle.frame.specs.Judgement.{fitting, judgeOf, statusOf}
 use Rattle.frame.specs.declared.Footer.the-variants.{Last, More}
 use Rattle.frame.specs.declared.Header.the-variants.{Command, Data}
 use Rattle.lent.specs.Lent.{same}
@@ -134,7 +133,7 @@ ToldAfterNoise =
     (p : Part) (o : Outcome) (w : Awaited) (dss : List (List ℕ)) (vs : List Sound) → Verifying p o w dss → Noise noFrame p o vs → dataCompleted vs ≡ false
     → Told p (run p (thenGap vs) o) (pageFrames dss) (toPages (anyDiffers p w dss (o .memory .flash)) dss)
 
--- "A damaged page still ends the command at once": its status twice, whatever is remembered.
+-- "A damaged page still ends the command at once": its status twice, whatever is remembered, and the fault told is its judgement.
 pub record Damaged (p : Part) (o : Outcome) (w : Awaited) (f : List ℕ) : Type 0 where
   pub stands : Stands p o
   pub nothing : o .chip .collector .len ≡ 0
@@ -145,10 +144,7 @@ pub record Damaged (p : Part) (o : Outcome) (w : Awaited) (f : List ℕ) : Type 
   pub bytes : Below 256 f
   pub bad : goodFor (awaitsIn (Awaiting w)) f ≡ false
 
-abbrev pub blameOf : Awaited → List ℕ → ℕ
-blameOf w f = statusOf (fitting (lengthOf w) f (judgeOf (footerOf w) f))
-
 abbrev pub DamagedEnds : Type 0
 DamagedEnds =
     (p : Part) (o : Outcome) (w : Awaited) (f : List ℕ) → Damaged p o w f
-    → Told p o f (replicate (length f - 1) silence ++ saysFrame (blameOf w f ∷ blameOf w f ∷ []) ∷ [])
+    → Told p o f (replicate (length f - 1) silence ++ blamesTwice (judgedIn (awaitsIn (Awaiting w)) f) ∷ [])

@@ -22,6 +22,7 @@ use Rattle.claims_stars.specs.Table.{readyChip, thePart}
 use Rattle.chip_core.specs.Effect.{Memory, memory}
 use Rattle.frame.specs.Frame.{dataFrame}
 use Rattle.frame.specs.declared.Footer.the-variants.{Last, More}
+use Rattle.frame.specs.declared.judgement.Judgement.the-variants.{Good}
 use Rattle.part.specs.declared.Part.{Part}
 use Rattle.words.specs.Words.{_or_, if_then_else_}
 
@@ -85,12 +86,13 @@ FirstPageDiffers = (M : Machine) → StoresOnly inFirstPage M → LeavesElse M t
 
 -- A deaf chip: nothing is heard, and nothing answered.
 unfoldable pub deaf : Machine
-deaf p c v m room = record { answer = Replied 0 0; chip = c; memory = m; room = room }
+deaf p c v m room = record { answer = Replied 0 0; fault = Good; chip = c; memory = m; room = room }
 
 -- A chip that says s where the definition says anything.
 unfoldable pub saying : ℕ → Answer → Outcome → Outcome
 saying s (Replied zero f) o = o
-saying s (Replied (suc n) f) o = record { answer = Replied 5 1; chip = o .chip; memory = o .memory; room = dataFrame (s ∷ []) Last ++ drop 5 (o .room) }
+saying s (Replied (suc n) f) o =
+    record { answer = Replied 5 1; fault = o .fault; chip = o .chip; memory = o .memory; room = dataFrame (s ∷ []) Last ++ drop 5 (o .room) }
 saying s (Refused r) o = o
 
 unfoldable pub saysAlways : ℕ → Machine
@@ -106,6 +108,7 @@ stores t p c v m room =
     let o = stepOf p c v m room in
     record {
       answer = o .answer;
+      fault = o .fault;
       chip = o .chip;
       memory = memory (takenUp t (m .flash .codeFlash) (o .memory .flash .codeFlash)) (o .memory .flash .dataFlash) (o .memory .sums);
       room = o .room;

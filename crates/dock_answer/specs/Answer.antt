@@ -1,5 +1,5 @@
--- The answer to one frame: document 01, "The dock's flow". "The whole answer to one frame is handed in at once".
-use mathlib.Core.Bool.{Bool, true}
+-- The answer to one frame: document 01, "The dock's flow". "The whole answer to one frame is handed in at once". Which fault it has: document 02, §4.
+use mathlib.Core.Bool.{Bool, false, true}
 use mathlib.Core.List.{List, [], _∷_}
 use Prim.Native.Nat.{_+_, _-_, ℕ}
 use lib.Dec.{eqb}
@@ -8,28 +8,30 @@ use Rattle.dock_answer.specs.declared.Decoded.{Decoded}
 use Rattle.dock_answer.specs.declared.Decoded.the-variants.{Garbled, Said}
 use Rattle.dock_answer.specs.declared.Form.{Form}
 use Rattle.dock_answer.specs.declared.Form.the-variants.{OfLastPage, OfPage, OneStatus, WithRate, WithSignature}
+use Rattle.dock_answer.specs.declared.JudgedAnswer.{JudgedAnswer}
 use Rattle.frame.specs.Frame.{overhead, payloadAt}
-use Rattle.frame.specs.Wire.{readOf}
-use Rattle.frame.specs.declared.wire.Read.{Read}
-use Rattle.frame.specs.declared.wire.Read.the-variants.{Frame, NotOne}
+use Rattle.frame.specs.Judgement.{isGood}
+use Rattle.frame.specs.Wire.{judgeReply}
+use Rattle.frame.specs.declared.judgement.Judgement.{Judgement}
+use Rattle.frame.specs.declared.judgement.Judgement.the-variants.{Good}
 use Rattle.lent.specs.Lent.{same}
 use Rattle.part.specs.Rate.{modeOf}
 use Rattle.part.specs.Signature.{signature}
 use Rattle.part.specs.declared.Part.{Part}
 use Rattle.words.specs.Words.{_and_, if_then_else_}
 
--- How many bytes the frame at the front carries, "with 02h, fitting LEN, right SUM and 03h"; 0 where there is none, for a frame carries some.
-unfoldable pub carriedBy : Read → ℕ
-carriedBy (Frame at len next) = len
-carriedBy NotOne = 0
+-- Of the frames of an answer the last is the one behind which none is left.
+abbrev pub noneLeft : List ℕ → Bool
+noneLeft [] = true
+noneLeft (n ∷ ns) = false
 
-abbrev pub carried : List ℕ → ℕ
-carried bs = carriedBy (readOf bs)
-
--- ".. it is readable if it is exactly these frames": frames that carry so many bytes each, and nothing after them.
-unfoldable pub exactly : List ℕ → List ℕ → Bool
-exactly [] bs = eqb (length bs) 0
-exactly (n ∷ ns) bs = eqb (carried bs) n and exactly ns (drop (n + overhead) bs)
+-- ".. it is readable if it is exactly these frames": frames that carry so many bytes each, one behind the other, and nothing after the last. An answer that is
+-- not has the fault of "its first faulty frame".
+unfoldable pub judgeFrames : List ℕ → List ℕ → Judgement
+judgeFrames [] bs = Good
+judgeFrames (n ∷ ns) bs =
+    let front = judgeReply n (noneLeft ns) bs in
+    if isGood front then judgeFrames ns (drop (n + overhead) bs) else front
 
 -- A byte of what the first frame carries, and where what the second carries begins, after a first frame that carries so many bytes.
 abbrev pub inFirst : ℕ → List ℕ → ℕ
@@ -47,8 +49,11 @@ shape WithSignature s t = if eqb s 0x06 then 1 ∷ 22 ∷ [] else 1 ∷ []
 shape OfPage s t = 2 ∷ []
 shape OfLastPage s t = if eqb s 0x06 and eqb t 0x06 then 2 ∷ 1 ∷ [] else 2 ∷ []
 
-unfoldable pub readable : Form → List ℕ → Bool
-readable f bs = exactly (shape f (inFirst 0 bs) (inFirst 1 bs)) bs
+unfoldable pub judgeAnswer : Form → List ℕ → Judgement
+judgeAnswer f bs = judgeFrames (shape f (inFirst 0 bs) (inFirst 1 bs)) bs
+
+abbrev pub readable : Form → List ℕ → Bool
+readable f bs = isGood (judgeAnswer f bs)
 
 -- How long an answer of that shape is, and how many bytes are still wanted of one that has begun, before it can be readable: a byte that has not come asks for
 -- nothing more.
@@ -87,5 +92,10 @@ matching p supply WithSignature bs = signatureMatches p bs
 matching p supply OfPage bs = true
 matching p supply OfLastPage bs = true
 
-unfoldable pub readAnswer : Part → ℕ → Form → List ℕ → Decoded
-readAnswer p supply f bs = if readable f bs then Said (deciding (statuses f bs)) (matching p supply f bs) else Garbled
+-- What it says, where it is readable, and the fault that it has where it is not.
+unfoldable pub readAnswer : Part → ℕ → Form → List ℕ → JudgedAnswer
+readAnswer p supply f bs =
+    record {
+      decoded = if readable f bs then Said (deciding (statuses f bs)) (matching p supply f bs) else Garbled;
+      fault = judgeAnswer f bs;
+    }

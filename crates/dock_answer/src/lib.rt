@@ -1,12 +1,12 @@
-// The answer to one frame, handed in at once: whether it is readable, and what it says. Document 01, "The dock's flow".
+// The answer to one frame, handed in at once: whether it is readable, what it says, and which fault it has. Document 01, "The dock's flow"; document 02, §4.
 ghost use mathlib.Core.Path.{_≡_};
 ghost use mathlib.Core.List.{[], _∷_};
 ghost use Prim.Native.Nat.{_≤_};
 ghost use lib.ListN.{drop};
-ghost use Rattle.dock_answer.specs.Answer.{carried, exactly, readable, long, shape, wanted};
+ghost use Rattle.dock_answer.specs.Answer.{judgeAnswer, judgeFrames, long, shape, wanted};
 ghost use Rattle.dock_answer.specs.Answer.{deciding, statuses, rateMatches, signatureMatches, matching, readAnswer};
+use frame::judgement::Judgement;
 use frame::wire;
-use frame::wire::Read;
 use part::Part;
 
 // Places in an answer: the first three bytes that its first frame carries, and the first that its second does, after a first frame of one byte or of two.
@@ -36,6 +36,13 @@ pub enum Decoded {
     Garbled,
 }
 
+// An answer that was judged: what it says, and its fault, or Good. The fault stands beside what is decoded and not in it: the else of a `let .. else` binds
+// nothing.
+pub struct JudgedAnswer {
+    pub decoded: Decoded,
+    pub fault: Judgement,
+}
+
 // What follows the first n bytes; nothing where there are no more.
 fn after(bytes: &[u8], n: usize) -> &[u8]
     ensures { λ r. ⌜ now r ≡ drop n (now (bytes .entry)) ⌝ }
@@ -47,63 +54,49 @@ fn after(bytes: &[u8], n: usize) -> &[u8]
     &bytes[n..len]
 }
 
-fn carried(bytes: &[u8]) -> usize
-    ensures { λ r. ⌜ r ≡ carried (now (bytes .entry)) ⌝ }
+fn judge_one(bytes: &[u8], n: usize) -> Judgement
+    ensures { λ r. ⌜ r ≡ judgeFrames (n ∷ []) (now (bytes .entry)) ⌝ }
 {
-    let front = wire::read_data(bytes);
-    let Read::Frame { at, len, next } = front else {
-        return 0;
-    };
-    len
+    wire::judge_reply(bytes, n, true)
 }
 
-fn is_one(bytes: &[u8], n: usize) -> bool
+fn judge_two(bytes: &[u8], n: usize, m: usize) -> Judgement
     requires { ⌜ n ≤ 256 ⌝ }
-    ensures { λ r. ⌜ r ≡ exactly (n ∷ []) (now (bytes .entry)) ⌝ }
+    ensures { λ r. ⌜ r ≡ judgeFrames (n ∷ m ∷ []) (now (bytes .entry)) ⌝ }
 {
-    if carried(bytes) == n {
-        let rest = after(bytes, n + frame::OVERHEAD);
-        return rest.len() == 0;
+    let front = wire::judge_reply(bytes, n, false);
+    if front.is_good() {
+        return judge_one(after(bytes, n + frame::OVERHEAD), m);
     }
-    false
+    front
 }
 
-fn is_two(bytes: &[u8], n: usize, m: usize) -> bool
-    requires { ⌜ (n ≤ 256) × (m ≤ 256) ⌝ }
-    ensures { λ r. ⌜ r ≡ exactly (n ∷ m ∷ []) (now (bytes .entry)) ⌝ }
-{
-    if carried(bytes) == n {
-        return is_one(after(bytes, n + frame::OVERHEAD), m);
-    }
-    false
-}
-
-fn is_readable(form: Form, bytes: &[u8]) -> bool
-    ensures { λ r. ⌜ r ≡ readable form (now (bytes .entry)) ⌝ }
+fn judge_answer(form: Form, bytes: &[u8]) -> Judgement
+    ensures { λ r. ⌜ r ≡ judgeAnswer form (now (bytes .entry)) ⌝ }
 {
     match form {
-        Form::OneStatus => is_one(bytes, 1),
+        Form::OneStatus => judge_one(bytes, 1),
         Form::WithRate => {
             if lent::byte_at(bytes, FIRST) == 0x06 {
-                return is_one(bytes, 3);
+                return judge_one(bytes, 3);
             }
-            is_one(bytes, 1)
+            judge_one(bytes, 1)
         }
         Form::WithSignature => {
             if lent::byte_at(bytes, FIRST) == 0x06 {
-                return is_two(bytes, 1, 22);
+                return judge_two(bytes, 1, 22);
             }
-            is_one(bytes, 1)
+            judge_one(bytes, 1)
         }
-        Form::OfPage => is_one(bytes, 2),
+        Form::OfPage => judge_one(bytes, 2),
         Form::OfLastPage => {
             if lent::byte_at(bytes, FIRST) == 0x06 {
                 if lent::byte_at(bytes, SECOND) == 0x06 {
-                    return is_two(bytes, 2, 1);
+                    return judge_two(bytes, 2, 1);
                 }
-                return is_one(bytes, 2);
+                return judge_one(bytes, 2);
             }
-            is_one(bytes, 2)
+            judge_one(bytes, 2)
         }
     }
 }
@@ -212,15 +205,20 @@ fn is_matching(part: Part, supply: u32, form: Form, bytes: &[u8]) -> bool
     }
 }
 
-pub fn read(part: Part, supply: u32, form: Form, bytes: &[u8]) -> Decoded
+pub fn read(part: Part, supply: u32, form: Form, bytes: &[u8]) -> JudgedAnswer
     ensures { λ r. ⌜ r ≡ readAnswer part supply form (now (bytes .entry)) ⌝ }
 {
-    if is_readable(form, bytes) {
+    let fault = judge_answer(form, bytes);
+    if fault.is_good() {
         let status = status_of(form, bytes);
-        return Decoded::Said {
-            status,
-            matches: is_matching(part, supply, form, bytes),
+        let matches = is_matching(part, supply, form, bytes);
+        return JudgedAnswer {
+            decoded: Decoded::Said { status, matches },
+            fault,
         };
     }
-    Decoded::Garbled
+    JudgedAnswer {
+        decoded: Decoded::Garbled,
+        fault,
+    }
 }

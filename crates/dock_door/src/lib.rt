@@ -1,4 +1,4 @@
-// The dock's calls for C and Rust. Each takes a part as 19 bytes, a job as 11 and the image, and a dock's state as 23 lent bytes, and answers a refusal number, 0
+// The dock's calls for C and Rust. Each takes a part as 19 bytes, a job as 11 and the image, and a dock's state as 26 lent bytes, and answers a refusal number, 0
 // where it was not refused; what else it tells goes into lent numbers. Document 01, "The dock's flow" and "Refusal numbers".
 ghost use mathlib.Core.Path.{_≡_};
 ghost use Rattle.dock_flow.specs.Flow.{answered, silence};
@@ -75,7 +75,7 @@ fn figures_of(report: Report) -> Figures
 }
 
 // What hearing left, into the lent state and numbers, where it was not refused.
-fn tell(s: Stepped, state: &mut [u8; 23], told: &mut [u64; 3]) -> u32
+fn tell(s: Stepped, state: &mut [u8; 26], told: &mut [u64; 3]) -> u32
     ensures { λ r. ⌜ hearTold r (now (told .exit)) (now (state .exit)) ≡ heardBy s (now (told .entry)) (now (state .entry)) ⌝ }
 {
     let report = s.report;
@@ -105,7 +105,7 @@ fn hear_of(job: Job, image: &[u8], dock: Dock, came: bool, answer: &[u8]) -> Ste
 fn hear(
     job: Job,
     image: &[u8],
-    state: &mut [u8; 23],
+    state: &mut [u8; 26],
     came: bool,
     answer: &[u8],
     told: &mut [u64; 3],
@@ -126,7 +126,7 @@ pub extern "C" fn zc_start(
     part: &[u8; 19],
     job: &[u8; 11],
     image: &[u8],
-    state: &mut [u8; 23],
+    state: &mut [u8; 26],
 ) -> u32
     ensures { λ r. ⌜ startTold r (now (state .exit))
         ≡ startThrough (jobIn (now (part .entry)) (now (job .entry))) (now (image .entry)) (now (state .entry)) ⌝ }
@@ -147,7 +147,7 @@ pub extern "C" fn zc_ask(
     part: &[u8; 19],
     job: &[u8; 11],
     image: &[u8],
-    state: &mut [u8; 23],
+    state: &mut [u8; 26],
     room: &mut [u8],
     told: &mut [u64; 1],
 ) -> u32
@@ -175,7 +175,7 @@ pub extern "C" fn zc_answer(
     part: &[u8; 19],
     job: &[u8; 11],
     image: &[u8],
-    state: &mut [u8; 23],
+    state: &mut [u8; 26],
     answer: &[u8],
     told: &mut [u64; 3],
 ) -> u32
@@ -191,7 +191,7 @@ pub extern "C" fn zc_timeout(
     part: &[u8; 19],
     job: &[u8; 11],
     image: &[u8],
-    state: &mut [u8; 23],
+    state: &mut [u8; 26],
     told: &mut [u64; 3],
 ) -> u32
     ensures { λ r. ⌜ hearTold r (now (told .exit)) (now (state .exit))
@@ -213,7 +213,7 @@ pub extern "C" fn zc_wants(
     part: &[u8; 19],
     job: &[u8; 11],
     image: &[u8],
-    state: &[u8; 23],
+    state: &[u8; 26],
     answer: &[u8],
 ) -> usize
     ensures { λ r. ⌜ r ≡ wantsThrough (jobIn (now (part .entry)) (now (job .entry))) (now (image .entry)) (now (state .entry)) (now (answer .entry)) ⌝ }

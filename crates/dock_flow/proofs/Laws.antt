@@ -17,6 +17,8 @@ use Rattle.dock_job.specs.declared.Cause.the-variants.{UnexpectedStatus}
 use Rattle.dock_job.specs.declared.Job.{Job}
 use Rattle.dock_job.specs.declared.Stage.{Stage}
 use Rattle.dock_job.specs.declared.Work.the-variants.{Blank}
+use Rattle.frame.specs.declared.judgement.Judgement.{Judgement}
+use Rattle.frame.specs.declared.judgement.Judgement.the-variants.{Good}
 use Rattle.part.proofs.Laws.{pages-small}
 use Rattle.words.proofs.Laws.{if-both}
 use Rattle.words.specs.Words.{_or_, if_then_else_}
@@ -40,7 +42,7 @@ retried-within : (j : Job) (used : ℕ) (st : Stage) (s : ℕ) → used ≤ j .r
 unfolding retried if_then_else_
 retried-within j used st s h = go (ltb used (j .retries)) refl
   where
-    go : (t : Bool) → ltb used (j .retries) ≡ t → Within j used (if t then leads (inBlock Blank st) 1 else fails j UnexpectedStatus s st)
+    go : (t : Bool) → ltb used (j .retries) ≡ t → Within j used (if t then leads (inBlock Blank st) 1 else fails j UnexpectedStatus s Good st)
     go true e = record { allowed = omega (arith, ltb-true used (j .retries) e) }
     go false e = within-none j used _ h
 
@@ -51,14 +53,16 @@ status-within j used st s m h =
     (if-both (Within j used) (saysNotBlank j st s) (within-none j used _ h)
     (if-both (Within j used) (eqb s 0x07 or eqb s 0x15) (retried-within j used st s h) (within-none j used _ h)))
 
-pub answer-within : (j : Job) (used : ℕ) (st : Stage) (d : Decoded) → used ≤ j .retries → Within j used (afterAnswer j used st d)
+pub answer-within : (j : Job) (used : ℕ) (st : Stage) (d : Decoded) (fault : Judgement) → used ≤ j .retries → Within j used (afterAnswer j used st d fault)
 unfolding afterAnswer
-answer-within j used st (Said s m) h = status-within j used st s m h
-answer-within j used st Garbled h = within-none j used _ h
+answer-within j used st (Said s m) fault h = status-within j used st s m h
+answer-within j used st Garbled fault h = within-none j used _ h
 
 pub heard-within : (j : Job) (used : ℕ) (st : Stage) (h : Heard) → used ≤ j .retries → Within j used (afterHeard j used st h)
 unfolding afterHeard
-heard-within j used st (answered bs) l = answer-within j used st (readAnswer (j .part) (j .supply) (queryAt j st .form) bs) l
+heard-within j used st (answered bs) l =
+    let a = readAnswer (j .part) (j .supply) (queryAt j st .form) bs in
+    answer-within j used st (a .decoded) (a .fault) l
 heard-within j used st silence l = within-none j used _ l
 
 pub heard-silence : (j : Job) (used : ℕ) (st : Stage) → afterHeard j used st silence ≡ afterTimeout j st

@@ -1,5 +1,5 @@
 -- Document 01, "The dock's flow": which answer follows which frame and what it leads to; and from a job, its image and the history of answers the frames
--- sent, the retries spent and the place.
+-- sent, the retries spent and the place. Which fault a failure names: document 02, §4.
 use mathlib.Core.Bool.{Bool}
 use mathlib.Core.List.{List, [], _∷_}
 use Prim.Native.Nat.{_+_, ℕ}
@@ -22,6 +22,8 @@ use Rattle.dock_job.specs.declared.Stage.{Stage}
 use Rattle.dock_job.specs.declared.Stage.the-variants.{InBlock, Over, SetUp}
 use Rattle.dock_job.specs.declared.Work.{Work}
 use Rattle.dock_job.specs.declared.Work.the-variants.{Blank, Erase, Program, ProgramPage, VerifyBlock, VerifyPage}
+use Rattle.frame.specs.declared.judgement.Judgement.{Judgement}
+use Rattle.frame.specs.declared.judgement.Judgement.the-variants.{Good}
 use Rattle.words.specs.Words.{_and_, _or_, if_then_else_}
 
 -- "Then per block, ascending": the first block that is left from k on, or the end.
@@ -70,32 +72,32 @@ inBlock w (Over e) = Over e
 abbrev pub leads : Stage → ℕ → Turned
 leads st n = record { stage = st; spent = n }
 
--- "naming cause .., frame (command, and page if one), status and block, or none in setup"
-abbrev pub failing : Cause → ℕ → Query → Failure
-failing c s q = record { cause = c; command = comOf (q .command); page = q .page; status = s; block = q .block }
+-- "naming cause .., frame (command, and page if one), status and block, or none in setup"; and "the fault of an unreadable reply" (document 02, §4).
+abbrev pub failing : Cause → ℕ → Judgement → Query → Failure
+failing c s fault q = record { cause = c; command = comOf (q .command); page = q .page; status = s; block = q .block; fault = fault }
 
-abbrev pub fails : Job → Cause → ℕ → Stage → Turned
-fails j c s st = leads (Over (Failed (failing c s (queryAt j st)))) 0
+abbrev pub fails : Job → Cause → ℕ → Judgement → Stage → Turned
+fails j c s fault st = leads (Over (Failed (failing c s fault (queryAt j st)))) 0
 
 -- "A status 07h or 15h spends one retry and restarts the block (or the setup command) ..; with none left the job fails."
 unfoldable pub retried : Job → ℕ → Stage → ℕ → Turned
-retried j used st s = if ltb used (j .retries) then leads (inBlock Blank st) 1 else fails j UnexpectedStatus s st
+retried j used st s = if ltb used (j .retries) then leads (inBlock Blank st) 1 else fails j UnexpectedStatus s Good st
 
 -- "Any other unexpected status .. fails it, as a mismatch does"; the status named is "06h for a mismatch".
 unfoldable pub afterStatus : Job → ℕ → Stage → ℕ → Bool → Turned
 afterStatus j used st s matches =
-    if eqb s 0x06 then (if matches then leads (next j st) 0 else fails j Mismatch 0x06 st)
+    if eqb s 0x06 then (if matches then leads (next j st) 0 else fails j Mismatch 0x06 Good st)
     else if saysNotBlank j st s then leads (inBlock Erase st) 0
     else if eqb s 0x07 or eqb s 0x15 then retried j used st s
-    else fails j UnexpectedStatus s st
+    else fails j UnexpectedStatus s Good st
 
--- "an unreadable reply or a reported timeout fails it": "00h if unreadable or timed out"
-unfoldable pub afterAnswer : Job → ℕ → Stage → Decoded → Turned
-afterAnswer j used st (Said s matches) = afterStatus j used st s matches
-afterAnswer j used st Garbled = fails j Unreadable 0x00 st
+-- "an unreadable reply or a reported timeout fails it": "00h if unreadable or timed out". The fault of what was decoded stands beside it.
+unfoldable pub afterAnswer : Job → ℕ → Stage → Decoded → Judgement → Turned
+afterAnswer j used st (Said s matches) fault = afterStatus j used st s matches
+afterAnswer j used st Garbled fault = fails j Unreadable 0x00 fault st
 
 abbrev pub afterTimeout : Job → Stage → Turned
-afterTimeout j st = fails j TimedOut 0x00 st
+afterTimeout j st = fails j TimedOut 0x00 Good st
 
 -- How many bytes are still wanted of the answer to the frame of a stage, before it can be readable.
 unfoldable pub wantedAt : Job → Stage → List ℕ → ℕ
@@ -107,7 +109,7 @@ pub data Heard : Type 0 where
   silence : Heard
 
 unfoldable pub afterHeard : Job → ℕ → Stage → Heard → Turned
-afterHeard j used st (answered bs) = afterAnswer j used st (readAnswer (j .part) (j .supply) (queryAt j st .form) bs)
+afterHeard j used st (answered bs) = let a = readAnswer (j .part) (j .supply) (queryAt j st .form) bs in afterAnswer j used st (a .decoded) (a .fault)
 afterHeard j used st silence = afterTimeout j st
 
 -- One frame and what came after it: the frame, and the retries that were spent on it.

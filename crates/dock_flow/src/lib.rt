@@ -11,6 +11,7 @@ use dock_job::Job;
 use dock_job::Setup;
 use dock_job::Stage;
 use dock_job::Work;
+use frame::judgement::Judgement;
 
 pub mod frames;
 
@@ -125,8 +126,8 @@ fn in_block(to: Work, stage: Stage) -> Stage
 }
 
 // The end of a job that fails at the frame of this stage.
-fn fails(job: Job, cause: Cause, status: u8, stage: Stage) -> Turned
-    ensures { λ r. ⌜ r ≡ fails job cause status stage ⌝ }
+fn fails(job: Job, cause: Cause, status: u8, fault: Judgement, stage: Stage) -> Turned
+    ensures { λ r. ⌜ r ≡ fails job cause status fault stage ⌝ }
 {
     let query = frames::query_with(0, 0, job, stage);
     let command = query.command;
@@ -138,6 +139,7 @@ fn fails(job: Job, cause: Cause, status: u8, stage: Stage) -> Turned
         page,
         status,
         block,
+        fault,
     };
     Turned {
         stage: Stage::Over(Ending::Failed(failure)),
@@ -155,7 +157,7 @@ fn retried(job: Job, used: u32, stage: Stage, status: u8) -> Turned
             spent: 1,
         };
     }
-    fails(job, Cause::UnexpectedStatus, status, stage)
+    fails(job, Cause::UnexpectedStatus, status, Judgement::Good, stage)
 }
 
 fn after_status(job: Job, used: u32, stage: Stage, status: u8, matches: bool) -> Turned
@@ -169,7 +171,7 @@ fn after_status(job: Job, used: u32, stage: Stage, status: u8, matches: bool) ->
                 spent: 0,
             };
         }
-        return fails(job, Cause::Mismatch, 0x06, stage);
+        return fails(job, Cause::Mismatch, 0x06, Judgement::Good, stage);
     }
     if says_not_blank(job, stage, status) {
         let erase = in_block(Work::Erase, stage);
@@ -184,15 +186,15 @@ fn after_status(job: Job, used: u32, stage: Stage, status: u8, matches: bool) ->
     if status == 0x15 {
         return retried(job, used, stage, status);
     }
-    fails(job, Cause::UnexpectedStatus, status, stage)
+    fails(job, Cause::UnexpectedStatus, status, Judgement::Good, stage)
 }
 
-// The decoded reply is taken apart; the other case ends the job with frame and status.
-fn after_reading(job: Job, used: u32, stage: Stage, decoded: Decoded) -> Turned
-    ensures { λ r. ⌜ r ≡ afterAnswer job used stage decoded ⌝ }
+// The decoded reply is taken apart; the other case ends the job with frame, status and fault.
+fn after_reading(job: Job, used: u32, stage: Stage, decoded: Decoded, fault: Judgement) -> Turned
+    ensures { λ r. ⌜ r ≡ afterAnswer job used stage decoded fault ⌝ }
 {
     let Decoded::Said { status, matches } = decoded else {
-        return fails(job, Cause::Unreadable, 0x00, stage);
+        return fails(job, Cause::Unreadable, 0x00, fault, stage);
     };
     after_status(job, used, stage, status, matches)
 }
@@ -204,14 +206,16 @@ pub fn after_answer(job: Job, used: u32, stage: Stage, bytes: &[u8]) -> Turned
     let query = frames::query_with(0, 0, job, stage);
     let part = job.part;
     let form = query.form;
-    let decoded = dock_answer::read(part, job.supply, form, bytes);
-    after_reading(job, used, stage, decoded)
+    let answer = dock_answer::read(part, job.supply, form, bytes);
+    let decoded = answer.decoded;
+    let fault = answer.fault;
+    after_reading(job, used, stage, decoded, fault)
 }
 
 pub fn after_timeout(job: Job, stage: Stage) -> Turned
     ensures { λ r. ⌜ r ≡ afterTimeout job stage ⌝ }
 {
-    fails(job, Cause::TimedOut, 0x00, stage)
+    fails(job, Cause::TimedOut, 0x00, Judgement::Good, stage)
 }
 
 // How many bytes are still wanted of the answer to the frame of a stage.

@@ -2,6 +2,7 @@
 ghost use mathlib.Core.Path.{_≡_};
 ghost use Rattle.part.specs.Part.{rangeOf};
 ghost use Rattle.dock_job.specs.Job.{areaOf, blocksOf, sizeOf, pagesOf, rangeLength, bound, isOver};
+use frame::judgement::Judgement;
 use part::Area;
 use part::Part;
 use part::Range;
@@ -39,13 +40,14 @@ pub enum Named {
     Unnamed,
 }
 
-// A failure names its cause, the frame (its command, and its page if it is one), the status and the block.
+// A failure names its cause, the frame (its command, and its page if it is one), the status and the block; and the fault of an unreadable reply, else Good.
 pub struct Failure {
     pub cause: Cause,
     pub command: u8,
     pub page: Named,
     pub status: u8,
     pub block: Named,
+    pub fault: Judgement,
 }
 
 pub enum Ending {

@@ -1,4 +1,4 @@
--- How a dock's state crosses the door as bytes: one layout of 23 bytes. Numbers cross as the crate `numbers` says.
+-- How a dock's state crosses the door as bytes: one layout of 26 bytes. Numbers cross as the crate `numbers` says.
 use mathlib.Core.Bool.{Bool}
 use mathlib.Core.List.{List, [], _++_, _∷_}
 use Prim.Native.Nat.{ℕ}
@@ -18,6 +18,10 @@ use Rattle.dock_job.specs.declared.Stage.{Stage}
 use Rattle.dock_job.specs.declared.Stage.the-variants.{InBlock, Over, SetUp}
 use Rattle.dock_job.specs.declared.Work.{Work}
 use Rattle.dock_job.specs.declared.Work.the-variants.{Blank, Erase, Program, ProgramPage, VerifyBlock, VerifyPage}
+use Rattle.frame.specs.Judgement.{fault, faultOf}
+use Rattle.frame.specs.declared.judgement.Fault.{Fault}
+use Rattle.frame.specs.declared.judgement.Judgement.{Judgement}
+use Rattle.frame.specs.declared.judgement.Judgement.the-variants.{Good, UnfitLength, WrongFirst, WrongFooter, WrongSum}
 use Rattle.numbers.specs.Numbers.{bit, lowFirst, numberAt}
 use Rattle.lent.specs.Lent.{same}
 use Rattle.words.specs.Words.{if_then_else_}
@@ -32,13 +36,23 @@ causeNumber TimedOut = 4
 unfoldable pub causeIn : ℕ → Cause
 causeIn n = if eqb n 1 then UnexpectedStatus else if eqb n 2 then Mismatch else if eqb n 3 then Unreadable else TimedOut
 
--- A stage in numbers: which it is, 1 to 11 in the flow's order; the block and the page that it names; of a failure the cause, the command and the status,
--- else 0.
-abbrev pub flat : ℕ → Named → Named → ℕ → ℕ → ℕ → Flat
-flat n block page cause cmd status = record { stage = n; block = block; page = page; cause = cause; command = cmd; status = status }
+-- The judgement that a fault's number and its place are of; what is no fault is read as none.
+unfoldable pub judgementIn : ℕ → ℕ → Judgement
+judgementIn n at =
+    if eqb n 1 then WrongFooter at
+    else if eqb n 2 then WrongSum at
+    else if eqb n 3 then UnfitLength
+    else if eqb n 4 then WrongFirst
+    else Good
+
+-- A stage in numbers: which it is, 1 to 11 in the flow's order; the block and the page that it names; of a failure the cause, the command, the status and the
+-- fault, else 0.
+abbrev pub flat : ℕ → Named → Named → ℕ → ℕ → ℕ → Fault → Flat
+flat n block page cause cmd status fault =
+    record { stage = n; block = block; page = page; cause = cause; command = cmd; status = status; fault = fault }
 
 abbrev pub plain : ℕ → Named → Named → Flat
-plain n block page = flat n block page 0 0x00 0x00
+plain n block page = flat n block page 0 0x00 0x00 (fault 0 0)
 
 abbrev pub setupNumber : Setup → ℕ
 setupNumber BaudRate = 1
@@ -55,7 +69,7 @@ flatWork k (VerifyPage p) = plain 9 (It k) (It p)
 
 unfoldable pub flatEnding : Ending → Flat
 flatEnding Finished = plain 10 Unnamed Unnamed
-flatEnding (Failed f) = flat 11 (f .block) (f .page) (causeNumber (f .cause)) (f .command) (f .status)
+flatEnding (Failed f) = flat 11 (f .block) (f .page) (causeNumber (f .cause)) (f .command) (f .status) (faultOf (f .fault))
 
 unfoldable pub flatOf : Stage → Flat
 flatOf (SetUp s) = plain (setupNumber s) Unnamed Unnamed
@@ -72,7 +86,8 @@ named (It n) = n
 named Unnamed = 0
 
 -- Byte 0 the stage, 1 whether its answer is awaited; retries and frames used (from 2 and 6 on, four bytes each); the block (10, and four bytes from 11 on)
--- and the page (15, and four from 16 on); of a failure the cause (20), the command (21) and the status (22).
+-- and the page (15, and four from 16 on); of a failure the cause (20), the command (21), the status (22) and the fault: its number (23), and its place (two
+-- bytes from 24 on).
 unfoldable pub bytesWith : Flat → ℕ → ℕ → ℕ → List ℕ
 bytesWith f awaited retries frames =
     f .stage
@@ -86,7 +101,8 @@ bytesWith f awaited retries frames =
     ++ f .cause
     ∷ f .command
     ∷ f .status
-    ∷ []
+    ∷ f .fault .number
+    ∷ lowFirst 2 (f .fault .place)
 
 unfoldable pub dockBytes : Dock → List ℕ
 dockBytes d = bytesWith (flatOf (d .stage)) (bit (d .awaited)) (d .retries) (d .frames)
@@ -95,9 +111,13 @@ dockBytes d = bytesWith (flatOf (d .stage)) (bit (d .awaited)) (d .retries) (d .
 unfoldable pub namedIn : ℕ → ℕ → Named
 namedIn given n = if eqb given 1 then It n else Unnamed
 
+unfoldable pub faultAt : List ℕ → Fault
+faultAt bs = fault (getD bs 23 0) (numberAt 2 24 bs)
+
 unfoldable pub flatIn : List ℕ → Flat
 flatIn bs =
     flat (getD bs 0 0) (namedIn (getD bs 10 0) (numberAt 4 11 bs)) (namedIn (getD bs 15 0) (numberAt 4 16 bs)) (getD bs 20 0) (getD bs 21 0) (getD bs 22 0)
+    (faultAt bs)
 
 unfoldable pub setupIn : ℕ → Setup
 setupIn n = if eqb n 1 then BaudRate else if eqb n 2 then ResetChip else SiliconSignature
@@ -114,7 +134,15 @@ workIn n page =
 unfoldable pub endingIn : Flat → Ending
 endingIn f =
     if eqb (f .stage) 10 then Finished
-    else Failed (record { cause = causeIn (f .cause); command = f .command; page = f .page; status = f .status; block = f .block })
+    else Failed
+    (record {
+      cause = causeIn (f .cause);
+      command = f .command;
+      page = f .page;
+      status = f .status;
+      block = f .block;
+      fault = judgementIn (f .fault .number) (f .fault .place);
+    })
 
 unfoldable pub stageIn : Flat → Stage
 stageIn f =

@@ -1,7 +1,7 @@
 // How a dock's state crosses the door as bytes: one layout, read and written here alone. A job's stands in `job`.
 ghost use mathlib.Core.Path.{_≡_};
 ghost use Rattle.lent.specs.Lent.{same};
-ghost use Rattle.dock_layout.specs.Layout.{bytesWith, causeIn, causeNumber, dockBytes, dockIn, endingIn};
+ghost use Rattle.dock_layout.specs.Layout.{bytesWith, causeIn, causeNumber, dockBytes, dockIn, endingIn, faultAt, judgementIn};
 ghost use Rattle.dock_layout.specs.Layout.{flatEnding, flatIn, flatOf, flatWork, isDock, isNamed, named, namedIn, plain, setupIn, setupNumber};
 ghost use Rattle.dock_layout.specs.Layout.{stageIn, workIn};
 use dock_job::Cause;
@@ -12,10 +12,12 @@ use dock_job::Named;
 use dock_job::Setup;
 use dock_job::Stage;
 use dock_job::Work;
+use frame::judgement::Fault;
+use frame::judgement::Judgement;
 
 pub mod job;
 
-// A stage in numbers: which it is, the block and the page that it names, and of a failure the cause, the command and the status.
+// A stage in numbers: which it is, the block and the page that it names, and of a failure the cause, the command, the status and the fault.
 pub struct Flat {
     pub stage: u8,
     pub block: Named,
@@ -23,6 +25,7 @@ pub struct Flat {
     pub cause: u8,
     pub command: u8,
     pub status: u8,
+    pub fault: Fault,
 }
 
 fn cause_number(cause: Cause) -> u8
@@ -51,6 +54,24 @@ fn cause_in(n: u8) -> Cause
     Cause::TimedOut
 }
 
+fn judgement_in(n: u8, at: u16) -> Judgement
+    ensures { λ r. ⌜ r ≡ judgementIn n at ⌝ }
+{
+    if n == 1 {
+        return Judgement::WrongFooter(at);
+    }
+    if n == 2 {
+        return Judgement::WrongSum(at);
+    }
+    if n == 3 {
+        return Judgement::UnfitLength;
+    }
+    if n == 4 {
+        return Judgement::WrongFirst;
+    }
+    Judgement::Good
+}
+
 fn setup_number(setup: Setup) -> u8
     ensures { λ r. ⌜ r ≡ setupNumber setup ⌝ }
 {
@@ -71,6 +92,10 @@ fn plain(stage: u8, block: Named, page: Named) -> Flat
         cause: 0,
         command: 0x00,
         status: 0x00,
+        fault: Fault {
+            number: 0,
+            place: 0,
+        },
     }
 }
 
@@ -96,6 +121,7 @@ fn flat_ending(ending: Ending) -> Flat
             let block = failure.block;
             let page = failure.page;
             let cause = failure.cause;
+            let fault = failure.fault;
             Flat {
                 stage: 11,
                 block,
@@ -103,6 +129,7 @@ fn flat_ending(ending: Ending) -> Flat
                 cause: cause_number(cause),
                 command: failure.command,
                 status: failure.status,
+                fault: fault.fault(),
             }
         }
     }
@@ -136,7 +163,7 @@ fn named(given: Named) -> u32
     }
 }
 
-fn bytes_with(flat: Flat, awaited: u8, retries: u32, frames: u32) -> [u8; 23]
+fn bytes_with(flat: Flat, awaited: u8, retries: u32, frames: u32) -> [u8; 26]
     ensures { λ r. ⌜ r ≡ bytesWith flat awaited retries frames ⌝ }
 {
     let r = numbers::low4(retries);
@@ -145,6 +172,8 @@ fn bytes_with(flat: Flat, awaited: u8, retries: u32, frames: u32) -> [u8; 23]
     let b = numbers::low4(named(block));
     let page = flat.page;
     let p = numbers::low4(named(page));
+    let fault = flat.fault;
+    let place = numbers::low2(fault.place);
     [
         flat.stage,
         awaited,
@@ -169,10 +198,13 @@ fn bytes_with(flat: Flat, awaited: u8, retries: u32, frames: u32) -> [u8; 23]
         flat.cause,
         flat.command,
         flat.status,
+        fault.number,
+        place[0],
+        place[1],
     ]
 }
 
-fn dock_bytes(dock: Dock) -> [u8; 23]
+fn dock_bytes(dock: Dock) -> [u8; 26]
     ensures { λ r. ⌜ r ≡ dockBytes dock ⌝ }
 {
     let stage = dock.stage;
@@ -193,6 +225,15 @@ fn named_in(given: u8, n: u32) -> Named
     Named::Unnamed
 }
 
+fn fault_at(state: &[u8]) -> Fault
+    ensures { λ r. ⌜ r ≡ faultAt (now (state .entry)) ⌝ }
+{
+    Fault {
+        number: lent::byte_at(state, 23),
+        place: numbers::number2(state, 24),
+    }
+}
+
 fn flat_in(state: &[u8]) -> Flat
     ensures { λ r. ⌜ r ≡ flatIn (now (state .entry)) ⌝ }
 {
@@ -203,6 +244,7 @@ fn flat_in(state: &[u8]) -> Flat
         cause: lent::byte_at(state, 20),
         command: lent::byte_at(state, 21),
         status: lent::byte_at(state, 22),
+        fault: fault_at(state),
     }
 }
 
@@ -247,12 +289,14 @@ fn ending_in(flat: Flat) -> Ending
     }
     let page = flat.page;
     let block = flat.block;
+    let fault = flat.fault;
     Ending::Failed(Failure {
         cause: cause_in(flat.cause),
         command: flat.command,
         page,
         status: flat.status,
         block,
+        fault: judgement_in(fault.number, fault.place),
     })
 }
 
@@ -273,7 +317,7 @@ fn stage_in(flat: Flat) -> Stage
     Stage::Over(ending_in(flat))
 }
 
-pub fn dock_in(state: &[u8; 23]) -> Dock
+pub fn dock_in(state: &[u8; 26]) -> Dock
     ensures { λ r. ⌜ r ≡ dockIn (now (state .entry)) ⌝ }
 {
     Dock {
@@ -299,7 +343,7 @@ fn is_laid(back: &[u8], state: &[u8]) -> bool
     true
 }
 
-pub fn is_dock(state: &[u8; 23]) -> bool
+pub fn is_dock(state: &[u8; 26]) -> bool
     ensures { λ r. ⌜ r ≡ isDock (now (state .entry)) ⌝ }
 {
     let back = dock_bytes(dock_in(state));
@@ -307,7 +351,7 @@ pub fn is_dock(state: &[u8; 23]) -> bool
 }
 
 // The dock's state into the lent bytes.
-pub fn lay_dock(dock: Dock, state: &mut [u8; 23])
+pub fn lay_dock(dock: Dock, state: &mut [u8; 26])
     ensures { λ r. ⌜ now (state .exit) ≡ dockBytes dock ⌝ }
 {
     *state = dock_bytes(dock);

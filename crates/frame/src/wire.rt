@@ -1,11 +1,11 @@
-// Frames written into lent room, and a data frame read off the front of lent bytes.
+// Frames written into lent room, and a reply frame judged at the front of lent bytes.
 ghost use mathlib.Core.Path.{_≡_};
 ghost use mathlib.Core.List.{_∷_, _++_};
 ghost use Prim.Native.Nat.{_+_, _≤_};
 ghost use lib.ListN.{length};
 ghost use Rattle.frame.specs.declared.Header.the-variants.{Command, Data};
 ghost use Rattle.frame.specs.declared.Footer.the-variants.{Last};
-ghost use Rattle.frame.specs.Wire.{wrote, writeOf, readOf, laid};
+ghost use Rattle.frame.specs.Wire.{wrote, writeOf, laid, unfitReply, judgeReply};
 use super::Footer;
 use super::Header;
 use super::judgement;
@@ -16,11 +16,6 @@ pub enum Wrote {
     Long(usize),
     UnfitPayload,
     NoRoom,
-}
-
-pub enum Read {
-    Frame { at: usize, len: usize, next: usize },
-    NotOne,
 }
 
 // A frame laid at the start of room that holds it; its payload is `lead` and then `rest`.
@@ -71,29 +66,33 @@ pub fn write_data(room: &mut [u8], payload: &[u8], footer: Footer) -> Wrote
     write(room, Header::Data, &payload[0..0], payload, footer)
 }
 
-pub fn read_data(s: &[u8]) -> Read
-    ensures { λ r. ⌜ r ≡ readOf (now (s .entry)) ⌝ }
+fn is_unfit(bytes: &[u8], n: usize, last: bool) -> bool
+    ensures { λ r. ⌜ r ≡ unfitReply n last (now (bytes .entry)) ⌝ }
 {
-    if s.len() < 2 {
-        return Read::NotOne;
+    let len = lent::byte_at(bytes, 1);
+    if super::counted(len) != n {
+        return true;
     }
-    if s[0] != Header::Data.byte() {
-        return Read::NotOne;
+    let end = super::needed(len);
+    if bytes.len() < end {
+        return true;
     }
-    let n = super::counted(s[1]);
-    let end = super::needed(s[1]);
-    if s.len() < end {
-        return Read::NotOne;
+    if last {
+        return end < bytes.len();
     }
-    let j = judgement::judge(Footer::Last, &s[0..end]);
-    match j {
-        Judgement::Good => Read::Frame {
-            at: 2,
-            len: n,
-            next: end,
-        },
-        Judgement::WrongFooter => Read::NotOne,
-        Judgement::WrongSum => Read::NotOne,
-        Judgement::UnfitLength => Read::NotOne,
+    false
+}
+
+// The reply frame at the front, given how many bytes it is expected to carry, and whether it is the last of its answer.
+pub fn judge_reply(bytes: &[u8], n: usize, last: bool) -> Judgement
+    ensures { λ r. ⌜ r ≡ judgeReply n last (now (bytes .entry)) ⌝ }
+{
+    if lent::byte_at(bytes, 0) != Header::Data.byte() {
+        return Judgement::WrongFirst;
     }
+    if is_unfit(bytes, n, last) {
+        return Judgement::UnfitLength;
+    }
+    let end = super::needed(lent::byte_at(bytes, 1));
+    judgement::judge(Footer::Last, &bytes[0..end])
 }

@@ -14,6 +14,8 @@ use Rattle.replay_capture.specs.Capture.{carriedBytes, recordOf, recordSize, si
 use Rattle.replay_capture.specs.declared.Record.{Record}
 use Rattle.replay_capture.specs.declared.Record.the-variants.{BadRecord, BytesRecord, GapRecord}
 use Rattle.chip_feed.proofs.Feeding.{feed-is, feed-next, feed-none, feed-takes, feed-within, on-refused, on-said, on-silent}
+use Rattle.frame.specs.declared.judgement.Judgement.{Judgement}
+use Rattle.frame.specs.declared.judgement.Judgement.the-variants.{Good}
 use Rattle.part.specs.Part.{Arrays}
 use Rattle.chip.proofs.Saying.{Fitting, step-fits}
 use Rattle.chip_feed.proofs.Feeding.{feed-fits}
@@ -127,13 +129,14 @@ feed-plays p n b (d ∷ bs) x a =
 pub record PlayedFrom (p : Part) (bs : List ℕ) (c : Chip) (m : Memory) (room : List ℕ) (i n k : ℕ) (whole output : List ℕ) (t : Playing) : Type 0 where
   pub bytes : ℕ
   pub frames : ℕ
+  pub fault : Judgement
   pub said : List ℕ
   pub stands : Written said whole output
   pub long : n ≡ length said
   pub within : i ≤ length bs
   pub short : n ≤ 31 * i
   pub few : k ≤ 2 * i
-  pub rest : played p (map Byte (drop i bs)) (record { left = record { answer = Replied bytes frames; chip = c; memory = m; room = room }; said = said; frames = k }) ≡ t
+  pub rest : played p (map Byte (drop i bs)) (record { left = record { answer = Replied bytes frames; fault = fault; chip = c; memory = m; room = room }; said = said; frames = k }) ≡ t
 
 pub played-start : (p : Part) (bs : List ℕ) (c : Chip) (m : Memory) (room output : List ℕ)
     → PlayedFrom p bs c m room 0 0 0 output output (played p (map Byte bs) (beforePlaying c m room))
@@ -141,6 +144,7 @@ played-start p bs c m room output =
     record {
       bytes = 0;
       frames = 0;
+      fault = Good;
       said = [];
       stands = written-start output;
       long = refl;
@@ -153,9 +157,9 @@ played-start p bs c m room output =
 -- What the feeding of the bytes not yet taken makes of what was played.
 fed-plays : {p : Part} {bs : List ℕ} {c : Chip} {m : Memory} {room : List ℕ} {i n k : ℕ} {whole output : List ℕ} {t : Playing} (f : Feeding) (q : PlayedFrom p bs c m room i n k whole output t)
     → Arrays p → f ≡ feedOf p (take (length bs - i) (drop i bs)) (before c m room) → i < length bs
-    → goesFrom p 0 (drop i bs) f (record { left = record { answer = Replied (q .bytes) (q .frames); chip = c; memory = m; room = room }; said = q .said; frames = k }) ≡ t
+    → goesFrom p 0 (drop i bs) f (record { left = record { answer = Replied (q .bytes) (q .frames); fault = q .fault; chip = c; memory = m; room = room }; said = q .said; frames = k }) ≡ t
 fed-plays {p} {bs} {c} {m} {room} {i} {n} {k} {whole} {output} {t} f q a e h =
-    let x : Playing = record { left = record { answer = Replied (q .bytes) (q .frames); chip = c; memory = m; room = room }; said = q .said; frames = k } in
+    let x : Playing = record { left = record { answer = Replied (q .bytes) (q .frames); fault = q .fault; chip = c; memory = m; room = room }; said = q .said; frames = k } in
     let d : drop i bs ≡ getD bs i 0 ∷ drop (suc i) bs = drop-cons bs i 0 h in
     let w : take (length bs - i) (drop i bs) ≡ drop i bs = take-all (length bs - i) (drop i bs) (rw length-drop (omega arith)) in
     let g : f ≡ feedFrom p 0 (getD bs i 0 ∷ drop (suc i) bs) (before c m room) = e ∙ feed-is p _ _ ∙ ap (λ (l : List ℕ). feedFrom p 0 l (before c m room)) (w ∙ d) in
@@ -190,7 +194,7 @@ pub played-refused : {p : Part} {bs : List ℕ} {c : Chip} {m : Memory} {room : 
     → recordPlaying (record { ended = RecordEnded.Refused r; chip = f .left .chip }) (f .left .memory) (f .left .room) output ≡ playedInto t whole
 unfolding playedInto endedBy answering
 played-refused {p} {bs} {c} {m} {room} {i} {n} {k} {whole} {output} {t} {r} f q a e h z =
-    let x : Playing = record { left = record { answer = Replied (q .bytes) (q .frames); chip = c; memory = m; room = room }; said = q .said; frames = k } in
+    let x : Playing = record { left = record { answer = Replied (q .bytes) (q .frames); fault = q .fault; chip = c; memory = m; room = room }; said = q .said; frames = k } in
     let y : Playing = record { left = f .left; said = q .said; frames = k } in
     let g : y ≡ t =
     sym (ap (λ (v : Answer). answering v (f .left) x) z)
@@ -206,7 +210,7 @@ pub played-turn : {p : Part} {bs : List ℕ} {c : Chip} {m : Memory} {room : Lis
     → PlayedFrom p bs (f .left .chip) (f .left .memory) (f .left .room) (i + f .taken) (n + j) (k + l) whole output′ t
 unfolding answering
 played-turn {p} {bs} {c} {m} {room} {i} {n} {k} {whole} {output} {output′} {t} {j} {l} {s} f q a e h z six w u =
-    let x : Playing = record { left = record { answer = Replied (q .bytes) (q .frames); chip = c; memory = m; room = room }; said = q .said; frames = k } in
+    let x : Playing = record { left = record { answer = Replied (q .bytes) (q .frames); fault = q .fault; chip = c; memory = m; room = room }; said = q .said; frames = k } in
     let fit : Fitting (f .left .answer) (length (f .left .room)) = rw e (feed-fits p (take (length bs - i) (drop i bs)) c m room a) in
     let zero : j - 0 ≡ j = omega arith in
     let none : f .taken - 0 ≡ f .taken = omega arith in
@@ -216,13 +220,14 @@ played-turn {p} {bs} {c} {m} {room} {i} {n} {k} {whole} {output} {output′} {t}
     let g : played p (map Byte (drop (f .taken - 0) (drop i bs))) (after (f .left) x) ≡ t =
     sym (goes-replied (f .left .answer) j l (played p (map Byte (drop (f .taken - 0) (drop i bs))) (after (f .left) x)) (after (f .left) x) z) ∙ fed-plays f q a e h in
     let d : drop (f .taken - 0) (drop i bs) ≡ drop (i + f .taken) bs = rw none (drop-drop (f .taken) i bs) in
-    let v : record { left = record { answer = Replied j l; chip = f .left .chip; memory = f .left .memory; room = f .left .room }; said = q .said ++ take (j - 0) (f .left .room); frames = k + l } ≡ after (f .left) x =
-    ap (λ (y : ℕ). record { left = record { answer = Replied j l; chip = f .left .chip; memory = f .left .memory; room = f .left .room }; said = q .said ++ take y (f .left .room); frames = k + l }) zero
-    ∙ ap (λ (y : Answer). record { left = record { answer = y; chip = f .left .chip; memory = f .left .memory; room = f .left .room }; said = q .said ++ take j (f .left .room); frames = k + l }) (sym z)
+    let v : record { left = record { answer = Replied j l; fault = f .left .fault; chip = f .left .chip; memory = f .left .memory; room = f .left .room }; said = q .said ++ take (j - 0) (f .left .room); frames = k + l } ≡ after (f .left) x =
+    ap (λ (y : ℕ). record { left = record { answer = Replied j l; fault = f .left .fault; chip = f .left .chip; memory = f .left .memory; room = f .left .room }; said = q .said ++ take y (f .left .room); frames = k + l }) zero
+    ∙ ap (λ (y : Answer). record { left = record { answer = y; fault = f .left .fault; chip = f .left .chip; memory = f .left .memory; room = f .left .room }; said = q .said ++ take j (f .left .room); frames = k + l }) (sym z)
     ∙ sym (ap (λ (y : Answer). answering y (f .left) x) z) in
     record {
       bytes = j;
       frames = l;
+      fault = f .left .fault;
       said = q .said ++ take (j - 0) (f .left .room);
       stands = written-put n (take (j - 0) (f .left .room)) (q .stands) u (q .long) (omega (arith, words, most));
       long = rw (length-append, words) (omega (arith, q .long));
@@ -236,7 +241,7 @@ pub played-end : {p : Part} {bs : List ℕ} {c : Chip} {m : Memory} {room : List
     → length bs ≤ i → recordPlaying (record { ended = Played n k; chip = c }) m room output ≡ playedInto t whole
 unfolding playedInto endedBy played
 played-end {p} {bs} {c} {m} {room} {i} {n} {k} {whole} {output} {t} q h =
-    let y : Playing = record { left = record { answer = Replied (q .bytes) (q .frames); chip = c; memory = m; room = room }; said = q .said; frames = k } in
+    let y : Playing = record { left = record { answer = Replied (q .bytes) (q .frames); fault = q .fault; chip = c; memory = m; room = room }; said = q .said; frames = k } in
     let g : y ≡ t = sym (ap (λ (l : List ℕ). played p (map Byte l) y) (drop-of-length-le bs h)) ∙ q .rest in
     ap (λ (l : List ℕ). recordPlaying (record { ended = Played n k; chip = c }) m room l) (q .stands .is)
     ∙ ap (λ (a : ℕ). recordPlaying (record { ended = Played a k; chip = c }) m room (q .said ++ drop (length (q .said)) whole)) (q .long)

@@ -68,8 +68,8 @@ fn play(path: &Path) -> io::Result<()> {
     let (mut records, mut frames) = (0, 0);
     loop {
         let n = fill(&mut input, &mut buffer)?;
-        let (played, told) = door.play(&buffer[..n], &mut output);
-        records += played;
+        let told = door.play(&buffer[..n], &mut output);
+        records += told.records;
         frames += told.frames;
         printed.write_all(&lines(&output[..told.bytes as usize]))?;
         match told.refusal {

@@ -28,4 +28,4 @@ wayOf (HearsData w) count len = wayOn Data count len
 
 -- What a byte came to, as a step.
 abbrev pub answered : ByteDone → Step
-answered s = record { answer = replied (s .sent); chip = s .chip }
+answered s = record { answer = replied (s .sent); fault = s .fault; chip = s .chip }

@@ -32,7 +32,7 @@ returns-2 c =
 
 returns-3 : tie.Need-returns-3
 unfolding commandDoes if_then_else_
-returns-3 c = simp (← c .before .before .before .before .judge .ensures, ← c .before .before .before .is-good .ensures, c .before .before .if1 .left, ← c .before .status .ensures, c .says2 .ensures)
+returns-3 c = simp (← c .before .before .judge .ensures, ← c .before .is-good .ensures, c .if1 .left)
 
 pub command-spec : {M : Type 1} → statement M
 command-spec =
@@ -50,6 +50,4 @@ command-spec =
     returns
     (λ c κs. search needs)
     returns-2
-    (λ c κs. search needs)
-    (λ c κs. search needs)
     returns-3)

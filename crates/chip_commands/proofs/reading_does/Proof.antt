@@ -11,7 +11,7 @@ returns c = simp (c .before .enum-told .given .1, c .says .ensures)
 
 returns-2 : tie.Need-returns-2
 unfolding readingDoes
-returns-2 c = simp (c .before .enum-told2 .given .1, c .says2 .ensures)
+returns-2 c = simp (c .enum-told2 .given .1)
 
 returns-3 : tie.Need-returns-3
 unfolding readingDoes
@@ -24,7 +24,6 @@ reading-does-spec =
     (λ c. search needs)
     (λ c κs. search needs)
     (λ c. search needs)
-    (λ c κs. search needs)
     (λ c. search needs)
     (λ c κs. search needs)
     returns

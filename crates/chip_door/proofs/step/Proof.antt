@@ -23,14 +23,16 @@ returns-2 c =
 
 returns-3 : tie.Need-returns-3
 returns-3 c =
-    let part-in = c .before .before .before .before .before .before .before .before .before .before .before .before .before .before .before .before .before .before .before .before .before .before .before .part-in in
-    let chip-admission = c .before .before .before .before .before .before .before .before .before .before .before .before .before .before .before .before .before .before .before .before .before .chip-admission in
-    let enum-told = c .before .before .before .before .before .before .before .before .before .before .before .before .before .before .before .before .before .before .before .enum-told in
-    let chip-in = c .before .before .before .before .before .before .before .before .before .before .before .before .before .before .before .before .before .chip-in in
-    let step = c .before .before .before .before .before .before .before .before .before .before .before .before .step in
-    let answer2 = c .before .before .before .before .answer2 in
-    let lay-chip = c .before .lay-chip in
-    step-replied _ _ _ _ _ _ _ (part-in .ensures) (chip-admission .ensures) (enum-told .given .1) (chip-in .ensures) (step .ensures) (answer2 .given .1) (lay-chip .ensures)
+    let part-in = c .before .before .before .before .before .before .before .before .before .before .before .before .before .before .before .before .before .before .before .before .before .before .before .before .before .before .part-in in
+    let chip-admission = c .before .before .before .before .before .before .before .before .before .before .before .before .before .before .before .before .before .before .before .before .before .before .before .before .chip-admission in
+    let enum-told = c .before .before .before .before .before .before .before .before .before .before .before .before .before .before .before .before .before .before .before .before .before .before .enum-told in
+    let chip-in = c .before .before .before .before .before .before .before .before .before .before .before .before .before .before .before .before .before .before .before .before .chip-in in
+    let step = c .before .before .before .before .before .before .before .before .before .before .before .before .before .before .before .step in
+    let answer2 = c .before .before .before .before .before .before .before .answer2 in
+    let lay-chip = c .before .before .before .before .lay-chip in
+    let fault = c .before .before .before .fault in
+    step-replied _ _ _ _ _ _ _ (part-in .ensures) (chip-admission .ensures) (enum-told .given .1) (chip-in .ensures) (step .ensures) (answer2 .given .1) (fault .ensures)
+    (lay-chip .ensures)
 
 pub step-spec : {M : Type 1} → statement M
 step-spec =
@@ -49,6 +51,9 @@ step-spec =
     (λ c. search needs)
     (λ c. search needs)
     (λ c κs. search needs)
+    (λ c κs. search needs)
+    (λ c. search needs)
+    (λ c. search needs)
     returns
     (λ c. search needs)
     (λ c. search needs)

@@ -16,24 +16,26 @@ use Rattle.chip_feed.proofs.Feeding.{FedFrom, fed-end, fed-refused, fed
 use Rattle.chip_feed.proofs.Stretching.{fed-stretch, takes-there}
 use Rattle.chip_feed.specs.Feed.{feedOf}
 use Rattle.frame.specs.declared.collector.Collector.{Collector}
+use Rattle.frame.specs.declared.judgement.Judgement.{Judgement}
 use Rattle.chip_feed.proofs.feed.Statement.{statement}
 use Rattle.chip_feed.proofs.feed.Tie as tie
 
-abbrev standing : Core → Collector → Answer → List ℕ → List ℕ → List ℕ → List ℕ → Outcome
-standing core collector answer code extra sums room =
-    record { answer = answer; chip = record { core = core; collector = collector }; memory = memory code extra sums; room = room }
+abbrev standing : Core → Collector → Answer → Judgement → List ℕ → List ℕ → List ℕ → List ℕ → Outcome
+standing core collector answer fault code extra sums room =
+    record { answer = answer; fault = fault; chip = record { core = core; collector = collector }; memory = memory code extra sums; room = room }
 
 abbrev Inv-loop : tie.InvT-loop
-Inv-loop part bytes code₀ data₀ sums₀ room₀ core₀ collector₀ answer₀ i₀ code «data» sums room core collector answer i =
+Inv-loop part bytes code₀ data₀ sums₀ room₀ core₀ collector₀ answer₀ fault₀ i₀ code «data» sums room core collector answer fault i =
     (i ≤ length bytes)
     × (length code ≡ length code₀)
     × (length «data» ≡ length data₀)
     × (length room ≡ length room₀)
     × (length (collector .bytes) ≡ 260)
-    × FedFrom part bytes i (standing core collector answer code «data» sums room) (feedOf part bytes (standing core₀ collector₀ answer₀ code₀ data₀ sums₀ room₀))
+    × FedFrom part bytes i (standing core collector answer fault code «data» sums room)
+    (feedOf part bytes (standing core₀ collector₀ answer₀ fault₀ code₀ data₀ sums₀ room₀))
 
 abbrev μ-loop : tie.MeasureT-loop
-μ-loop part bytes code₀ data₀ sums₀ room₀ core₀ collector₀ answer₀ i₀ code «data» sums room core collector answer i = length bytes - i
+μ-loop part bytes code₀ data₀ sums₀ room₀ core₀ collector₀ answer₀ fault₀ i₀ code «data» sums room core collector answer fault i = length bytes - i
 
 long : (c : tie.Start Inv-loop μ-loop) → length (c .args .chip .collector .bytes) ≡ 260
 long c = search needs

@@ -21,11 +21,11 @@ returns c =
 returns-2 : tie.Need-returns-2
 unfolding dataDoes if_then_else_
 returns-2 c =
-    let footer-of = c .before .before .before .before .before .before .footer-of in
-    let length-of = c .before .before .before .before .before .length-of in
-    let judge-fit = c .before .before .before .before .judge-fit in
-    let is-good = c .before .before .before .is-good in
-    simp (← footer-of .ensures, ← length-of .ensures, ← judge-fit .ensures, ← is-good .ensures, c .before .before .if1 .left, ← c .before .status .ensures, ← c .bad-data .ensures)
+    let footer-of = c .before .before .before .before .before .footer-of in
+    let length-of = c .before .before .before .before .length-of in
+    let judge-fit = c .before .before .before .judge-fit in
+    let is-good = c .before .before .is-good in
+    simp (← footer-of .ensures, ← length-of .ensures, ← judge-fit .ensures, ← is-good .ensures, c .before .if1 .left, ← c .bad-data .ensures)
 
 pub page-spec : {M : Type 1} → statement M
 page-spec =
@@ -40,6 +40,5 @@ page-spec =
     (λ c. search needs)
     (λ c. search needs)
     returns
-    (λ c κs. search needs)
     (λ c κs. search needs)
     returns-2)

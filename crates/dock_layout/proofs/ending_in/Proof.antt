@@ -13,7 +13,7 @@ returns c = simp (eq-eqb _ _ (c .if1 .taken))
 
 returns-2 : tie.Need-returns-2
 unfolding endingIn if_then_else_
-returns-2 c = simp (ne-eqb _ _ (c .before .if1 .left), ← c .cause-in .ensures)
+returns-2 c = simp (ne-eqb _ _ (c .before .before .before .if1 .left), ← c .before .cause-in .ensures, ← c .judgement-in .ensures)
 
 pub ending-in-spec : {M : Type 1} → statement M
-ending-in-spec = tie.close (tie.spec returns (λ c κs. search needs) returns-2)
+ending-in-spec = tie.close (tie.spec returns (λ c κs. search needs) (λ c κs. search needs) returns-2)

@@ -11,9 +11,9 @@ returns c = simp (c .before .enum-told .given .1, ← c .plain .ensures)
 
 returns-2 : tie.Need-returns-2
 unfolding flatEnding
-returns-2 c = simp (c .before .before .ending .given .1, ← c .cause-number .ensures)
+returns-2 c = simp (c .before .before .before .ending .given .1, ← c .before .cause-number .ensures, ← c .fault .ensures)
 
 pub flat-ending-spec : {M : Type 1} → statement M
 flat-ending-spec =
     tie.close
-    (tie.spec (λ c. search needs) (λ c κs. search needs) (λ c. search needs) (λ c κs. search needs) returns returns-2)
+    (tie.spec (λ c. search needs) (λ c κs. search needs) (λ c. search needs) (λ c κs. search needs) (λ c κs. search needs) returns returns-2)

@@ -1,11 +1,12 @@
--- Laws about frames that are written and read.
+-- Laws about frames that are written, and reply frames that are judged.
 -- Assumes nothing.
-use mathlib.Core.Bool.{Bool, false, true}
+use mathlib.Core.Bool.{Bool, false, true, true≢false}
 use mathlib.Core.List.{List, [], _++_, _∷_, append-assoc}
 use mathlib.Core.Path.{_∙_, _≡_, ap, refl}
 use Prim.Native.Nat.{_+_, _-_, _<_, _≤_, ℕ}
+use native.Mathlib.Decide.{decLe, ℕ-discrete}
 use native.Mathlib.Omega.{arith}
-use lib.Dec.{eqb, leb}
+use lib.Dec.{eqb, leb, ltb}
 use lib.ListN.{drop, getD, length, length-append, take}
 use lib.Seq.{take-all}
 use borrow.Author.Tests.{eq-eqb, le-leb, le-ltb, lt-leb, lt-ltb, ne-eqb}
@@ -14,18 +15,17 @@ use Rattle.frame.proofs.Laws.Sum.{sum-join}
 use Rattle.frame.specs.Frame.{counted, footerByte, framed, headerByte, isFrame, lenByte}
 use Rattle.frame.specs.Judgement.{isGood, judgeOf}
 use Rattle.frame.specs.Sum.{less, lessAll, sumOf}
-use Rattle.frame.specs.Wire.{Writing, laid, readOf, writeOf, wrote}
+use Rattle.frame.specs.Wire.{Writing, judgeReply, laid, unfitReply, writeOf, wrote}
 use Rattle.frame.specs.declared.Footer.{Footer}
 use Rattle.frame.specs.declared.Footer.the-variants.{Last}
 use Rattle.frame.specs.declared.Header.{Header}
 use Rattle.frame.specs.declared.Header.the-variants.{Data}
 use Rattle.frame.specs.declared.judgement.Judgement.{Judgement}
-use Rattle.frame.specs.declared.judgement.Judgement.the-variants.{Good}
-use Rattle.frame.specs.declared.wire.Read.the-variants.{Frame, NotOne}
+use Rattle.frame.specs.declared.judgement.Judgement.the-variants.{Good, UnfitLength, WrongFirst}
 use Rattle.frame.specs.declared.wire.Wrote.{Wrote}
 use Rattle.frame.specs.declared.wire.Wrote.the-variants.{Long, NoRoom, UnfitPayload}
 use Rattle.lent.proofs.Laws.{Written}
-use Rattle.words.specs.Words.{_and_, _from_to_, if_then_else_}
+use Rattle.words.specs.Words.{_and_, _from_to_, _or_, if_then_else_}
 
 pub framed-long : (h : Header) (ds : List ℕ) (f : Footer) → length (framed h ds f) ≡ length ds + 4
 unfolding framed
@@ -73,46 +73,56 @@ write-laid room lead rest l h f e k m s =
     (let n : length (lead ++ rest) ≡ length lead + length rest = length-append lead rest in
     simp (le-leb 1 (length (lead ++ rest)) (omega arith), le-leb (length (lead ++ rest)) 256 (omega arith), le-ltb (length room) (length (lead ++ rest) + 4) (omega arith)))
 
--- The answers of reading.
-pub read-header : (bs : List ℕ) → (getD bs 0 0 ≡ headerByte Data → ⊥) → NotOne ≡ readOf bs
-unfolding readOf _and_ if_then_else_
-read-header bs e = simp (ne-eqb _ _ e)
+-- Whether a reply frame's LEN is unfit, by the number of bytes that its LEN asks for.
+pub unfit-len : (n : ℕ) (last : Bool) (bs : List ℕ) → (counted (getD bs 1 0) ≡ n → ⊥) → true ≡ unfitReply n last bs
+unfolding unfitReply _or_
+unfit-len n last bs e = simp (ne-eqb _ _ e)
 
-pub read-bad : (bs : List ℕ) → isGood (judgeOf Last (take (counted (getD bs 1 0) + 4) bs)) ≡ false → NotOne ≡ readOf bs
-unfolding readOf _and_ if_then_else_
-read-bad bs e = go (eqb (getD bs 0 0) 2)
+pub unfit-cut : (n : ℕ) (last : Bool) (bs : List ℕ) (end : ℕ) → counted (getD bs 1 0) ≡ n → end ≡ counted (getD bs 1 0) + 4 → length bs < end
+    → true ≡ unfitReply n last bs
+unfolding unfitReply _or_
+unfit-cut n last bs end e f h = simp (eq-eqb _ _ e, lt-ltb (length bs) (n + 4) (omega arith))
+
+pub unfit-over : (n : ℕ) (last : Bool) (bs : List ℕ) (end : ℕ) (t : Bool) → last ≡ t → counted (getD bs 1 0) ≡ n → end ≡ counted (getD bs 1 0) + 4
+    → end ≤ length bs → (t and ltb end (length bs)) ≡ unfitReply n last bs
+unfolding unfitReply _or_
+unfit-over n last bs end t i e f h =
+    let l : end ≡ n + 4 = omega arith in
+    simp (eq-eqb _ _ e, le-ltb (length bs) (n + 4) (omega arith), l, i)
+
+-- A frame whose LEN fits has all its bytes.
+pub fit-counted : (n : ℕ) (last : Bool) (bs : List ℕ) → unfitReply n last bs ≡ false → counted (getD bs 1 0) ≡ n
+fit-counted n last bs u = go (ℕ-discrete (counted (getD bs 1 0)) n)
   where
-    go : (t : Bool) → NotOne ≡ (if t and isGood (judgeOf Last (take (counted (getD bs 1 0) + 4) bs)) then Frame 2 (counted (getD bs 1 0)) (counted (getD bs 1 0) + 4) else NotOne)
-    go true = simp e
-    go false = refl
+    go : Dec (counted (getD bs 1 0) ≡ n) → counted (getD bs 1 0) ≡ n
+    go (yes e) = e
+    go (no e) = absurd (true≢false (unfit-len n last bs e ∙ u))
 
-cut-unfit : (bs : List ℕ) → length bs < counted (getD bs 1 0) + 4 → isFrame bs ≡ false
-unfolding isFrame _and_
-cut-unfit bs h = go (leb 2 (length bs))
+pub fit-long : (n : ℕ) (last : Bool) (bs : List ℕ) → unfitReply n last bs ≡ false → n + 4 ≤ length bs
+fit-long n last bs u = go (decLe (n + 4) (length bs))
   where
-    go : (t : Bool) → t and eqb (length bs) (counted (getD bs 1 0) + 4) ≡ false
-    go true = ne-eqb (length bs) (counted (getD bs 1 0) + 4) (λ e. omega arith)
-    go false = refl
+    go : Dec (n + 4 ≤ length bs) → n + 4 ≤ length bs
+    go (yes h) = h
+    go (no h) =
+        let e : counted (getD bs 1 0) ≡ n = fit-counted n last bs u in
+        absurd (true≢false (unfit-cut n last bs (n + 4) e (omega arith) (omega arith) ∙ u))
 
-pub read-cut : (bs : List ℕ) → length bs < counted (getD bs 1 0) + 4 → NotOne ≡ readOf bs
-read-cut bs h =
-    read-bad bs
-    (rw (take-all (counted (getD bs 1 0) + 4) bs (omega arith), judged-unfit Last bs (cut-unfit bs h)))
+-- The answers of judging a reply frame.
+pub reply-first : (n : ℕ) (last : Bool) (bs : List ℕ) → (getD bs 0 0 ≡ headerByte Data → ⊥) → WrongFirst ≡ judgeReply n last bs
+unfolding judgeReply if_then_else_
+reply-first n last bs e = simp (ne-eqb _ _ e)
+
+pub reply-unfit : (n : ℕ) (last : Bool) (bs : List ℕ) → getD bs 0 0 ≡ headerByte Data → unfitReply n last bs ≡ true → UnfitLength ≡ judgeReply n last bs
+unfolding judgeReply if_then_else_
+reply-unfit n last bs e u = simp (eq-eqb _ _ e, u)
 
 -- With the front of the bytes lent to `judge` as the part from 0 to end.
-pub read-judged : (bs : List ℕ) (end : ℕ) (j : Judgement) → end ≡ counted (getD bs 1 0) + 4 → j ≡ judgeOf Last (take (end - 0) bs) → isGood j ≡ false
-    → NotOne ≡ readOf bs
-read-judged bs end j e f g =
-    let z : end - 0 ≡ counted (getD bs 1 0) + 4 = omega arith in
-    read-bad bs (rw (← z, ← f) g)
-
-pub read-good : (bs : List ℕ) (n end : ℕ) (j : Judgement) → getD bs 0 0 ≡ headerByte Data → n ≡ counted (getD bs 1 0) → end ≡ counted (getD bs 1 0) + 4
-    → j ≡ judgeOf Last (take (end - 0) bs) → j ≡ Good → Frame 2 n end ≡ readOf bs
-unfolding readOf _and_ if_then_else_
-read-good bs n end j h e f i g =
-    let z : end - 0 ≡ counted (getD bs 1 0) + 4 = omega arith in
-    let k : judgeOf Last (take (counted (getD bs 1 0) + 4) bs) ≡ Good = rw (← z, ← i) g in
-    simp (e, f, eq-eqb (getD bs 0 0) 2 h, k)
+pub reply-judged : (n : ℕ) (last : Bool) (bs : List ℕ) (end : ℕ) (j : Judgement) → getD bs 0 0 ≡ headerByte Data → unfitReply n last bs ≡ false
+    → end ≡ counted (getD bs 1 0) + 4 → j ≡ judgeOf Last (take (end - 0) bs) → j ≡ judgeReply n last bs
+unfolding judgeReply if_then_else_
+reply-judged n last bs end j e u f i =
+    let l : end - 0 ≡ n + 4 = omega (arith, fit-counted n last bs u) in
+    simp (eq-eqb _ _ e, u, i, l)
 
 -- A frame that fits is laid, and what is in the room then.
 pub write-lands : (room : List ℕ) (h : Header) (ds : List ℕ) (f : Footer) → 1 ≤ length ds → length ds ≤ 256 → length ds + 4 ≤ length room

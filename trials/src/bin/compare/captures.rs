@@ -156,7 +156,7 @@ fn by_door(
     }
     loop {
         let mut output = vec![!fill; size];
-        let (played, told) = door::replay(
+        let told = door::replay(
             &part,
             &mut left.state,
             &capture[left.records * RECORD..],
@@ -174,7 +174,7 @@ fn by_door(
         }
         left.said.extend_from_slice(&output[..bytes]);
         left.frames += told.frames as usize;
-        left.records += played as usize;
+        left.records += told.records as usize;
         if kept.get(left.records) != Some(&sums) {
             return Err(format!(
                 "zc_replay told {told:?} after {} records and left sums {sums:04X?}, not the twin's; the capture is {}",
@@ -188,13 +188,13 @@ fn by_door(
                 left.bad = true;
                 return Ok(left);
             }
-            OUTPUT_FULL if played > 0 => {
+            OUTPUT_FULL if told.records > 0 => {
                 coverage.count("captures, in pieces for want of output");
                 if left.state[DIFFERED] == 1 {
                     coverage.count("captures, in pieces after a difference");
                 }
             }
-            _ => return Err(format!("zc_replay told {told:?} after {played} records")),
+            _ => return Err(format!("zc_replay told {told:?}")),
         }
     }
 }

@@ -1,8 +1,8 @@
-//! The chip: the twin, the proved chip by single events and the proved chip by stretches (zc_feed), given the same; after every event the answer, the whole
-//! room, the 294 bytes of state with the options among them, all code and data flash and the 72 kept sums are compared (01 "Frames" to "Refusal numbers",
-//! 02 §1, §2).
+//! The chip: the twin, the proved chip by single events and the proved chip by stretches (zc_feed), given the same; after every event the answer, the fault told
+//! and its place, the whole room, the 294 bytes of state with the options among them, all code and data flash and the 72 kept sums are compared (01 "Frames" to
+//! "Refusal numbers", 02 §1, §2, §4).
 
-use trials::chip::{described, layout, DIFFERED};
+use trials::chip::{described, fault_numbers, layout, DIFFERED};
 use trials::door::{self, Told, OUTPUT, ROOM, STATE, UNTOLD};
 use twin::chip::{step, Answer, Chip, Event, Phase};
 use twin::frame::{counted, LONGEST};
@@ -311,11 +311,20 @@ fn text_of(event: Event) -> String {
 
 fn in_numbers(answer: Answer) -> Told {
     match answer {
-        Answer::Replied { bytes, frames, .. } => Told {
-            refusal: 0,
-            bytes: bytes as u64,
-            frames: frames as u64,
-        },
+        Answer::Replied {
+            bytes,
+            frames,
+            fault,
+        } => {
+            let (fault, place) = fault_numbers(fault);
+            Told {
+                refusal: 0,
+                bytes: bytes as u64,
+                frames: frames as u64,
+                fault: fault.into(),
+                place: place.into(),
+            }
+        }
         Answer::Refused(number) => refused(number),
     }
 }
@@ -326,6 +335,8 @@ fn refused(number: u8) -> Told {
         refusal: number.into(),
         bytes: UNTOLD,
         frames: UNTOLD,
+        fault: UNTOLD,
+        place: UNTOLD,
     }
 }
 
@@ -486,7 +497,7 @@ impl Trio<'_> {
                 (3, told)
             }
             Event::Gap if many => {
-                let (played, told) = door::replay(
+                let played = door::replay(
                     &described,
                     &mut state,
                     capture,
@@ -496,7 +507,12 @@ impl Trio<'_> {
                     &mut room,
                     &mut output,
                 );
-                untaken = played == UNTOLD && output.iter().all(|byte| *byte == self.fill);
+                untaken = [played.records, played.bytes, played.frames] == [UNTOLD; 3]
+                    && output.iter().all(|byte| *byte == self.fill);
+                let told = Told {
+                    refusal: played.refusal,
+                    ..refused(0)
+                };
                 (4, told)
             }
             Event::Byte(byte) => (

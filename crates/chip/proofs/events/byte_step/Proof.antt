@@ -39,15 +39,15 @@ returns-2 c =
 
 returns-3 : tie.Need-returns-3
 returns-3 c =
-    let far = c .before .before .before .before .before .before .before .before .before .before .before .before .before .before .before .before .before .before .before .before .before in
+    let far = c .before .before .before .before .before .before .before .before .before .before .before .before .before .before .before .before .before .before .before .before .before .before in
     let start = far .before .before .before .before .before .before .before .before in
     let way-in = far .before .way-in in
-    let w2 = c .before .before .before .before .before .before .before .before .before .before .before .before .before .before .before .before .before .before .before .before .w2 in
-    let byte2 = c .before .before .before .before .before .before .before .before .before .before .before .before .before .before .before .before .before .before .byte2 in
-    let frame-does = c .before .before .before .before .before .before .before .before .before .before .before .frame-does in
-    let send = c .before .before .before .send in
+    let w2 = c .before .before .before .before .before .before .before .before .before .before .before .before .before .before .before .before .before .before .before .before .before .w2 in
+    let byte2 = c .before .before .before .before .before .before .before .before .before .before .before .before .before .before .before .before .before .before .before .byte2 in
+    let frame-does = c .before .before .before .before .before .before .before .before .before .before .before .before .frame-does in
+    let send = c .before .before .before .before .send in
     byte-accepted _ _ _ _ _ _ (start .pre)
-    (completes-settles _ _ _ _ _ _ _ _ _ _ _ _ _ (long start) (accepts (start .pre)) (sym (way-in .ensures) ∙ w2 .given .1) (byte2 .ensures) (frame-does .ensures) (send .ensures) (c .gap .ensures))
+    (completes-settles _ _ _ _ _ _ _ _ _ _ _ _ _ _ (long start) (accepts (start .pre)) (sym (way-in .ensures) ∙ w2 .given .1) (byte2 .ensures) (frame-does .ensures) (send .ensures) (c .before .fault .ensures) (c .gap .ensures))
 
 pub byte-step-spec : {M : Type 1} → statement M
 byte-step-spec =
@@ -64,6 +64,7 @@ byte-step-spec =
     (λ c. search needs)
     (λ c. search needs)
     part-frame-does-end
+    (λ c κs. search needs)
     (λ c κs. search needs)
     (λ c κs. search needs)
     (λ c κs. search needs)

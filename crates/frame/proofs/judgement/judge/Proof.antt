@@ -3,7 +3,7 @@
 use mathlib.Core.Path.{_∙_, sym}
 use native.Mathlib.Omega.{arith}
 use borrow.Author.Needs.{needs}
-use Rattle.frame.proofs.Laws.Judgement.{frame-long, judged-footer, judged-good, judged-sum, judged-unfit, summed-part}
+use Rattle.frame.proofs.Laws.Judgement.{frame-long, frame-short, judged-footer, judged-good, judged-sum, judged-unfit, summed-part}
 use Rattle.frame.proofs.judgement.judge.Statement.{statement}
 use Rattle.frame.proofs.judgement.judge.Tie as tie
 
@@ -44,6 +44,29 @@ returns-2 c =
     let if2 = c .before .before .before .before .if2 in
     sym (judged-sum _ _ (sym (is-frame .ensures) ∙ if1 .taken) (if2 .taken ∙ byte .ensures) (λ e. c .if3 .left (e ∙ sym (c .before .sum8 .ensures ∙ summed-part _))))
 
+-- A place is at most 259: it does not wrap.
+sub-t10 : tie.Need-sub-t10
+sub-t10 c =
+    let is-frame = c .before .before .before .before .before .before .before .before .is-frame in
+    let if1 = c .before .before .before .before .before .before .before .if1 in
+    omega (arith, frame-long _ (sym (is-frame .ensures) ∙ if1 .taken))
+
+cast-t20 : tie.Need-cast-t20
+cast-t20 c =
+    let is-frame = c .before .before .before .before .before .before .before .before .is-frame in
+    let if1 = c .before .before .before .before .before .before .before .if1 in
+    let known = c .before .before .before .before .before .before .before .before .before .shared-slice-known in
+    omega (arith, frame-short _ (sym (is-frame .ensures) ∙ if1 .taken) (omega (arith, known .given 1)))
+
+sub-t5 : tie.Need-sub-t5
+sub-t5 c = omega (arith, frame-long _ (sym (c .before .before .before .before .is-frame .ensures) ∙ c .before .before .before .if1 .taken))
+
+cast-t21 : tie.Need-cast-t21
+cast-t21 c =
+    let is-frame = c .before .before .before .before .is-frame in
+    let known = c .before .before .before .before .before .shared-slice-known in
+    omega (arith, frame-short _ (sym (is-frame .ensures) ∙ c .before .before .before .if1 .taken) (omega (arith, known .given 1)))
+
 returns-3 : tie.Need-returns-3
 returns-3 c = sym (judged-footer _ _ (sym (c .before .before .before .before .is-frame .ensures) ∙ c .before .before .before .if1 .taken) (λ e. c .if2 .left (e ∙ sym (c .before .byte .ensures))))
 
@@ -66,6 +89,10 @@ judge-spec =
     (λ c. search needs)
     (λ c κs. search needs)
     returns
+    sub-t10
+    cast-t20
     returns-2
+    sub-t5
+    cast-t21
     returns-3
     returns-4)
