@@ -538,7 +538,7 @@ pub(crate) fn rate_fits(rate: u8, supply: u8) -> bool {
 }
 
 /// The mode in 9Ah's reply (01 "Commands", *ours*).
-pub(crate) fn mode_of(supply: u8) -> u8 {
+pub fn mode_of(supply: u8) -> u8 {
     if supply >= 27 {
         0x00
     } else {
@@ -623,7 +623,7 @@ fn options_are_fresh(part: &Part, options: &Options) -> bool {
 }
 
 /// Device code, name, last code address, last data address, version (000 3.7.3).
-pub(crate) fn signature(part: &Part) -> [u8; 22] {
+pub fn signature(part: &Part) -> [u8; 22] {
     let last_code = part.end(Area::Code) - 1;
     let last_data = match part.blocks(Area::Data) {
         0 => 0,

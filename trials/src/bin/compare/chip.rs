@@ -162,6 +162,35 @@ impl<'a> Trio<'a> {
         Ok(())
     }
 
+    /// A stretch without a byte: nothing is taken, said or told, whatever was told before, and nothing changes.
+    pub fn no_byte(&mut self) -> Result<(), Difference> {
+        let mut room = [self.fill; ROOM];
+        let (taken, told) = door::feed(
+            &self.described,
+            &mut self.fed.state,
+            &[],
+            &mut self.fed.code,
+            &mut self.fed.data,
+            &mut self.fed.sums,
+            &mut room,
+        );
+        let nothing = Told {
+            refusal: 0,
+            bytes: 0,
+            frames: 0,
+            fault: 0,
+            place: 0,
+        };
+        if (taken, told, room) != (0, nothing, [self.fill; ROOM]) {
+            return Err(format!("zc_feed of no byte took {taken} and told {told:?}"));
+        }
+        self.coverage.count("zc_feed, calls without a byte");
+        match unlike(&self.twin, &self.fed) {
+            Some(what) => Err(format!("zc_feed of no byte: {what}")),
+            None => Ok(()),
+        }
+    }
+
     /// A gap or power-on, on all three sides.
     pub fn pause(&mut self, event: Event, room: usize) -> Result<(), Difference> {
         self.fill = self.fill.wrapping_add(1);
@@ -232,6 +261,7 @@ impl<'a> Trio<'a> {
         let said = statuses(&room_twin[..told.bytes as usize]);
         if told.frames > 0 {
             self.count_answer(phase, &before, &said);
+            self.count_fault(phase, &said, told.fault, told.place);
         }
         if let Some(wrong) = wrong {
             let Trio { part, coverage, .. } = self;
@@ -284,7 +314,7 @@ pub const PHASES: [&str; 6] = [
     "phase 4 of A0h",
 ];
 
-fn phase_index(phase: Phase) -> usize {
+pub fn phase_index(phase: Phase) -> usize {
     match phase {
         Phase::ModeByte => 0,
         Phase::Setup => 1,

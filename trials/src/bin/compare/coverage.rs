@@ -1,6 +1,7 @@
 //! How often each thing came, by its name; and what must have come.
 
 use std::collections::BTreeMap;
+use std::ops::RangeInclusive;
 
 #[derive(Default)]
 pub struct Coverage {
@@ -40,6 +41,18 @@ impl Coverage {
             println!("{line}");
         }
         missing
+    }
+
+    /// Prints how often the least frequent of a row's columns came, which are all these places; hands back the names that never came.
+    pub fn places(&self, row: &str, places: RangeInclusive<u64>) -> Vec<String> {
+        let (first, last) = (*places.start(), *places.end());
+        let names: Vec<String> = places.map(|place| format!("{row}, {place}")).collect();
+        let least = names.iter().map(|name| self.of(name)).min().unwrap_or(0);
+        println!("  {row}:  places {first} to {last} each at least {least}");
+        names
+            .into_iter()
+            .filter(|name| self.of(name) == 0)
+            .collect()
     }
 }
 

@@ -1,6 +1,6 @@
 //! Directed events: every COM with every fault of a frame in every phase, every pair of edge addresses, every page, one byte amiss in every place of a page,
 //! every flag byte and every window edge for A0h, protection by every flag byte that the chip accepts, every block's kept sum, every set of faults of a refused
-//! call (01 "Frames", "Phases", "Commands", "Refusal numbers", 02 §1), and what 13h tells late (02 §2).
+//! call (01 "Frames", "Phases", "Commands", "Refusal numbers", 02 §1), what 13h tells late (02 §2), and every fault at every place (02 §4).
 
 use twin::chip::{
     Chip, Event, Phase, BLANK_CHECK, BLOCK_ERASE, CHECKSUM, ERASED, PROGRAM, SECURITY_RELEASE,
@@ -13,6 +13,7 @@ use twin::replay::replay_part;
 
 use crate::chip::{Difference, Trio, ORDER};
 use crate::coverage::Coverage;
+use crate::faults;
 use crate::late;
 use crate::script;
 
@@ -40,8 +41,9 @@ pub fn run(coverage: &mut Coverage) -> Result<(u64, u64), Difference> {
         options(&mut trio)?;
         protection(&mut trio)?;
         kept_sums(&mut trio, &mut choice)?;
-        faults(&mut trio, &mut choice)?;
+        every_refusal(&mut trio, &mut choice)?;
         late::run(&mut trio, &mut choice)?;
+        faults::run(&mut trio)?;
         let (events, refused) = trio.finish();
         counts = (counts.0 + events, counts.1 + refused);
     }
@@ -382,7 +384,7 @@ pub fn sets_of(faults: &[u8]) -> impl Iterator<Item = Vec<u8>> + '_ {
 }
 
 /// Every set of the five faults, so that each refusal is met alone and before each that comes after it; zc_sums with every set of its three.
-fn faults(trio: &mut Trio, choice: &mut Generator) -> Result<(), Difference> {
+fn every_refusal(trio: &mut Trio, choice: &mut Generator) -> Result<(), Difference> {
     for faults in sets_of(&ORDER).skip(1) {
         let of_sums = faults.iter().all(|number| *number <= 3);
         for _ in 0..40 {

@@ -1,16 +1,18 @@
-//! The dock: random histories of calls to the twin and to the proved dock; after each call the reply, the 23 bytes of state, the whole room and the counts are
-//! compared (01 "The dock's flow", "Refusal numbers"). Beside them, bytes that are no state of a dock, which the twin's types cannot hold.
+//! The dock: random histories of calls to the twin and to the proved dock; after each call the reply, the 26 bytes of state with the fault that a failure names
+//! (02 §4), the whole room and the counts are compared (01 "The dock's flow", "Refusal numbers"). Beside them, bytes that are no state of a dock, which the twin's
+//! types cannot hold.
 
-use trials::dock::{layout, stage_number, work};
+use trials::dock::{layout, stage_number, work, FAULT, PLACE};
 use trials::door::{self, Report as Told, ANSWER, DOCK, UNTOLD};
 use twin::dock::{start, Cause, Report, Stage, State};
 use twin::histories::play;
 use twin::random::Generator;
 use twin::replay::hex_line;
 use twin::transcript::{
-    call_line, cause_text, job_line, twin_dock, Action, Call, Outcome, Reply, FILLER,
+    call_line, cause_text, fault_text, job_line, twin_dock, Action, Call, Outcome, Reply, FILLER,
 };
 
+use crate::answers;
 use crate::chip::Difference;
 use crate::coverage::{row, Coverage};
 
@@ -34,13 +36,7 @@ pub fn history(seed: u64, coverage: &mut Coverage, counts: &mut Counts) -> Resul
                 counts.no_states += 1;
                 what = no_state(&mut choice, call, coverage);
             }
-            difference = what.map(|what| {
-                format!(
-                    "{what}\n  {}\n  the twin: {}",
-                    job_line(call.job, call.image),
-                    call_line(call, &expected)
-                )
-            });
+            difference = what.map(|what| told_of(&what, call, &expected));
         }
         count(coverage, call, &expected);
         expected
@@ -50,6 +46,30 @@ pub fn history(seed: u64, coverage: &mut Coverage, counts: &mut Counts) -> Resul
         Some(what) => Err(what),
         None => Ok(()),
     }
+}
+
+/// One call, compared.
+pub fn compared(
+    call: &Call,
+    coverage: &mut Coverage,
+    counts: &mut Counts,
+) -> Result<(), Difference> {
+    let expected = twin_dock(call);
+    counts.calls += 1;
+    count(coverage, call, &expected);
+    match unlike(call, &expected) {
+        Some(what) => Err(told_of(&what, call, &expected)),
+        None => Ok(()),
+    }
+}
+
+/// What differs, with the call and what the twin made of it.
+fn told_of(what: &str, call: &Call, expected: &Outcome) -> Difference {
+    format!(
+        "{what}\n  {}\n  the twin: {}",
+        job_line(call.job, call.image),
+        call_line(call, expected)
+    )
 }
 
 /// The call, made to the proved dock; what differs from the twin's outcome, if anything.
@@ -174,7 +194,7 @@ fn in_numbers(outcome: &Outcome) -> Told {
     }
 }
 
-pub const NO_STATES: [&str; 8] = [
+pub const NO_STATES: [&str; 13] = [
     "stage",
     "awaited",
     "a block named or not against the stage",
@@ -183,23 +203,45 @@ pub const NO_STATES: [&str; 8] = [
     "a number of no page",
     "cause",
     "command or status of no failure",
+    "a fault over 4",
+    "a place of no fault",
+    "another place of LEN than 1",
+    "another place of a first byte than 0",
+    "a fault or a place of no failure",
 ];
 
 /// The call again, with bytes that are no state; nothing may change. To start, any bytes do.
 fn no_state(choice: &mut Generator, call: &Call, coverage: &mut Coverage) -> Option<String> {
-    let (state, room) = match call.action {
+    let state = match call.action {
         Action::Start => return None,
-        Action::Ask { state, room } => (state, room),
-        Action::Answer { state, .. } | Action::Timeout { state } => (state, 0),
+        Action::Ask { state, .. } | Action::Answer { state, .. } | Action::Timeout { state } => {
+            state
+        }
     };
     let way = choice.below(NO_STATES.len());
     let mut dock = layout(&state);
     spoil(choice, &mut dock, way);
-    let job = work(call.job, call.image);
     // 1, 5, 6 and 7 come before 9, and 9 before 4 and 8.
     let expected = match start(call.job, call.image) {
         Err(number) => u32::from(number),
         Ok(_) => 9,
+    };
+    if let Some(what) = not_refused(call, dock, expected) {
+        return Some(format!("no state ({}): {what}", NO_STATES[way]));
+    }
+    if expected == 9 {
+        coverage.count(&format!("no state, {}", NO_STATES[way]));
+    }
+    None
+}
+
+/// The call on these bytes in place of its state, which must be refused with this number; what is wrong, if anything. Nothing may change or be told, and nothing is
+/// wanted of an answer.
+pub fn not_refused(call: &Call, mut dock: [u8; DOCK], expected: u32) -> Option<String> {
+    let job = work(call.job, call.image);
+    let room = match call.action {
+        Action::Ask { room, .. } => room,
+        _ => 0,
     };
     let kept = dock;
     let mut lent = vec![FILLER; room];
@@ -212,21 +254,20 @@ fn no_state(choice: &mut Generator, call: &Call, coverage: &mut Coverage) -> Opt
             let (told, length) = door::ask(&job, &mut dock, &mut lent);
             (told, length == UNTOLD)
         }
-        Action::Answer { bytes, .. } => none(door::answer(&job, &mut dock, bytes)),
+        Action::Answer { bytes, .. } => {
+            let (told, untold) = none(door::answer(&job, &mut dock, bytes));
+            (told, untold && door::wants(&job, &dock, bytes) == 0)
+        }
         Action::Timeout { .. } => none(door::timeout(&job, &mut dock)),
     };
-    if told != expected || !untold || dock != kept || lent.iter().any(|byte| *byte != FILLER) {
-        return Some(format!(
-            "no state ({}) told {told}, not {expected}, or something changed; dock {} after {}",
-            NO_STATES[way],
+    let changed = !untold || dock != kept || lent.iter().any(|byte| *byte != FILLER);
+    (told != expected || changed).then(|| {
+        format!(
+            "told {told}, not {expected}, or something changed; dock {} after {}",
             hex_line(&dock),
             hex_line(&kept)
-        ));
-    }
-    if expected == 9 {
-        coverage.count(&format!("no state, {}", NO_STATES[way]));
-    }
-    None
+        )
+    })
 }
 
 fn spoil(choice: &mut Generator, dock: &mut [u8; DOCK], way: usize) {
@@ -254,8 +295,38 @@ fn spoil(choice: &mut Generator, dock: &mut [u8; DOCK], way: usize) {
         6 if over => dock[20] = choice.pick(&[0, 5, 0xFF]),
         6 => dock[20] = choice.pick(&[1, 4, 5, 0xFF]),
         7 if over => dock[20] = 0,
-        _ => dock[choice.pick(&[21, 22])] = choice.pick(&[0x01, 0x40, 0xFF]),
+        7 => dock[choice.pick(&[21, 22])] = choice.pick(&[0x01, 0x40, 0xFF]),
+        8 => in_failure(
+            dock,
+            choice.pick(&[5, 6, 0x80, 0xFF]),
+            choice.pick(&[0, 1, 4]),
+        ),
+        9 => in_failure(dock, 0, choice.pick(&[1, 4, 259, 0xFF00])),
+        10 => in_failure(dock, 3, choice.pick(&[0, 2, 256, 257, 0xFFFF])),
+        11 => in_failure(dock, 4, choice.pick(&[1, 2, 256, 0xFFFF])),
+        _ => {
+            if over {
+                dock[0] = 10;
+                dock[10..].fill(0);
+            }
+            let (fault, place) = choice.pick(&[(1, 4), (2, 3), (3, 1), (4, 0), (0, 1), (0, 256)]);
+            name_fault(dock, fault, place);
+        }
     }
+}
+
+/// A job that failed where it stood, and names this.
+fn in_failure(dock: &mut [u8; DOCK], fault: u8, place: u16) {
+    if dock[0] != 11 {
+        dock[0] = 11;
+        dock[20] = 3;
+    }
+    name_fault(dock, fault, place);
+}
+
+pub fn name_fault(dock: &mut [u8; DOCK], fault: u8, place: u16) {
+    dock[FAULT] = fault;
+    dock[PLACE..].copy_from_slice(&place.to_le_bytes());
 }
 
 fn count(coverage: &mut Coverage, call: &Call, outcome: &Outcome) {
@@ -293,6 +364,13 @@ fn count(coverage: &mut Coverage, call: &Call, outcome: &Outcome) {
             failure.command
         ));
         coverage.count(&format!("named, {:02X}h", failure.status));
+        if failure.cause == Cause::Unreadable {
+            coverage.count(&format!(
+                "unreadable at {:02X}h{page}, {}",
+                failure.command,
+                fault_text(failure.fault)
+            ));
+        }
     }
     if outcome
         .state
@@ -306,7 +384,7 @@ fn count(coverage: &mut Coverage, call: &Call, outcome: &Outcome) {
 }
 
 /// The stages that have a frame, as failures name it.
-const STAGES: [&str; 9] = [
+pub const STAGES: [&str; 9] = [
     "9Ah", "00h", "C0h", "32h", "22h", "40h", "40h page", "13h", "13h page",
 ];
 
@@ -348,6 +426,7 @@ pub fn tables(coverage: &Coverage) -> Vec<String> {
         ),
     ];
     missing.extend(coverage.table("failures, by cause and frame", &failures));
+    missing.extend(answers::table(coverage));
     let mut refusals = vec![
         row("zc_start", &["accepted", "1", "5", "6", "7"]),
         row("zc_ask", &["accepted", "1", "5", "6", "7", "9", "4", "8"]),

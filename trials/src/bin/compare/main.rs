@@ -2,11 +2,13 @@
 //! tightly things are promised": "All others run as program tests against a second implementation"). Ends with 1 at the first difference, or if anything that
 //! must come did not.
 
+mod answers;
 mod captures;
 mod chip;
 mod coverage;
 mod directed;
 mod dock;
+mod faults;
 mod late;
 mod script;
 mod sums;
@@ -95,8 +97,8 @@ fn compare_chips(size: &Size, coverage: &mut Coverage) -> Result<(), Difference>
         seed += 1;
     }
     println!(
-        "chip: {events} events ({directed} directed, the others in {seed} courses), each compared with all flash, options and kept sums; {refused} refused calls; \
-         {:.0} s",
+        "chip: {events} events ({directed} directed, the others in {seed} courses), each compared with the fault told, all flash, options and kept sums; {refused} \
+         refused calls; {:.0} s",
         start.elapsed().as_secs_f64()
     );
     Ok(())
@@ -120,14 +122,17 @@ fn compare_captures(size: &Size, coverage: &mut Coverage) -> Result<(), Differen
 fn compare_docks(size: &Size, coverage: &mut Coverage) -> Result<(), Difference> {
     let start = Instant::now();
     let mut counts = dock::Counts::default();
+    answers::run(coverage, &mut counts)
+        .map_err(|difference| format!("dock, directed: {difference}"))?;
+    let directed = counts.calls;
     for seed in 0..size.histories {
         dock::history(seed, coverage, &mut counts)
             .map_err(|difference| format!("dock, seed {seed}: {difference}"))?;
     }
     println!(
-        "dock: {} histories, {} calls compared, {} calls with bytes that are no state; {:.0} s",
-        size.histories,
+        "dock: {} calls compared ({directed} directed, the others in {} histories), {} calls with bytes that are no state; {:.0} s",
         counts.calls,
+        size.histories,
         counts.no_states,
         start.elapsed().as_secs_f64()
     );
@@ -244,6 +249,7 @@ fn chip_tables(coverage: &Coverage) -> Vec<String> {
     missing.extend(coverage.table("refusals of the chip", &refusals));
     missing.extend(sums::table(coverage));
     missing.extend(verify::table(coverage));
+    missing.extend(faults::table(coverage));
     let numbers = |low: u32, high: u32| (low..=high).map(|number| number.to_string()).collect();
     let parts = [
         ("code blocks".to_string(), numbers(8, 64)),
@@ -252,7 +258,7 @@ fn chip_tables(coverage: &Coverage) -> Vec<String> {
     ];
     missing.extend(coverage.table("courses by part", &parts));
     let many = [
-        row("zc_feed", &["calls", "bytes"]),
+        row("zc_feed", &["calls", "bytes", "calls without a byte"]),
         row(
             "captures",
             &[
