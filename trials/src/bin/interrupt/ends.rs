@@ -3,6 +3,7 @@
 use trials::door;
 use twin::chip::{step, Answer, Chip, Event};
 use twin::dock::{self, Report, Stage};
+use twin::frame;
 use twin::sums::Sums;
 
 use crate::job::{
@@ -50,6 +51,7 @@ pub struct Named {
     pub command: u8,
     pub page: Option<usize>,
     pub status: u8,
+    pub fault: Option<Fault>,
 }
 
 #[derive(Clone, Copy, PartialEq, Eq)]
@@ -58,6 +60,15 @@ pub enum Cause {
     Mismatch,
     Unreadable,
     Timeout,
+}
+
+/// What was wrong with an answer that could not be read (02 §4).
+#[derive(Clone, Copy, PartialEq, Eq)]
+pub enum Fault {
+    First,
+    Len,
+    Footer,
+    Sum,
 }
 
 /// The two ends of the cable: a chip with its flash and kept sums, and a dock at a job. No call of a trial may be refused.
@@ -105,6 +116,14 @@ impl Proved<'_> {
             4 => Cause::Timeout,
             other => panic!("the dock's state has {other} for why it failed"),
         };
+        let fault = match door::dock_fault(&self.dock) {
+            door::FAULT_NONE => None,
+            door::FAULT_FOOTER => Some(Fault::Footer),
+            door::FAULT_SUM => Some(Fault::Sum),
+            door::FAULT_LEN => Some(Fault::Len),
+            door::FAULT_FIRST => Some(Fault::First),
+            other => panic!("the dock's state has {other} for a fault"),
+        };
         let number = |at: usize| match self.dock[at] {
             0 => None,
             _ => {
@@ -119,6 +138,7 @@ impl Proved<'_> {
                 command: self.dock[21],
                 page: number(15),
                 status: self.dock[22],
+                fault,
             },
             frames,
             retries,
@@ -362,6 +382,12 @@ pub fn stand_of(told: Result<Report, u8>) -> Stand {
                 command: failure.command,
                 page: failure.page.map(|page| page as usize),
                 status: failure.status,
+                fault: failure.fault.map(|fault| match fault {
+                    frame::Fault::Footer(_) => Fault::Footer,
+                    frame::Fault::Sum(_) => Fault::Sum,
+                    frame::Fault::Len => Fault::Len,
+                    frame::Fault::First => Fault::First,
+                }),
             },
             frames: frames as usize,
             retries: retries as usize,

@@ -2,6 +2,7 @@
 
 use std::fmt::Write;
 
+use crate::ends::Fault;
 use crate::job::{Job, RETRIES};
 use crate::trial::{Left, Tally, KINDS, MUST_BE_0};
 
@@ -47,6 +48,20 @@ pub fn table(job: &Job, tallies: &[Tally; KINDS.len()]) -> String {
         row(&format!("the job failed: {name}"), &|tally| {
             told(tally, tally.failed[cause])
         });
+        if *name != "unreadable" {
+            continue;
+        }
+        // In the order in which an answer is judged.
+        for (fault, name) in [
+            (Fault::First, "first byte"),
+            (Fault::Len, "LEN"),
+            (Fault::Footer, "footer"),
+            (Fault::Sum, "SUM"),
+        ] {
+            row(&format!("unreadable, {name}"), &|tally| {
+                told(tally, tally.faults[fault as usize])
+            });
+        }
     }
     row(
         &format!("most frames in a run ({} allowed)", job.bound()),

@@ -129,8 +129,13 @@ impl<'a, E: Ends<'a>> Trial<'a, E> {
                 retries,
             } => {
                 tally.failed[named.cause as usize] += 1;
+                if let Some(fault) = named.fault {
+                    tally.faults[fault as usize] += 1;
+                }
                 self.judge_counts(asked, frames, retries, tally);
                 tally.named_wrong += u64::from(named.block != moment.reached);
+                let unreadable = named.cause == Cause::Unreadable;
+                tally.fault_wrong += u64::from(named.fault.is_some() != unreadable);
                 tally.told_wrong += u64::from(named.cause == Cause::Status && !self.late(named));
                 self.judge_left(&ends, moment.reached, tally);
                 self.again(ends, tally);
@@ -238,6 +243,8 @@ pub struct Tally {
     pub finished_retried: u64,
     /// By cause.
     pub failed: [u64; 4],
+    /// Those that were unreadable, by fault.
+    pub faults: [u64; 4],
     /// By what is left.
     pub reached: [u64; 6],
     outside: u64,
@@ -247,6 +254,7 @@ pub struct Tally {
     finished_wrong: u64,
     named_wrong: u64,
     told_wrong: u64,
+    fault_wrong: u64,
     counts_wrong: u64,
     /// Runs that left a kept sum other than the one worked out afresh (02 §1), and runs of the whole job again that did. It must be 0 and has no row.
     pub sums_wrong: u64,
@@ -256,7 +264,7 @@ pub struct Tally {
     pub most_retries: usize,
 }
 
-pub const MUST_BE_0: [&str; 9] = [
+pub const MUST_BE_0: [&str; 10] = [
     "bytes of flash changed outside the job's range",
     "options changed",
     "blocks before the one reached that do not hold the image",
@@ -265,6 +273,7 @@ pub const MUST_BE_0: [&str; 9] = [
     "finished, and the range does not hold the image",
     "failed, and another block is named than the one reached",
     "failed by a status, and it is another than 0Fh on the last page of 13h",
+    "unreadable and no fault named, or a fault named beside another cause",
     "frames or retries past what is allowed, or frames miscounted",
 ];
 
@@ -279,6 +288,7 @@ impl Tally {
             self.finished_wrong,
             self.named_wrong,
             self.told_wrong,
+            self.fault_wrong,
             self.counts_wrong,
         ]
     }
