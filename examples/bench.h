@@ -1,5 +1,5 @@
-/* What the C examples that rehearse a job have in common: a chip of the replay's part (document 01, "Replay") with its flash, sums and reply room, and a dock
- * with its job. A program says START and END, the range of the job, before it takes this file. */
+/* What the C examples that rehearse a job, or damage what is sent in one, have in common: a chip of the replay's part (document 01, "Replay") with its flash,
+ * sums and reply room, and a dock with its job. A program says START and END, the range of the job, before it takes this file. */
 #include <stdio.h>
 #include <stdlib.h>
 #include <string.h>

@@ -1,5 +1,5 @@
-//! What the Rust examples that rehearse a job have in common: a chip of the replay's part (document 01, "Replay") with its flash, sums and reply room, and a
-//! job from its first frame to how it ended. Each of them uses some of it.
+//! What the Rust examples that rehearse a job, or damage what is sent in one, have in common: a chip of the replay's part (document 01, "Replay") with its flash,
+//! sums and reply room, and a job from its first frame to how it ended. Each of them uses some of it.
 #![allow(dead_code)]
 
 #[path = "../include/door.rs"]

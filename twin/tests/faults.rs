@@ -9,7 +9,7 @@ use twin::chip::{Event, Phase};
 use twin::dock::{answer, ask, start, timeout};
 use twin::dock::{Cause, Failure, Job, Stage, State};
 use twin::frame::{read_reply, Fault};
-use twin::replay::replay_part;
+use twin::replay::{hex_line, replay_part};
 
 const NONE: (u8, u16) = (0, 0);
 const LEN: (u8, u16) = (3, 1);
@@ -753,4 +753,91 @@ fn a_rehearsed_job_names_the_fault() {
         assert_eq!(in_numbers(failure.fault), fault, "frame {spoiled}");
         assert_eq!(failure.command, [0x9A, 0x00, 0xC0, 0x32][spoiled]);
     }
+}
+
+// The example: examples/faults.c and examples/faults.rs
+
+const EXPECTED: &str = concat!(env!("CARGO_MANIFEST_DIR"), "/../examples/faults.stdout");
+
+fn in_words((number, place): (u8, u16)) -> String {
+    let words = [
+        "wrong footer",
+        "wrong SUM",
+        "unfit LEN",
+        "first byte missing or not 02h",
+    ];
+    match number {
+        0 => String::new(),
+        number => format!(", {} (byte {place})", words[usize::from(number) - 1]),
+    }
+}
+
+/// The first twelve bytes.
+fn shown(bytes: &[u8]) -> String {
+    let more = if bytes.len() > 12 { " .." } else { "" };
+    hex_line(&bytes[..bytes.len().min(12)]) + more
+}
+
+/// A frame to the chip, and what is said and told.
+fn line(bench: &mut Bench, sent: &[u8]) -> String {
+    bench.gap();
+    let (said, fault) = bench.say_judged(sent);
+    let said = hex_line(&said.concat());
+    format!("{} -> {said}{}\n", shown(sent), in_words(fault))
+}
+
+#[test]
+fn the_example_prints_what_is_written_down() {
+    let mut bench = Bench::fresh(replay_part());
+    bench.event(Event::Byte(0x3A));
+    let mut text = String::new();
+    for sent in [
+        "01 03 9A 00 21 42 03",
+        "01 01 A1 5D 03",
+        "01 01 A1 5E 17",
+        "01 02 A1 00 5D 03",
+        "01 02 55 00 A9 03",
+        "01 01 A0 5F 03",
+        "02 04 FF 80 40 22 1A 03",
+    ] {
+        text += &line(&mut bench, &hex(sent));
+    }
+    let mut other_sum = page(&ramp(), 0x17);
+    other_sum[258] = 0x81;
+    for sent in [
+        page(&ramp(), 0x03),
+        other_sum,
+        page(&ramp()[..255], 0x17),
+        page(&ramp(), 0x17),
+    ] {
+        text += &line(&mut bench, &command("40 00 18 00 FF 1B 00"));
+        text += &line(&mut bench, &sent);
+    }
+    let mut signature = page(&signature_of(&job()), 0x03);
+    signature[24] = 0x35;
+    let acknowledged = "02 01 06 F9 03";
+    for (stage, asked, heard) in [
+        (Stage::Rate, "9A 00 21", hex("02 03 06 20 00 D7 17")),
+        (Stage::Rate, "9A 00 21", hex("02 03 06 21 00 D7 03")),
+        (Stage::Rate, "9A 00 21", hex(acknowledged)),
+        (Stage::Rate, "9A 00 21", hex("02 03 06 20 00")),
+        (Stage::Rate, "9A 00 21", hex("03 06 20 00 D7 03")),
+        (Stage::Rate, "9A 00 21", hex("02 01 05 FA 03")),
+        (Stage::Signature, "C0", hex(acknowledged)),
+        (
+            Stage::Signature,
+            "C0",
+            [hex(acknowledged), signature].concat(),
+        ),
+    ] {
+        let failure = failure(stage, Some(&heard)).unwrap();
+        let why = match failure.cause {
+            Cause::Unreadable => ", unreadable",
+            _ => "",
+        };
+        let (asked, heard) = (hex_line(&command(asked)), hex_line(&heard));
+        let fault = in_words(in_numbers(failure.fault));
+        text += &format!("{asked} <- {heard}{why}{fault}\n");
+    }
+    assert_eq!(std::fs::read_to_string(EXPECTED).unwrap(), text);
 }
