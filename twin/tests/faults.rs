@@ -3,13 +3,15 @@
 
 mod common;
 
+use std::process::Command;
+
 use common::flow::signature_of;
 use common::*;
 use twin::chip::{Event, Phase};
 use twin::dock::{answer, ask, start, timeout};
 use twin::dock::{Cause, Failure, Job, Stage, State};
 use twin::frame::{read_reply, Fault};
-use twin::replay::{hex_line, replay_part};
+use twin::replay::{events, hex_line, judge_record, replay_part, Player, RECORD};
 
 const NONE: (u8, u16) = (0, 0);
 const LEN: (u8, u16) = (3, 1);
@@ -840,4 +842,49 @@ fn the_example_prints_what_is_written_down() {
         text += &format!("{asked} <- {heard}{why}{fault}\n");
     }
     assert_eq!(std::fs::read_to_string(EXPECTED).unwrap(), text);
+}
+
+// The samples: captures/faults-of-*.txt
+
+const CAPTURES: &str = concat!(env!("CARGO_MANIFEST_DIR"), "/../captures");
+
+/// The place that a line's comment gives, as "byte 259: 15h 15h"; 0 where it gives none.
+fn place_said(line: &str) -> u16 {
+    let said = line.split_once(", byte ").and_then(|(_, rest)| {
+        let (place, _) = rest.split_once(':')?;
+        place.parse().ok()
+    });
+    said.unwrap_or(0)
+}
+
+/// What the texts say of their frames is what is told of them.
+#[test]
+fn the_samples_say_which_byte_is_wrong() {
+    for name in ["faults-of-commands", "faults-of-data"] {
+        let path = format!("{CAPTURES}/{name}.txt");
+        let made = Command::new(format!("{CAPTURES}/make"))
+            .arg(&path)
+            .output()
+            .unwrap();
+        assert!(made.status.success());
+        let mut player = Player::fresh();
+        let told: Vec<u16> = made
+            .stdout
+            .chunks(RECORD)
+            .flat_map(|record| events(judge_record(record.try_into().unwrap()).unwrap()))
+            .map(|event| player.hear(event))
+            .filter(|reply| reply.frames > 0)
+            .map(|reply| in_numbers(reply.fault).1)
+            .collect();
+        // Each frame is a line; the mode byte is the first of them, and is not answered.
+        let text = std::fs::read_to_string(&path).unwrap();
+        let said: Vec<u16> = text
+            .lines()
+            .filter(|line| !line.starts_with('#') && !line.starts_with("gap"))
+            .skip(1)
+            .map(place_said)
+            .collect();
+        assert_eq!(told, said, "{name}");
+        assert!(said.contains(&259) && said.contains(&258) && said.contains(&1));
+    }
 }
