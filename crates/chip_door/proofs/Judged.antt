@@ -1,7 +1,7 @@
 -- A call that is judged by its number on the part without its names: refused with that number, or accepted and written where the state lies.
 -- Assumes nothing.
 use mathlib.Core.Bool.{Bool, true}
-use mathlib.Core.List.{List, [], _∷_}
+use mathlib.Core.List.{List}
 use mathlib.Core.Path.{_∙_, _≡_, ap, sym}
 use Prim.Native.Nat.{_<_, ℕ}
 use lib.ListN.{getD, length}

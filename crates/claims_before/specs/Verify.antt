@@ -1,6 +1,6 @@
 -- Document 02, §2, "Verify tells us too early": 13h's rule before it, as it was; the inputs on which the two rules differ, with what is said there under each;
 -- and that on all other inputs every byte is as under the rule before.
-use mathlib.Core.Bool.{Bool, false, not, true}
+use mathlib.Core.Bool.{false, not, true}
 use mathlib.Core.List.{List, [], _∷_}
 use mathlib.Core.Path.{_≡_}
 use Prim.Native.Nat.{_+_, ℕ}

@@ -1,7 +1,7 @@
 -- Which answers are readable has not changed, an unreadable one has the fault of its first faulty frame, and a failure names a fault exactly where its cause is
 -- unreadable: specs/Faults.
 -- Assumes nothing.
-use mathlib.Core.Bool.{Bool, false, not, true, true≢false}
+use mathlib.Core.Bool.{Bool, false, true, true≢false}
 use mathlib.Core.List.{List, [], _∷_}
 use mathlib.Core.Path.{_∙_, _≡_, ap, refl, sym}
 use Prim.Native.Nat.{_+_, _-_, _≤_, ℕ}
@@ -17,27 +17,24 @@ use Rattle.claims_frame.proofs.Faults.{reply-place-is, judged-as-before}
 use Rattle.claims_frame.specs.Faults.{BlamedReply, goodBefore, judgeBefore}
 use Rattle.commands.specs.Commands.{comOf}
 use Rattle.dock_answer.specs.Answer.{deciding, inFirst, judgeAnswer, judgeFrames, matching, noneLeft, readAnswer, shape, statuses}
-use Rattle.dock_answer.specs.declared.Decoded.{Decoded}
 use Rattle.dock_answer.specs.declared.Decoded.the-variants.{Garbled, Said}
 use Rattle.dock_answer.specs.declared.Form.{Form}
 use Rattle.dock_answer.specs.declared.Form.the-variants.{OfLastPage, OfPage, OneStatus, WithRate, WithSignature}
-use Rattle.dock_flow.specs.Flow.{Heard, afterAnswer, afterHeard, afterSetup, afterStatus, afterWork, answered, blockFrom, fails, firstStage, flow, inBlock, leads}
+use Rattle.dock_flow.specs.Flow.{Heard, afterAnswer, afterHeard, afterSetup, afterStatus, afterWork, answered, blockFrom, firstStage, flow, inBlock}
 use Rattle.dock_flow.specs.Flow.{next, placeAfter, retried, saysNotBlank, setupFrom, silence}
 use Rattle.dock_flow.specs.Frames.{lastPage, queryAt}
 use Rattle.dock_flow.specs.declared.Turned.{Turned}
 use Rattle.dock_job.specs.Job.{blocksOf, isOver, setup}
-use Rattle.dock_job.specs.declared.Cause.{Cause}
-use Rattle.dock_job.specs.declared.Cause.the-variants.{Mismatch, TimedOut, UnexpectedStatus, Unreadable}
-use Rattle.dock_job.specs.declared.Ending.the-variants.{Failed, Finished}
 use Rattle.dock_job.specs.declared.Job.{Job}
 use Rattle.dock_job.specs.declared.Setup.{Setup}
 use Rattle.dock_job.specs.declared.Stage.{Stage}
 use Rattle.dock_job.specs.declared.Stage.the-variants.{InBlock, Over, SetUp}
 use Rattle.dock_job.specs.declared.Work.{Work}
 use Rattle.dock_job.specs.declared.Work.the-variants.{Blank, Erase, Program, ProgramPage, VerifyBlock, VerifyPage}
+use Rattle.frame.proofs.Laws.Frame.{frame-counted}
 use Rattle.frame.proofs.Laws.Judgement.{good-is, is-good}
 use Rattle.frame.proofs.Laws.Wire.{fit-counted, unfit-over}
-use Rattle.frame.specs.Frame.{counted, headerByte, isFrame}
+use Rattle.frame.specs.Frame.{counted, headerByte}
 use Rattle.frame.specs.Judgement.{isGood, judgeOf}
 use Rattle.frame.specs.Wire.{judgeReply, unfitReply}
 use Rattle.frame.specs.declared.Footer.the-variants.{Last}
@@ -101,10 +98,8 @@ carries-carried n bs c =
 
 -- It has come whole.
 carries-long : (n : ℕ) (bs : List ℕ) → Carries n bs → n + 4 ≤ length bs
-unfolding isFrame
 carries-long n bs c =
-    let w = good-is Last (take (n + 4) bs) (is-good _ (c .judged)) .frame in
-    let e : length (take (n + 4) bs) ≡ counted (getD (take (n + 4) bs) 1 0) + 4 = eqb-true _ _ (and-right _ _ w) in
+    let e : length (take (n + 4) bs) ≡ counted (getD (take (n + 4) bs) 1 0) + 4 = frame-counted _ (good-is Last (take (n + 4) bs) (is-good _ (c .judged)) .frame) in
     let g : getD (take (n + 4) bs) 1 0 ≡ getD bs 1 0 = getD-take (n + 4) bs 1 0 (omega arith) in
     let k : counted (getD (take (n + 4) bs) 1 0) ≡ n = ap counted g ∙ c .counts in
     omega (arith, length-take (n + 4) bs)
@@ -151,9 +146,9 @@ frames-as-before n (m ∷ ns) bs (more h f) =
     ∙ ap (λ (x : Bool). x and isGood (judgeFrames (m ∷ ns) (drop (n + 4) bs))) (reply-carries n false bs h ∙ and-true (eqb (carriedBefore bs) n))
     ∙ ap (λ (x : Bool). eqb (carriedBefore bs) n and x) (frames-as-before m ns (drop (n + 4) bs) f)
 
-shape-filled : (f : Form) (s t : ℕ) (bs : List ℕ) → isGood (judgeFrames (shape f s t) bs) ≡ exactlyBefore (shape f s t) bs
+shape-as-before : (f : Form) (s t : ℕ) (bs : List ℕ) → isGood (judgeFrames (shape f s t) bs) ≡ exactlyBefore (shape f s t) bs
 unfolding shape
-shape-filled f s t bs = go f
+shape-as-before f s t bs = go f
   where
     Same : List ℕ → Type 0
     Same ns = isGood (judgeFrames ns bs) ≡ exactlyBefore ns bs
@@ -173,7 +168,7 @@ shape-filled f s t bs = go f
 
 pub readable-as-before : ReadableAsBefore
 unfolding judgeAnswer readableBefore
-readable-as-before f bs = shape-filled f (inFirst 0 bs) (inFirst 1 bs) bs
+readable-as-before f bs = shape-as-before f (inFirst 0 bs) (inFirst 1 bs) bs
 
 pub decoded-as-before : DecodedAsBefore
 unfolding readAnswer decodedBefore

@@ -1,12 +1,12 @@
 -- What a readable answer is, frame by frame: laws for the claims about answers.
 -- Assumes nothing.
 use mathlib.Core.Bool.{Bool, false, true, true≢false}
-use mathlib.Core.List.{List, [], _∷_}
+use mathlib.Core.List.{List, _∷_}
 use mathlib.Core.Path.{_∙_, _≡_, ap, refl, sym}
 use Prim.Native.Nat.{_+_, _-_, _≤_, ℕ}
 use native.Mathlib.Decide.{ℕ-discrete}
 use native.Mathlib.Omega.{arith}
-use lib.Dec.{eqb, ltb}
+use lib.Dec.{ltb}
 use lib.ListN.{drop, getD, length, take}
 use borrow.Author.Tests.{ltb-false}
 use Rattle.dock_answer.specs.Answer.{judgeFrames, noneLeft}
@@ -18,7 +18,6 @@ use Rattle.frame.specs.declared.Footer.the-variants.{Last}
 use Rattle.frame.specs.declared.Header.the-variants.{Data}
 use Rattle.frame.specs.declared.judgement.Judgement.{Judgement}
 use Rattle.frame.specs.declared.judgement.Judgement.the-variants.{Good, UnfitLength, WrongFirst, WrongFooter, WrongSum}
-use Rattle.words.proofs.Laws.{and-left, and-right}
 use Rattle.words.specs.Words.{_and_, if_then_else_}
 
 -- A good reply frame: its first byte is 02h, its LEN fits, and footer and SUM are right.

@@ -1,14 +1,14 @@
 -- A dock knows the end of an answer without a clock: of a readable answer every proper front wants more and the whole wants none, and no answer wants more
 -- than 31 bytes in all. Document 01, "The dock's flow".
 -- Assumes nothing.
-use mathlib.Core.Bool.{Bool, false, true}
+use mathlib.Core.Bool.{false, true}
 use mathlib.Core.List.{List, [], _∷_}
-use mathlib.Core.Path.{_∙_, _≡_, ap, refl, sym}
+use mathlib.Core.Path.{_∙_, _≡_, refl, sym}
 use Prim.Native.Nat.{_+_, _-_, _<_, _≤_, ℕ}
 use native.Mathlib.Decide.{decLt}
 use native.Mathlib.Omega.{arith}
 use lib.Dec.{eqb}
-use lib.ListN.{drop, getD, length, length-drop, take}
+use lib.ListN.{drop, length, length-drop, take}
 use lib.Seq.{getD-take, length-take-le}
 use Rattle.dock.specs.Calls.{wantsBy, wantsOf}
 use Rattle.claims_dock.proofs.Readable.{fit-whole, frames-good, reply-is}
@@ -26,7 +26,7 @@ use Rattle.frame.specs.Judgement.{isGood}
 use Rattle.part.specs.declared.refusal.Verdict.{Verdict}
 use Rattle.part.specs.declared.refusal.Verdict.the-variants.{Accepted, Refused}
 use Rattle.words.proofs.Laws.{and-left, and-right, if-both}
-use Rattle.words.specs.Words.{_and_, if_then_else_}
+use Rattle.words.specs.Words.{_and_}
 
 -- Frames that are good, one behind the other with nothing after the last, are as long as their shape.
 frames-long : (n : ℕ) (ns bs : List ℕ) → isGood (judgeFrames (n ∷ ns) bs) ≡ true → length bs ≡ long (n ∷ ns)

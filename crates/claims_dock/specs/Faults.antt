@@ -11,7 +11,7 @@ use Rattle.dock_answer.specs.Answer.{deciding, inFirst, judgeAnswer, judgeFrame
 use Rattle.dock_answer.specs.declared.Decoded.{Decoded}
 use Rattle.dock_answer.specs.declared.Decoded.the-variants.{Garbled, Said}
 use Rattle.dock_answer.specs.declared.Form.{Form}
-use Rattle.dock_flow.specs.Flow.{afterHeard, answered, fails, flow, Heard}
+use Rattle.dock_flow.specs.Flow.{Heard, afterHeard, answered, fails, flow}
 use Rattle.dock_flow.specs.Frames.{queryAt}
 use Rattle.dock_job.specs.Job.{isOver}
 use Rattle.dock_job.specs.declared.Cause.{Cause}

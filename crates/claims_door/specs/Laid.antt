@@ -1,6 +1,6 @@
 -- A chip's state as it lies in its 294 bytes, place by place, as include/door.h has it: reading and writing back hold for any order of the fields, and this is the order.
 -- And which bytes are no state by the last one (document 02, §2). A dock's in its 26 bytes, and which are no state by their last three (document 02, §4).
-use mathlib.Core.Bool.{Bool, false, true}
+use mathlib.Core.Bool.{false, true}
 use mathlib.Core.List.{List, [], _++_, _∷_}
 use mathlib.Core.Path.{_≡_}
 use Prim.Native.Nat.{ℕ}

@@ -9,37 +9,23 @@ use native.Mathlib.Omega.{arith}
 use lib.Dec.{eqb, ltb}
 use lib.ListN.{getD, length, take}
 use lib.Seq.{getD-take, length-take-le}
-use borrow.Author.Tests.{eq-eqb, eqb-false, eqb-true, le-leb, lt-ltb, ltb-true}
+use borrow.Author.Tests.{eqb-false, eqb-true, lt-ltb, ltb-true, not-false, not-true}
 use Rattle.claims_frame.specs.Faults.{AsJudgedBefore, Blamed, BlamedOf, BlamedReply, DataPlaceIs, DataJudgedAsBefore, PlaceIs, PlacesReach, ReplyPlaceIs}
 use Rattle.claims_frame.specs.Faults.{Unfit, FrameJudgedAsBefore, absent, another, before, cut, first, fits, fittingBefore, footer, footerPlace, frame}
 use Rattle.claims_frame.specs.Faults.{JudgedBefore, goodBefore, judgeBefore, len, nothing, otherLen, overlong, statusBefore, sum, sumPlace, unfit}
 use Rattle.claims_frame.specs.Faults.{good, unfitLength, wrongFooter, wrongSum}
-use Rattle.frame.proofs.Laws.Frame.{counted-small, counted-some}
+use Rattle.frame.proofs.Laws.Frame.{counted-frame, counted-small, frame-counted}
 use Rattle.frame.proofs.Laws.Wire.{fit-counted, fit-long, unfit-over}
 use Rattle.frame.specs.Frame.{counted, footerByte, headerByte, isFrame}
 use Rattle.frame.specs.Judgement.{faultOf, fitting, isGood, judgeOf, summed}
 use Rattle.frame.specs.Sum.{sumOf}
 use Rattle.frame.specs.Wire.{judgeReply, unfitReply}
-use Rattle.frame.specs.declared.Footer.{Footer}
 use Rattle.frame.specs.declared.Footer.the-variants.{Last}
 use Rattle.frame.specs.declared.Header.the-variants.{Data}
 use Rattle.frame.specs.declared.judgement.Judgement.{Judgement}
 use Rattle.frame.specs.declared.judgement.Judgement.the-variants.{Good, UnfitLength, WrongFirst, WrongFooter, WrongSum}
 use Rattle.words.proofs.Laws.{and-both, and-left, and-right, if-all}
-use Rattle.words.specs.Words.{_and_, _or_, if_then_else_}
-
-frame-is : (bs : List ℕ) → isFrame bs ≡ true → length bs ≡ counted (getD bs 1 0) + 4
-unfolding isFrame
-frame-is bs t = eqb-true _ _ (and-right _ _ t)
-
--- A test passed or not, as its equation says.
-not-true : (t : Bool) → not t ≡ true → t ≡ false
-not-true true e = absurd (true≢false (sym e))
-not-true false e = refl
-
-not-false : (t : Bool) → not t ≡ false → t ≡ true
-not-false true e = refl
-not-false false e = absurd (true≢false e)
+use Rattle.words.specs.Words.{_and_, if_then_else_}
 
 pub place-is : PlaceIs
 unfolding judgeOf
@@ -47,7 +33,7 @@ place-is f bs =
     if-all (Blamed f bs) (not (isFrame bs)) (λ u. len (not-true _ u))
     (λ u.
     let w : isFrame bs ≡ true = not-false _ u in
-    let l : length bs ≡ counted (getD bs 1 0) + 4 = frame-is bs w in
+    let l : length bs ≡ counted (getD bs 1 0) + 4 = frame-counted bs w in
     let a : length bs - 1 ≡ footerPlace bs = omega arith in
     let b : length bs - 2 ≡ sumPlace bs = omega arith in
     rw (a, b)
@@ -66,7 +52,7 @@ data-place-is n f bs = go (judgeOf f bs) (place-is f bs)
 
     fitted : (b : Blamed f bs Good) → BlamedOf n f bs (if not (eqb (length bs) (n + 4)) then UnfitLength else Good)
     fitted b =
-        let l : length bs ≡ counted (getD bs 1 0) + 4 = frame-is bs (good-frame b) in
+        let l : length bs ≡ counted (getD bs 1 0) + 4 = frame-counted bs (good-frame b) in
         if-all (BlamedOf n f bs) (not (eqb (length bs) (n + 4)))
         (λ u. otherLen b (λ e. eqb-false (length bs) (n + 4) (not-true _ u) (omega arith)))
         (λ u. let e : length bs ≡ n + 4 = eqb-true _ _ (not-false _ u) in fits b (omega arith))
@@ -110,13 +96,12 @@ fit-is n last bs u (overlong e h) =
 
 -- The frame that LEN counts at the front of what came.
 front-frame : (n : ℕ) (last : Bool) (bs : List ℕ) → unfitReply n last bs ≡ false → isFrame (take (n + 4) bs) ≡ true
-unfolding isFrame
 front-frame n last bs u =
     let long : n + 4 ≤ length bs = fit-long n last bs u in
     let l : length (take (n + 4) bs) ≡ n + 4 = length-take-le (n + 4) bs long in
     let g : getD (take (n + 4) bs) 1 0 ≡ getD bs 1 0 = getD-take (n + 4) bs 1 0 (omega arith) in
     let c : counted (getD (take (n + 4) bs) 1 0) ≡ n = ap counted g ∙ fit-counted n last bs u in
-    and-both (le-leb 2 (length (take (n + 4) bs)) (omega arith)) (eq-eqb (length (take (n + 4) bs)) (counted (getD (take (n + 4) bs) 1 0) + 4) (omega arith))
+    counted-frame (take (n + 4) bs) (omega arith)
 
 pub reply-place-is : ReplyPlaceIs
 unfolding judgeReply

@@ -10,7 +10,8 @@ use native.Mathlib.Omega.{arith}
 use lib.Dec.{eqb, ltb}
 use lib.ListN.{drop, getD, length, length-append, take}
 use lib.Seq.{drop-at, getD-append-add, getD-append-seam, take-append-seam, take-at}
-use borrow.Author.Tests.{eq-eqb, le-leb, le-ltb, lt-ltb, ne-eqb}
+use borrow.Author.Tests.{le-ltb, lt-ltb, ne-eqb}
+use Rattle.frame.proofs.Laws.Frame.{counted-frame}
 use Rattle.frame.proofs.Laws.Judgement.{judged-good}
 use Rattle.frame.proofs.Laws.Wire.{framed-long, reply-judged, unfit-over}
 use Rattle.frame.specs.Frame.{counted, dataFrame, footerByte, framed, headerByte, isFrame, lenByte}
@@ -22,7 +23,6 @@ use Rattle.frame.specs.declared.Footer.the-variants.{Last}
 use Rattle.frame.specs.declared.Header.{Header}
 use Rattle.frame.specs.declared.Header.the-variants.{Data}
 use Rattle.frame.specs.declared.judgement.Judgement.the-variants.{Good}
-use Rattle.words.proofs.Laws.{and-both}
 use Rattle.words.specs.Words.{_and_, if_then_else_}
 
 pub counted-len : (n : ℕ) → 1 ≤ n → n ≤ 256 → counted (lenByte n) ≡ n
@@ -59,11 +59,10 @@ framed-summed h ds f =
 -- A written frame is one complete frame, and good where its own footer is expected.
 module _ (h : Header) (ds : List ℕ) (f : Footer) (some : 1 ≤ length ds) (most : length ds ≤ 256) where
   pub framed-whole : isFrame (framed h ds f) ≡ true
-  unfolding isFrame
   framed-whole =
       let l : length (framed h ds f) ≡ length ds + 4 = framed-long h ds f in
       let c : counted (getD (framed h ds f) 1 0) ≡ length ds = ap counted (framed-len h ds f) ∙ counted-len (length ds) some most in
-      and-both (le-leb 2 (length (framed h ds f)) (omega arith)) (eq-eqb (length (framed h ds f)) (counted (getD (framed h ds f) 1 0) + 4) (omega arith))
+      counted-frame (framed h ds f) (omega arith)
 
   pub framed-good : judgeOf f (framed h ds f) ≡ Good
   unfolding summed

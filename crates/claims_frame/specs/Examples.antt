@@ -4,7 +4,7 @@ use mathlib.Core.Bool.{Bool, false, true}
 use mathlib.Core.List.{List, [], _++_, _∷_}
 use Prim.Native.Nat.{ℕ}
 use lib.ListN.{replicate}
-use Rattle.frame.specs.Judgement.{fault, faultOf, fitting, judgeOf, statusOf}
+use Rattle.frame.specs.Judgement.{fault, fitting, judgeOf, statusOf}
 use Rattle.frame.specs.Sum.{sumOf}
 use Rattle.frame.specs.Wire.{judgeReply}
 use Rattle.frame.specs.declared.Footer.the-variants.{Last, More}

@@ -28,7 +28,6 @@ use Rattle.chip_reply.specs.Reply.{faultIn, framesOf, payloads}
 use Rattle.chip_reply.specs.declared.Reply.{Reply}
 use Rattle.chip_reply.specs.declared.Reply.the-variants.{BadFrame, BadPage, LastStored, Pair, Rate, Security, Signature, Silence, Status, Sum}
 use Rattle.chip_work.specs.Work.{blankCheck, blockErase, checksum, programming, rateSet, securityRelease, verify}
-use Rattle.claims_fed.specs.Fed.{does}
 use Rattle.claims_frame.specs.Collecting.{collectsOn, take-up}
 use Rattle.claims_good.proofs.Rooms.{leaves, reactionOf, says-reaction, utteranceOf}
 use Rattle.claims_good.proofs.Stays.{stays}
@@ -51,7 +50,7 @@ use Rattle.part.specs.declared.Place.the-variants.{In, Outside}
 use Rattle.part.specs.declared.Range.{Range}
 use Rattle.part.specs.declared.Range.the-variants.{Bad, Blocks}
 use Rattle.words.proofs.Laws.{if-all}
-use Rattle.words.specs.Words.{_and_, _or_, if_then_else_}
+use Rattle.words.specs.Words.{_and_, if_then_else_}
 
 -- A claim about two choices by one test.
 pub if-two : {A B : Type 0} (P : A → B → Type 0) (t : Bool) {a c : A} {b d : B} → (t ≡ true → P a b) → (t ≡ false → P c d)

@@ -1,9 +1,8 @@
 -- What is remembered of a difference, and who looks at it: document 02, §2, "The awaited-data record must remember whether a difference has occurred."
 use mathlib.Core.Bool.{Bool, false, true}
-use mathlib.Core.List.{List, [], _∷_}
+use mathlib.Core.List.{List}
 use mathlib.Core.Logic.{_≢_}
 use mathlib.Core.Path.{_≡_}
-use Prim.Native.Nat.{ℕ}
 use Rattle.chip.specs.Run.{answers, onward, run}
 use Rattle.chip.specs.Step.{Outcome}
 use Rattle.chip.specs.declared.Event.{Event}

@@ -1,6 +1,6 @@
 -- How a dock's state crosses the door as bytes: one layout of 26 bytes. Numbers cross as the crate `numbers` says.
 use mathlib.Core.Bool.{Bool}
-use mathlib.Core.List.{List, [], _++_, _∷_}
+use mathlib.Core.List.{List, _++_, _∷_}
 use Prim.Native.Nat.{ℕ}
 use lib.Dec.{eqb, ltb}
 use lib.ListN.{getD}

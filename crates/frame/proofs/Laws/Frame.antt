@@ -8,7 +8,7 @@ use native.Mathlib.Omega.{arith}
 use lib.Dec.{eqb, leb, ltb}
 use lib.ListN.{drop, getD, length, length-append, length-drop, take}
 use lib.Seq.{drop-length, getD-drop, getD-take, length-take-le, take-append-seam, take-nil}
-use borrow.Author.Tests.{eqb-false, eqb-true, le-leb, le-ltb, leb-false, leb-true, lt-leb, lt-ltb, ltb-false, ltb-true}
+use borrow.Author.Tests.{eq-eqb, eqb-false, eqb-true, le-leb, le-ltb, leb-false, leb-true, lt-leb, lt-ltb, ltb-false, ltb-true}
 use Rattle.frame.specs.Frame.{counted, footerByte, framed, full, isFrame, lackingOf, lenByte, overhead, payload}
 use Rattle.frame.specs.Sum.{sumOf}
 use Rattle.frame.specs.declared.Footer.{Footer}
@@ -73,9 +73,17 @@ payload-framed h ds f =
     let n : suc (suc (length (ds ++ sumOf (lenByte (length ds) ∷ ds) ∷ footerByte f ∷ []))) - 4 ≡ length ds = omega arith in
     rw n (take-append-seam ds _)
 
-pub frame-payload : (bs : List ℕ) → isFrame bs ≡ true → length (payload bs) ≡ counted (getD bs 1 0)
+-- One complete frame has as many bytes as its LEN asks for, and no other bytes are one.
+pub frame-counted : (bs : List ℕ) → isFrame bs ≡ true → length bs ≡ counted (getD bs 1 0) + 4
 unfolding isFrame
-frame-payload bs e = payload-long bs ∙ (let n : length bs ≡ counted (getD bs 1 0) + 4 = eqb-true _ _ (and-right _ _ e) in omega arith)
+frame-counted bs t = eqb-true _ _ (and-right _ _ t)
+
+pub counted-frame : (bs : List ℕ) → length bs ≡ counted (getD bs 1 0) + 4 → isFrame bs ≡ true
+unfolding isFrame
+counted-frame bs e = and-both (le-leb 2 (length bs) (omega arith)) (eq-eqb (length bs) (counted (getD bs 1 0) + 4) e)
+
+pub frame-payload : (bs : List ℕ) → isFrame bs ≡ true → length (payload bs) ≡ counted (getD bs 1 0)
+frame-payload bs e = payload-long bs ∙ (let n : length bs ≡ counted (getD bs 1 0) + 4 = frame-counted bs e in omega arith)
 
 -- As the code lends it: the part from 2 up to SUM, or an empty one.
 pub payload-part : (bs : List ℕ) → 4 ≤ length bs → take (length bs - 2 - 2) (drop 2 bs) ≡ payload bs

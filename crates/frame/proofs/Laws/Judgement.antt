@@ -8,24 +8,21 @@ use native.Mathlib.Omega.{arith}
 use lib.Dec.{eqb}
 use lib.ListN.{drop, getD, length, take}
 use borrow.Author.Tests.{eq-eqb, eqb-true, ne-eqb}
-use Rattle.frame.proofs.Laws.Frame.{counted-small, counted-some}
+use Rattle.frame.proofs.Laws.Frame.{counted-small, counted-some, frame-counted}
 use Rattle.frame.specs.Frame.{counted, footerByte, isFrame}
 use Rattle.frame.specs.Judgement.{isGood, judgeOf, summed}
 use Rattle.frame.specs.Sum.{lessAll, sumOf}
 use Rattle.frame.specs.declared.Footer.{Footer}
 use Rattle.frame.specs.declared.judgement.Judgement.{Judgement}
 use Rattle.frame.specs.declared.judgement.Judgement.the-variants.{Good, UnfitLength, WrongFirst, WrongFooter, WrongSum}
-use Rattle.words.proofs.Laws.{and-right}
 use Rattle.words.specs.Words.{if_then_else_}
 
 pub frame-long : (bs : List ℕ) → isFrame bs ≡ true → 5 ≤ length bs
-unfolding isFrame
-frame-long bs t = let e : length bs ≡ counted (getD bs 1 0) + 4 = eqb-true _ _ (and-right _ _ t) in omega (arith, counted-some (getD bs 1 0))
+frame-long bs t = let e : length bs ≡ counted (getD bs 1 0) + 4 = frame-counted bs t in omega (arith, counted-some (getD bs 1 0))
 
 -- The places of a frame's footer and SUM: at most 259 and 258.
 pub frame-short : (bs : List ℕ) → isFrame bs ≡ true → getD bs 1 0 < 256 → length bs ≤ 260
-unfolding isFrame
-frame-short bs t b = let e : length bs ≡ counted (getD bs 1 0) + 4 = eqb-true _ _ (and-right _ _ t) in omega (arith, counted-small (getD bs 1 0) b)
+frame-short bs t b = let e : length bs ≡ counted (getD bs 1 0) + 4 = frame-counted bs t in omega (arith, counted-small (getD bs 1 0) b)
 
 pub summed-part : (bs : List ℕ) → lessAll 256 0 (take (length bs - 2 - 1) (drop 1 bs)) ≡ sumOf (summed bs)
 unfolding sumOf summed

@@ -2,18 +2,16 @@
 -- Assumes nothing.
 use mathlib.Core.Bool.{Bool, false, true, true≢false}
 use mathlib.Core.List.{List, [], _++_, _∷_, append-assoc}
-use mathlib.Core.Path.{_∙_, _≡_, ap, refl}
+use mathlib.Core.Path.{_∙_, _≡_, ap}
 use Prim.Native.Nat.{_+_, _-_, _<_, _≤_, ℕ}
 use native.Mathlib.Decide.{decLe, ℕ-discrete}
 use native.Mathlib.Omega.{arith}
-use lib.Dec.{eqb, leb, ltb}
+use lib.Dec.{ltb}
 use lib.ListN.{drop, getD, length, length-append, take}
-use lib.Seq.{take-all}
 use borrow.Author.Tests.{eq-eqb, le-leb, le-ltb, lt-leb, lt-ltb, ne-eqb}
-use Rattle.frame.proofs.Laws.Judgement.{judged-unfit}
 use Rattle.frame.proofs.Laws.Sum.{sum-join}
-use Rattle.frame.specs.Frame.{counted, footerByte, framed, headerByte, isFrame, lenByte}
-use Rattle.frame.specs.Judgement.{isGood, judgeOf}
+use Rattle.frame.specs.Frame.{counted, footerByte, framed, headerByte, lenByte}
+use Rattle.frame.specs.Judgement.{judgeOf}
 use Rattle.frame.specs.Sum.{less, lessAll, sumOf}
 use Rattle.frame.specs.Wire.{Writing, judgeReply, laid, unfitReply, writeOf, wrote}
 use Rattle.frame.specs.declared.Footer.{Footer}
@@ -21,7 +19,7 @@ use Rattle.frame.specs.declared.Footer.the-variants.{Last}
 use Rattle.frame.specs.declared.Header.{Header}
 use Rattle.frame.specs.declared.Header.the-variants.{Data}
 use Rattle.frame.specs.declared.judgement.Judgement.{Judgement}
-use Rattle.frame.specs.declared.judgement.Judgement.the-variants.{Good, UnfitLength, WrongFirst}
+use Rattle.frame.specs.declared.judgement.Judgement.the-variants.{UnfitLength, WrongFirst}
 use Rattle.frame.specs.declared.wire.Wrote.{Wrote}
 use Rattle.frame.specs.declared.wire.Wrote.the-variants.{Long, NoRoom, UnfitPayload}
 use Rattle.lent.proofs.Laws.{Written}
