@@ -10,6 +10,16 @@ use door::{Job, Part, Report, Told, DOCK, FRAME_ROOM, ROOM, STATE, SUMS};
 const NAMES: &[u8; door::NAMES] = b"\x10\x00\x06R5F100LE  \x01\x02\x03";
 const MODE_BYTE: u8 = 0x3A;
 
+/// The first bytes as hex, and two dots where there are more.
+pub fn hex(bytes: &[u8], most: usize) -> String {
+    let shown: Vec<String> = bytes
+        .iter()
+        .take(most)
+        .map(|byte| format!("{byte:02X}"))
+        .collect();
+    shown.join(" ") + if bytes.len() > most { " .." } else { "" }
+}
+
 /// A chip's part and state, with its flash, sums and reply room.
 pub struct Chip {
     pub part: Part,

@@ -4,7 +4,7 @@
 mod bench;
 
 use bench::door::{self, Job, DOCK, FRAME_ROOM};
-use bench::{fault_text, must, Chip};
+use bench::{fault_text, hex, must, Chip};
 
 /// Code block 6.
 const START: usize = 0x1800;
@@ -14,15 +14,6 @@ fn bytes(text: &str) -> Vec<u8> {
     text.split(' ')
         .map(|pair| u8::from_str_radix(pair, 16).expect("a byte of two hex digits"))
         .collect()
-}
-
-fn hex(bytes: &[u8], most: usize) -> String {
-    let shown: Vec<String> = bytes
-        .iter()
-        .take(most)
-        .map(|byte| format!("{byte:02X}"))
-        .collect();
-    shown.join(" ") + if bytes.len() > most { " .." } else { "" }
 }
 
 /// A frame to the chip, after a pause: what it says, and what is told of the frame.

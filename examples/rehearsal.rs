@@ -4,19 +4,10 @@
 mod bench;
 
 use bench::door::{self, Job, DOCK};
-use bench::{must, print_end, rehearse, Chip};
+use bench::{hex, must, print_end, rehearse, Chip};
 
 const START: usize = 0x1800;
 const END: usize = 0x1FFF;
-
-fn hex(bytes: &[u8], most: usize) -> String {
-    let shown: Vec<String> = bytes
-        .iter()
-        .take(most)
-        .map(|byte| format!("{byte:02X}"))
-        .collect();
-    shown.join(" ") + if bytes.len() > most { " .." } else { "" }
-}
 
 fn main() {
     let mut chip = Chip::taken_up(vec![0x5A; 1024 * 16], vec![0xFF; 1024 * 4]);

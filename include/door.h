@@ -6,8 +6,8 @@
  * bytes.
  *
  * Lengths and the numbers told are 64 bits on every processor, so that firmware of 32 bits and a page in wasm link the same module. There is no state but
- * what is lent: calls on different states may run at once, in interrupts too. Stack, measured by painting it over a rehearsed job and a replay (64-bit Arm): 5.7 kB
- * for zc_replay, 4.1 kB for zc_feed, 3.1 kB for the other events, under 0.7 kB for zc_fresh, zc_sums and the dock's calls.
+ * what is lent: calls on different states may run at once, in interrupts too. Stack, measured by painting it over a rehearsed job and a replay (64-bit Arm): 4.6 kB
+ * for zc_replay, 3.6 kB for zc_feed, 2.9 kB for the other events, 0.8 kB for the dock's calls, under 0.1 kB for zc_fresh and zc_sums.
  *
  * A part is ZC_PART bytes, a job ZC_JOB bytes beside its part and an image as long as its range; zc_part and zc_job below write them:
  *     part: 0 code blocks   1 data blocks   2 clock   3-5 device code   6-15 name   16-18 firmware version
