@@ -1,8 +1,8 @@
 -- Capture records: document 01, "Replay". What a good record is, over its bytes, and what it carries.
 use mathlib.Core.Bool.{Bool, not}
 use mathlib.Core.List.{List, [], _∷_}
-use Prim.Native.Nat.{_-_, suc, zero, ℕ}
-use lib.Dec.{eqb}
+use Prim.Native.Nat.{_+_, _-_, suc, zero, ℕ}
+use lib.Dec.{eqb, leb}
 use lib.ListN.{drop, getD, length, take}
 use Rattle.replay_capture.specs.declared.Record.{Record}
 use Rattle.replay_capture.specs.declared.Record.the-variants.{BadRecord, BytesRecord, GapRecord}
@@ -55,3 +55,7 @@ recordsIn size (suc most) (b ∷ bs) = take size (b ∷ bs) ∷ recordsIn size m
 -- No capture has more records than bytes.
 unfoldable pub recordsOf : ℕ → List ℕ → List (List ℕ)
 recordsOf size bs = recordsIn size (length bs) bs
+
+-- Where the record that begins at a place of a capture ends, for those who go through it where it lies: at the capture's own end, if that comes sooner.
+unfoldable pub recordEnd : ℕ → ℕ → ℕ → ℕ
+recordEnd size at len = if leb (at + size) len then at + size else len

@@ -2,7 +2,7 @@
 ghost use mathlib.Core.Path.{_≡_};
 ghost use Prim.Native.Nat.{_+_, _≤_};
 ghost use lib.ListN.{length};
-ghost use Rattle.replay_capture.specs.Capture.{bytesRecord, gapRecord, recordOf, recordSize, unused};
+ghost use Rattle.replay_capture.specs.Capture.{bytesRecord, gapRecord, recordEnd, recordOf, recordSize, unused};
 
 // What a record is: a gap, so many bytes, or not good.
 pub enum Record {
@@ -70,4 +70,18 @@ pub fn read(bytes: &[u8]) -> Record
         return Record::BadRecord;
     }
     Record::BadRecord
+}
+
+// Where the record that begins at a place ends, in a capture of len bytes.
+pub fn record_end(at: usize, len: usize) -> usize
+    ensures { λ r. ⌜ r ≡ recordEnd recordSize at len ⌝ }
+{
+    let size = record_size();
+    if len < size {
+        return len;
+    }
+    if len - size < at {
+        return len;
+    }
+    at + size
 }

@@ -1,17 +1,16 @@
 -- How far the loop over a capture's records has come.
 -- Assumes nothing.
 use mathlib.Core.Bool.{false, true}
-use mathlib.Core.List.{List, [], _++_, _∷_, append-nil}
+use mathlib.Core.List.{List, [], _++_, append-nil}
 use mathlib.Core.Path.{_∙_, _≡_, ap, subst, sym}
 use Prim.Native.Nat.{_+_, _-_, _<_, _≤_, ℕ}
-use native.Mathlib.Decide.{decLe}
 use native.Mathlib.Nat.{add-zero}
 use native.Mathlib.Omega.{arith}
 use lib.ListN.{drop, drop-of-length-le, length, length-append, length-drop, take}
-use lib.Seq.{drop-drop, drop-length, length-take-le, take-all}
-use borrow.Author.Tests.{le-ltb, lt-ltb}
-use Rattle.replay_capture.proofs.Laws.{records-is, records-next, records-none}
-use Rattle.replay_capture.specs.Capture.{recordSize, recordsIn}
+use lib.Seq.{length-take-le, take-all}
+use Rattle.replay_capture.proofs.Laws.{records-is, records-none}
+use Rattle.replay_capture.proofs.Records.{end-after, end-within, records-cut}
+use Rattle.replay_capture.specs.Capture.{recordEnd, recordSize, recordsIn}
 use Rattle.part.specs.Part.{Arrays}
 use Rattle.chip_state.specs.declared.Chip.{Chip}
 use Rattle.chip_core.specs.Effect.{Memory}
@@ -28,8 +27,6 @@ use Rattle.replay_records.specs.declared.Ended.the-variants as Ended
 use Rattle.replay_play.specs.declared.RecordEnded.{RecordEnded}
 use Rattle.replay_play.specs.declared.RecordEnded.the-variants.{NotGood, OutputShort, Played}
 use Rattle.replay_play.specs.declared.RecordEnded.the-variants as RecordEnded
-use Rattle.replay_records.specs.inner.Loop.{recordEnd}
-use Rattle.words.specs.Words.{if_then_else_}
 
 -- at bytes of the capture are played, x is what they came to, and t is what the rest makes of it.
 pub record ReplayedFrom (p : Part) (bs : List ℕ) (at : ℕ) (x t : Replaying) : Type 0 where
@@ -56,54 +53,6 @@ replayed-start p bs c m room output =
       rest = sym (ap (λ (rs : List (List ℕ)). replayedFrom p rs x) (records-is recordSize bs));
     }
 
--- The record at a place: where it ends, and its bytes.
-pub end-after : (at len : ℕ) → at < len → at < recordEnd at len
-unfolding recordEnd if_then_else_
-end-after at len h = go (decLe 8 (len - at))
-  where
-    go : Dec (8 ≤ len - at) → at < recordEnd at len
-    go (yes k) = rw (le-ltb (len - at) 8 k) (omega arith)
-    go (no k) = rw (lt-ltb (len - at) 8 (omega arith)) h
-
-pub end-within : (at len : ℕ) → at < len → recordEnd at len ≤ len
-unfolding recordEnd if_then_else_
-end-within at len h = go (decLe 8 (len - at))
-  where
-    go : Dec (8 ≤ len - at) → recordEnd at len ≤ len
-    go (yes k) = rw (le-ltb (len - at) 8 k) (omega arith)
-    go (no k) = rw (lt-ltb (len - at) 8 (omega arith)) (omega arith)
-
-cut-record : (bs : List ℕ) (at : ℕ) → at < length bs → take (recordEnd at (length bs) - at) (drop at bs) ≡ take recordSize (drop at bs)
-unfolding recordEnd if_then_else_
-cut-record bs at h = go (decLe 8 (length bs - at))
-  where
-    go : Dec (8 ≤ length bs - at) → take (recordEnd at (length bs) - at) (drop at bs) ≡ take recordSize (drop at bs)
-    go (yes k) =
-        let e : at + 8 - at ≡ 8 = omega arith in
-        rw (le-ltb (length bs - at) 8 k) (ap (λ (n : ℕ). take n (drop at bs)) e)
-    go (no k) =
-        let l : length (drop at bs) ≡ length bs - at = length-drop at bs in
-        rw (lt-ltb (length bs - at) 8 (omega arith)) (take-all (length bs - at) (drop at bs) (omega arith) ∙ sym (take-all 8 (drop at bs) (omega arith)))
-
-cut-rest : (bs : List ℕ) (at : ℕ) → at < length bs → drop recordSize (drop at bs) ≡ drop (recordEnd at (length bs)) bs
-unfolding recordEnd if_then_else_
-cut-rest bs at h = go (decLe 8 (length bs - at))
-  where
-    go : Dec (8 ≤ length bs - at) → drop recordSize (drop at bs) ≡ drop (recordEnd at (length bs)) bs
-    go (yes k) = rw (le-ltb (length bs - at) 8 k) (drop-drop 8 at bs)
-    go (no k) =
-        let past : length bs ≤ at + 8 = omega arith in
-        rw (lt-ltb (length bs - at) 8 (omega arith)) (drop-drop 8 at bs ∙ drop-of-length-le bs past ∙ sym (drop-length bs))
-
--- The records from a place on: the one there, and the rest.
-records-cut : (most : ℕ) (bs : List ℕ) (at : ℕ) → at < length bs → length (drop at bs) ≤ most
-    → recordsIn recordSize most (drop at bs) ≡ take (recordEnd at (length bs) - at) (drop at bs) ∷ recordsIn recordSize (most - 1) (drop (recordEnd at (length bs)) bs)
-records-cut most bs at h k =
-    let l : length (drop at bs) ≡ length bs - at = length-drop at bs in
-    records-next recordSize most (drop at bs) (omega arith) (omega arith)
-    ∙ ap (λ (l : List ℕ). l ∷ recordsIn recordSize (most - 1) (drop recordSize (drop at bs))) (sym (cut-record bs at h))
-    ∙ ap (λ (l : List ℕ). take (recordEnd at (length bs) - at) (drop at bs) ∷ recordsIn recordSize (most - 1) l) (cut-rest bs at h)
-
 -- The end of the output, lent as a part, goes out and comes back in these forms.
 tail-out : (l : List ℕ) (n : ℕ) → take (length l - n) (drop n l) ≡ drop n l
 tail-out l n = take-all (length l - n) (drop n l) (rw length-drop (omega arith))
@@ -118,18 +67,18 @@ abbrev playAt : Part → List ℕ → ℕ → ℕ → Replaying → RecordPlayin
 playAt p bs at end x =
     playOf p (take (end - at) (drop at bs)) (x .chip) (x .memory) (x .room) (take (length (x .output) - x .bytes) (drop (x .bytes) (x .output)))
 
-record-next : {p : Part} {bs : List ℕ} {at end : ℕ} {x t : Replaying} (u : RecordPlaying) (q : ReplayedFrom p bs at x t) → at < length bs → end ≡ recordEnd at (length bs) → u ≡ playAt p bs at end x
-    → whileWhole (nextBy (u .ended) u x .ended) (replayedFrom p (recordsIn recordSize (q .most - 1) (drop (recordEnd at (length bs)) bs)) (nextBy (u .ended) u x)) (nextBy (u .ended) u x) ≡ t
+record-next : {p : Part} {bs : List ℕ} {at end : ℕ} {x t : Replaying} (u : RecordPlaying) (q : ReplayedFrom p bs at x t) → at < length bs → end ≡ recordEnd recordSize at (length bs) → u ≡ playAt p bs at end x
+    → whileWhole (nextBy (u .ended) u x .ended) (replayedFrom p (recordsIn recordSize (q .most - 1) (drop (recordEnd recordSize at (length bs)) bs)) (nextBy (u .ended) u x)) (nextBy (u .ended) u x) ≡ t
 unfolding replayedFrom
 record-next {p} {bs} {at} {end} {x} {t} u q h g e =
-    let r = take (recordEnd at (length bs) - at) (drop at bs) in
-    let rs = recordsIn recordSize (q .most - 1) (drop (recordEnd at (length bs)) bs) in
+    let r = take (recordEnd recordSize at (length bs) - at) (drop at bs) in
+    let rs = recordsIn recordSize (q .most - 1) (drop (recordEnd recordSize at (length bs)) bs) in
     let v : u ≡ playOf p r (x .chip) (x .memory) (x .room) (drop (x .bytes) (x .output)) =
     e
     ∙ ap (λ (n : ℕ). playAt p bs at n x) g
     ∙ ap (λ (l : List ℕ). playOf p r (x .chip) (x .memory) (x .room) l) (tail-out (x .output) (x .bytes)) in
     ap (λ (w : RecordPlaying). whileWhole (nextBy (w .ended) w x .ended) (replayedFrom p rs (nextBy (w .ended) w x)) (nextBy (w .ended) w x)) v
-    ∙ sym (ap (λ (l : List (List ℕ)). replayedFrom p l x) (records-cut (q .most) bs at h (q .enough)))
+    ∙ sym (ap (λ (l : List (List ℕ)). replayedFrom p l x) (records-cut recordSize at bs (q .most) h (q .enough)))
     ∙ q .rest
 
 -- What a turn leaves, as the code holds it.
@@ -188,20 +137,20 @@ ends-refused : (p : Part) (rs : List (List ℕ)) (r : Refusal) (a : RecordEnded)
 unfolding whileWhole nextBy
 ends-refused p rs r a u x e = rw e
 
-pub replayed-bad : {p : Part} {bs : List ℕ} {at end : ℕ} {x t : Replaying} (u : RecordPlaying) → ReplayedFrom p bs at x t → at < length bs → end ≡ recordEnd at (length bs) → u ≡ playAt p bs at end x → u .ended ≡ NotGood
+pub replayed-bad : {p : Part} {bs : List ℕ} {at end : ℕ} {x t : Replaying} (u : RecordPlaying) → ReplayedFrom p bs at x t → at < length bs → end ≡ recordEnd recordSize at (length bs) → u ≡ playAt p bs at end x → u .ended ≡ NotGood
     → after AtBadRecord (x .records) (x .bytes) (x .frames) u x ≡ t
 replayed-bad {p} {bs} {at} {end} {x} {t} u q h g e z = stopped-is AtBadRecord u x ∙ sym (ends-bad p _ (u .ended) u x z) ∙ record-next u q h g e
 
-pub replayed-full : {p : Part} {bs : List ℕ} {at end : ℕ} {x t : Replaying} (u : RecordPlaying) → ReplayedFrom p bs at x t → at < length bs → end ≡ recordEnd at (length bs) → u ≡ playAt p bs at end x → u .ended ≡ OutputShort
+pub replayed-full : {p : Part} {bs : List ℕ} {at end : ℕ} {x t : Replaying} (u : RecordPlaying) → ReplayedFrom p bs at x t → at < length bs → end ≡ recordEnd recordSize at (length bs) → u ≡ playAt p bs at end x → u .ended ≡ OutputShort
     → after OutputFull (x .records) (x .bytes) (x .frames) u x ≡ t
 replayed-full {p} {bs} {at} {end} {x} {t} u q h g e z = stopped-is OutputFull u x ∙ sym (ends-full p _ (u .ended) u x z) ∙ record-next u q h g e
 
-pub replayed-refused : {p : Part} {bs : List ℕ} {at end : ℕ} {x t : Replaying} {r : Refusal} (u : RecordPlaying) → ReplayedFrom p bs at x t → at < length bs → end ≡ recordEnd at (length bs) → u ≡ playAt p bs at end x
+pub replayed-refused : {p : Part} {bs : List ℕ} {at end : ℕ} {x t : Replaying} {r : Refusal} (u : RecordPlaying) → ReplayedFrom p bs at x t → at < length bs → end ≡ recordEnd recordSize at (length bs) → u ≡ playAt p bs at end x
     → u .ended ≡ RecordEnded.Refused r → after (Ended.Refused r) (x .records) (x .bytes) (x .frames) u x ≡ t
 replayed-refused {p} {bs} {at} {end} {x} {t} {r} u q h g e z = stopped-is (Ended.Refused r) u x ∙ sym (ends-refused p _ r (u .ended) u x z) ∙ record-next u q h g e
 
 -- What a turn says lies in the output.
-pub turn-lies : {p : Part} {bs : List ℕ} {at end : ℕ} {x t : Replaying} {n k : ℕ} (u : RecordPlaying) → ReplayedFrom p bs at x t → Arrays p → end ≡ recordEnd at (length bs) → u ≡ playAt p bs at end x → u .ended ≡ Played n k
+pub turn-lies : {p : Part} {bs : List ℕ} {at end : ℕ} {x t : Replaying} {n k : ℕ} (u : RecordPlaying) → ReplayedFrom p bs at x t → Arrays p → end ≡ recordEnd recordSize at (length bs) → u ≡ playAt p bs at end x → u .ended ≡ Played n k
     → (x .bytes + n ≤ length (x .output)) × (k ≤ n)
 turn-lies {p} {bs} {at} {end} {x} {t} {n} {k} u q a g e z =
     let l = take (length (x .output) - x .bytes) (drop (x .bytes) (x .output)) in
@@ -209,31 +158,31 @@ turn-lies {p} {bs} {at} {end} {x} {t} {n} {k} u q a g e z =
     let w : length l ≡ length (x .output) - x .bytes = ap length (tail-out (x .output) (x .bytes)) ∙ length-drop (x .bytes) (x .output) in
     (omega (arith, f .bytes n k z, q .stands, w), f .frames n k z)
 
-pub output-kept : {p : Part} {bs : List ℕ} {at end : ℕ} {x t : Replaying} (u : RecordPlaying) → ReplayedFrom p bs at x t → end ≡ recordEnd at (length bs) → u ≡ playAt p bs at end x
+pub output-kept : {p : Part} {bs : List ℕ} {at end : ℕ} {x t : Replaying} (u : RecordPlaying) → ReplayedFrom p bs at x t → end ≡ recordEnd recordSize at (length bs) → u ≡ playAt p bs at end x
     → length (u .output) ≡ length (take (length (x .output) - x .bytes) (drop (x .bytes) (x .output)))
     → length (take (x .bytes) (x .output) ++ (u .output ++ drop (length (x .output) - x .bytes) (drop (x .bytes) (x .output)))) ≡ length (x .output)
 output-kept {p} {bs} {at} {end} {x} {t} u q g e l =
     let v : length (u .output) ≡ length (x .output) - x .bytes = l ∙ ap length (tail-out (x .output) (x .bytes)) ∙ length-drop (x .bytes) (x .output) in
     rw (tail-back (x .output) (u .output) (x .bytes), length-append, length-take-le (x .bytes) (x .output) (q .stands)) (omega (arith, v, q .stands))
 
-pub replayed-turn : {p : Part} {bs : List ℕ} {at end : ℕ} {x t : Replaying} {n k : ℕ} (u : RecordPlaying) → ReplayedFrom p bs at x t → Arrays p → at < length bs → end ≡ recordEnd at (length bs) → u ≡ playAt p bs at end x
+pub replayed-turn : {p : Part} {bs : List ℕ} {at end : ℕ} {x t : Replaying} {n k : ℕ} (u : RecordPlaying) → ReplayedFrom p bs at x t → Arrays p → at < length bs → end ≡ recordEnd recordSize at (length bs) → u ≡ playAt p bs at end x
     → u .ended ≡ Played n k → length (after Whole (x .records + 1) (x .bytes + n) (x .frames + k) u x .output) ≡ length (x .output)
     → ReplayedFrom p bs end (after Whole (x .records + 1) (x .bytes + n) (x .frames + k) u x) t
 replayed-turn {p} {bs} {at} {end} {x} {t} {n} {k} u q a h g e z long =
     let s = turn-lies u q a g e z in
-    let l : length (drop (recordEnd at (length bs)) bs) ≡ length bs - recordEnd at (length bs) = length-drop (recordEnd at (length bs)) bs in
+    let l : length (drop (recordEnd recordSize at (length bs)) bs) ≡ length bs - recordEnd recordSize at (length bs) = length-drop (recordEnd recordSize at (length bs)) bs in
     let m : length (drop at bs) ≡ length bs - at = length-drop at bs in
     subst (λ (i : ℕ). ReplayedFrom p bs i (after Whole (x .records + 1) (x .bytes + n) (x .frames + k) u x) t) (sym g)
     (record {
       most = q .most - 1;
-      enough = omega (arith, l, m, q .enough, end-after at (length bs) h);
-      within = end-within at (length bs) h;
-      counted = omega (arith, q .counted, end-after at (length bs) h);
+      enough = omega (arith, l, m, q .enough, end-after recordSize at (length bs) (omega arith) h);
+      within = end-within recordSize at (length bs) h;
+      counted = omega (arith, q .counted, end-after recordSize at (length bs) (omega arith) h);
       framed = omega (arith, q .framed, s .1);
       stands = omega (arith, s .0, long);
       rest =
-          ap (λ (y : Replaying). replayedFrom p (recordsIn recordSize (q .most - 1) (drop (recordEnd at (length bs)) bs)) y) (after-is Whole 1 n k u x)
-          ∙ sym (goes p (recordsIn recordSize (q .most - 1) (drop (recordEnd at (length bs)) bs)) n k (u .ended) u x z)
+          ap (λ (y : Replaying). replayedFrom p (recordsIn recordSize (q .most - 1) (drop (recordEnd recordSize at (length bs)) bs)) y) (after-is Whole 1 n k u x)
+          ∙ sym (goes p (recordsIn recordSize (q .most - 1) (drop (recordEnd recordSize at (length bs)) bs)) n k (u .ended) u x z)
           ∙ record-next u q h g e;
     })
 

@@ -2,7 +2,6 @@
 // Reading the capture and printing the frames is the program's.
 ghost use mathlib.Core.Path.{_≡_};
 ghost use mathlib.Core.Bool.{true};
-ghost use Prim.Native.Nat.{_<_};
 ghost use lib.ListN.{length};
 ghost use Rattle.chip_core.specs.Effect.{memory};
 ghost use Rattle.replay_records.specs.Records.{replayOf, replayPart, replaying};
@@ -10,7 +9,7 @@ ghost use Rattle.chip_state.specs.Refusals.{verdictOn};
 ghost use Rattle.part.specs.declared.refusal.Verdict.the-variants.{Accepted};
 ghost use Rattle.replay_play.specs.Play.{playOf};
 ghost use Rattle.replay_quiet.specs.Quiet.{chipHeld};
-ghost use Rattle.replay_records.specs.inner.Loop.{recordEnd, turnLeft};
+ghost use Rattle.replay_records.specs.inner.Loop.{turnLeft};
 use chip_core::Core;
 use chip_state::Chip;
 use frame::collector::Collector;
@@ -34,18 +33,6 @@ pub struct Replayed {
     pub bytes: usize,
     pub frames: usize,
     pub chip: Chip,
-}
-
-// Where the record that begins at a place ends.
-fn record_end(at: usize, len: usize) -> usize
-    requires { ⌜ at < len ⌝ }
-    ensures { λ r. ⌜ r ≡ recordEnd at len ⌝ }
-{
-    let size = replay_capture::record_size();
-    if len - at < size {
-        return len;
-    }
-    at + size
 }
 
 // What a record's turn came to: how it ended, the chip's record, how many bytes are collected, and whether the next call is known to be accepted.
@@ -148,7 +135,7 @@ pub fn replay(
     let mut bytes = 0;
     let mut frames = 0;
     while at < capture.len() {
-        let end = record_end(at, capture.len());
+        let end = replay_capture::record_end(at, capture.len());
         let t = turn(
             known,
             part,

@@ -11,7 +11,9 @@ use Rattle.part.specs.Part.{Arrays}
 use Rattle.part.specs.declared.refusal.Verdict.the-variants.{Accepted}
 use Rattle.chip_core.specs.Effect.{memory}
 use Rattle.replay_quiet.specs.Quiet.{chipHeld}
-use Rattle.replay_records.proofs.Loop.{ReplayedFrom, end-after, end-within, never, output-kept, replayed-bad, replayed-end, replayed-full, replayed-refused, replayed-start, replayed-turn, turn-lies}
+use Rattle.replay_capture.proofs.Records.{end-after, end-within}
+use Rattle.replay_capture.specs.Capture.{recordSize}
+use Rattle.replay_records.proofs.Loop.{ReplayedFrom, never, output-kept, replayed-bad, replayed-end, replayed-full, replayed-refused, replayed-start, replayed-turn, turn-lies}
 use Rattle.replay_records.specs.Records.{replayOf}
 use Rattle.replay_records.specs.declared.Ended.the-variants.{Whole}
 use Rattle.replay_records.proofs.replay.Statement.{statement}
@@ -39,13 +41,13 @@ loop-holds c =
     (refl, refl, refl, refl, omega arith, record { deviceLong = search needs; nameLong = search needs; versionLong = search needs }, search needs, never, replayed-start _ _ _ _ _ _)
 
 sub-turn : tie.Need-sub-turn Inv-loop μ-loop
-sub-turn c = omega (arith, c .before .record-end .ensures, end-after _ _ (c .before .before .loop-test .taken))
+sub-turn c = omega (arith, c .before .record-end .ensures, end-after recordSize _ _ (omega arith) (c .before .before .loop-test .taken))
 
 part-turn-start : tie.Need-part-turn-start Inv-loop μ-loop
-part-turn-start c = omega (arith, c .before .record-end .ensures, end-after _ _ (c .before .before .loop-test .taken))
+part-turn-start c = omega (arith, c .before .record-end .ensures, end-after recordSize _ _ (omega arith) (c .before .before .loop-test .taken))
 
 part-turn-end : tie.Need-part-turn-end Inv-loop μ-loop
-part-turn-end c = omega (arith, c .before .record-end .ensures, end-within _ _ (c .before .before .loop-test .taken))
+part-turn-end c = omega (arith, c .before .record-end .ensures, end-within recordSize _ _ (c .before .before .loop-test .taken))
 
 sub-turn-2 : tie.Need-sub-turn-2 Inv-loop μ-loop
 sub-turn-2 c = omega (arith, c .before .before .before .before .before .before .before .before .loop .inv .8 .stands)
@@ -65,7 +67,7 @@ add-records c =
     let record-end = t .before .before .before .before .before .before .before .before .record-end in
     let loop-test = t .before .before .before .before .before .before .before .before .before .loop-test in
     let x = t .before .before .before .before .before .before .before .before .before .before .loop .inv in
-    omega (arith, x .8 .counted, record-end .ensures, end-after _ _ (loop-test .taken))
+    omega (arith, x .8 .counted, record-end .ensures, end-after recordSize _ _ (omega arith) (loop-test .taken))
 
 add-bytes : tie.Need-add-bytes Inv-loop μ-loop
 add-bytes c =
@@ -89,7 +91,7 @@ loop-less c =
     let t = c .before .before .before .before .before .before .before .before .before .before .before .before in
     let record-end = t .before .before .before .before .before .before .before .before .record-end in
     let loop-test = t .before .before .before .before .before .before .before .before .before .loop-test in
-    omega (arith, record-end .ensures, end-after _ _ (loop-test .taken), end-within _ _ (loop-test .taken))
+    omega (arith, record-end .ensures, end-after recordSize _ _ (omega arith) (loop-test .taken), end-within recordSize _ _ (loop-test .taken))
 
 loop-again : tie.Need-loop-again Inv-loop μ-loop
 loop-again c =
@@ -167,7 +169,7 @@ replay-spec =
     Inv-loop
     μ-loop
     loop-holds
-    (λ c κs. c .loop-test .taken)
+    (λ c κs. search needs)
     sub-turn
     part-turn-start
     part-turn-end
