@@ -4,50 +4,32 @@ ghost use Prim.Native.Nat.{_+_, _≤_};
 ghost use lib.ListN.{length};
 use chip::events;
 use chip_state::Chip;
+use console::Progress;
 use libc::STDERR_FILENO;
 use libc::STDIN_FILENO;
 use libc::STDOUT_FILENO;
 use part::Part;
 use replay_records::Ended;
 
-// How many bytes were read, or where there is room, and whether the call went well.
-struct Filled {
-    n: usize,
+// Where there is room, and whether what had to go out for it went out.
+struct Place {
+    at: usize,
     well: bool,
 }
 
-// Reads until the buffer is full or the input ends, so that only the last buffer can end within a record.
-fn fill(fd: i32, buf: &mut [u8]) -> Filled
-    ensures { λ r. ⌜ r .n ≤ length (now (buf .exit)) ⌝ }
-{
-    let mut n = 0;
-    while n < buf.len() {
-        let got = libc::read(fd, &mut buf[n..]);
-        if got < 0 {
-            return Filled { n, well: false };
-        }
-        let more = io::count(got, &buf[n..]);
-        if more == 0 {
-            return Filled { n, well: true };
-        }
-        n = n + more;
-    }
-    Filled { n, well: true }
-}
-
 // Where so many characters have room in the text: after those used, or, these having gone out, at the start.
-fn room_for(need: usize, text: &[u8], used: usize) -> Filled
+fn room_for(need: usize, text: &[u8], used: usize) -> Place
     requires { ⌜ (need ≤ length (now text)) × (used ≤ length (now text)) ⌝ }
-    ensures { λ r. ⌜ r .n + need ≤ length (now (text .entry)) ⌝ }
+    ensures { λ r. ⌜ r .at + need ≤ length (now (text .entry)) ⌝ }
 {
     if need <= text.len() - used {
-        return Filled {
-            n: used,
+        return Place {
+            at: used,
             well: true,
         };
     }
     let well = io::write_all(STDOUT_FILENO, &text[0..used]);
-    Filled { n: 0, well }
+    Place { at: 0, well }
 }
 
 // Reply frames that lie end to end, a line each. The lines go out when the text is full and at the end.
@@ -73,80 +55,13 @@ fn show(frames: &[u8], text: &mut [u8]) -> bool
         if !place.well {
             return false;
         }
-        let from = place.n;
+        let from = place.at;
         let end = at + n;
         replay_hex::line(&frames[at..end], &mut text[from..]);
         used = from + 3 * n;
         at = end;
     }
     io::write_all(STDOUT_FILENO, &text[0..used])
-}
-
-// The line on standard error that says how far a long capture is: whether it stands there, whether the reply lines come to a terminal too, where it
-// would stand in their way, and the number of records at which it is written next.
-struct Progress {
-    stands: bool,
-    is_among_lines: bool,
-    next: u64,
-}
-
-// How many records go by from one number to the next.
-const PACE: u64 = 65536;
-
-// Where standard error is no terminal, the next number is one that no capture reaches: so a turn of the loop compares once, and asks nothing.
-fn no_progress() -> Progress {
-    let is_among_lines = libc::isatty(STDOUT_FILENO) == 1;
-    let mut next = u64::MAX;
-    if libc::isatty(STDERR_FILENO) == 1 {
-        next = PACE;
-    }
-    Progress {
-        stands: false,
-        is_among_lines,
-        next,
-    }
-}
-
-// The line goes over the one before it, which is never the longer one, and stays open: so the next can go over it.
-fn show_progress(progress: Progress, records: u64) -> Progress {
-    if records < progress.next {
-        return progress;
-    }
-    io::write_all(STDERR_FILENO, b"\rreplay: ");
-    io::print_decimal(STDERR_FILENO, records);
-    io::write_all(STDERR_FILENO, b" records");
-    Progress {
-        stands: true,
-        is_among_lines: progress.is_among_lines,
-        next: std::num::wrapping_add_u64(records, PACE),
-    }
-}
-
-// Goes back to the start of the line and clears it, so that what is written next stands there alone.
-fn erase(progress: Progress) -> Progress {
-    if !progress.stands {
-        return progress;
-    }
-    io::write_all(STDERR_FILENO, b"\r\x1B[K");
-    Progress {
-        stands: false,
-        is_among_lines: progress.is_among_lines,
-        next: progress.next,
-    }
-}
-
-// Makes way for reply lines, where there are any and they come to a terminal; where they go elsewhere, the line can stay.
-fn make_way(progress: Progress, reply_bytes: usize) -> Progress {
-    if progress.is_among_lines && 0 < reply_bytes {
-        return erase(progress);
-    }
-    progress
-}
-
-// A message in place of the progress.
-fn say(progress: Progress, message: &[u8]) {
-    erase(progress);
-    io::write_all(STDERR_FILENO, message);
 }
 
 // How a buffer of the capture went: on to the next; up to a record that is not good; or no further.
@@ -170,14 +85,14 @@ fn going_on(ended: Ended, progress: Progress) -> Going {
         Ended::Whole => Going::On,
         Ended::AtBadRecord => Going::Bad,
         Ended::OutputFull => {
-            say(
+            console::say(
                 progress,
                 b"replay: the output was too short, which should not occur\n",
             );
             Going::Lost
         }
         Ended::Refused(refusal) => {
-            say(
+            console::say(
                 progress,
                 b"replay: a call of the chip was refused, which should not occur; refusal ",
             );
@@ -193,7 +108,7 @@ fn told(is_shown: bool, going: Going, progress: Progress) -> Going {
     if is_shown {
         return going;
     }
-    erase(progress);
+    console::erase(progress);
     os::fail(b"replay: standard output");
     Going::Lost
 }
@@ -217,7 +132,7 @@ fn turn(
     let n = played.bytes;
     let after = played.chip;
     if output.len() < n {
-        say(
+        console::say(
             progress,
             b"replay: more replies than room for them, which should not occur\n",
         );
@@ -229,7 +144,7 @@ fn turn(
             progress,
         };
     }
-    let progress = make_way(progress, n);
+    let progress = console::make_way(progress, n);
     let is_shown = show(&output[0..n], text);
     let ended = played.ended;
     Went {
@@ -243,7 +158,7 @@ fn turn(
 
 // The last line, a word and a number; a message where it cannot be written.
 fn last_line(progress: Progress, word: &[u8], n: u64) {
-    erase(progress);
+    console::erase(progress);
     let is_begun = io::write_all(STDOUT_FILENO, word);
     io::print_decimal(STDOUT_FILENO, n);
     let is_ended = io::write_all(STDOUT_FILENO, b"\n");
@@ -275,14 +190,14 @@ fn replay(fd: i32, name: &[u8]) {
     let mut text = io::large_buffer();
     let mut records = 0u64;
     let mut frames = 0u64;
-    let mut progress = no_progress();
+    let mut progress = console::no_progress();
     let mut turns = u64::MAX;
     while 0 < turns {
         turns = turns - 1;
-        let filled = fill(fd, &mut capture);
+        let filled = console::fill(fd, &mut capture);
         let n = filled.n;
         if !filled.well {
-            erase(progress);
+            console::erase(progress);
             fail_at(name);
             return;
         }
@@ -308,7 +223,7 @@ fn replay(fd: i32, name: &[u8]) {
                     last_line(went.progress, b"END ", frames);
                     return;
                 }
-                progress = show_progress(went.progress, records);
+                progress = console::show_progress(went.progress, b"replay", records);
             }
             Going::Bad => {
                 last_line(went.progress, b"BAD ", records);

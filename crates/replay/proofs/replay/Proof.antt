@@ -9,7 +9,7 @@ use Rattle.replay.proofs.replay.Statement.{statement}
 use Rattle.replay.proofs.replay.Tie as tie
 
 abbrev Inv-loop : tie.InvT-loop
-Inv-loop fd name part chip₀ code₀ data₀ sums₀ room₀ capture₀ output₀ text₀ records₀ frames₀ progress₀ turns₀ t21 t22 chip code «data» sums room capture output text records frames progress turns =
+Inv-loop fd name part chip₀ code₀ data₀ sums₀ room₀ capture₀ output₀ text₀ records₀ frames₀ progress₀ turns₀ t21 t22 t23 chip code «data» sums room capture output text records frames progress turns =
     (length code ≡ 16384)
     × (length «data» ≡ 4096)
     × (length room ≡ 32)
@@ -18,7 +18,7 @@ Inv-loop fd name part chip₀ code₀ data₀ sums₀ room₀ capture₀ output�
     × (length text ≡ 65536)
 
 abbrev μ-loop : tie.MeasureT-loop
-μ-loop fd name part chip₀ code₀ data₀ sums₀ room₀ capture₀ output₀ text₀ records₀ frames₀ progress₀ turns₀ t21 t22 chip code «data» sums room capture output text records frames progress turns = turns
+μ-loop fd name part chip₀ code₀ data₀ sums₀ room₀ capture₀ output₀ text₀ records₀ frames₀ progress₀ turns₀ t21 t22 t23 chip code «data» sums room capture output text records frames progress turns = turns
 
 pub replay-spec : {M : Type 1} → statement M
 replay-spec =
@@ -56,13 +56,14 @@ replay-spec =
     (λ c. search needs)
     (λ c κs. search needs)
     (λ c. tt)
+    (λ c. search needs)
     (λ c κs. search needs)
     (λ c. omega (
       arith,
-      c .before .before .before .before .before .before .before .before .before .before .before .before .before .before
+      c .before .before .before .before .before .before .before .before .before .before .before .before .before .before .before
           .before .before .before .before .before .before .before .before .before .before .before .before .loop-test .taken,
     ))
-    (λ c. omega (arith, c .before .before .before .before .before .before .before .before .before .before .before .before .before .before .before .before .before .before .before .before .before .before .before .capture2 .given))
+    (λ c. omega (arith, c .before .before .before .before .before .before .before .before .before .before .before .before .before .before .before .before .before .before .before .before .before .before .before .before .capture2 .given))
     (λ c. search needs)
     (λ c. search needs)
     (λ c κs. search needs)
