@@ -7,7 +7,7 @@ pub mod door;
 
 use door::{Job, Part, Report, Told, DOCK, FRAME_ROOM, ROOM, STATE, SUMS};
 
-const NAMES: &[u8; door::NAMES] = b"\x10\x00\x06R5F100LE  \x01\x02\x03";
+pub const NAMES: &[u8; door::NAMES] = b"\x10\x00\x06R5F100LE  \x01\x02\x03";
 const MODE_BYTE: u8 = 0x3A;
 
 /// The first bytes as hex, and two dots where there are more.

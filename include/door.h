@@ -1,13 +1,14 @@
-/* The proved chip and the proved dock for programs in C: document 01's software chip behind seven calls, and its dock behind five.
+/* The proved chip, the proved dock and captures for programs in C: document 01's software chip behind six calls, a capture played into it behind two, a capture
+ * converted behind two, and the dock behind five.
  *
  * Every call is total: no argument makes it undefined, as long as each pointer points to as many bytes or numbers as its array or the length after it says, nothing
  * that is lent to be changed overlaps anything else, and no pointer is null but that of a slice of length 0. What a call does is proved equal to a definition
- * (crates/chip_door/specs, crates/replay_door/specs and crates/dock_door/specs); nothing checks this header against the source, so it is kept to numbers and
+ * (specs/ of the crates chip_door, replay_door, conversion_door and dock_door); nothing checks this header against the source, so it is kept to numbers and
  * bytes.
  *
  * Lengths and the numbers told are 64 bits on every processor, so that firmware of 32 bits and a page in wasm link the same module. There is no state but
- * what is lent: calls on different states may run at once, in interrupts too. Stack, measured by painting it over a rehearsed job and a replay (64-bit Arm): 4.6 kB
- * for zc_replay, 3.6 kB for zc_feed, 2.9 kB for the other events, 0.8 kB for the dock's calls, under 0.1 kB for zc_fresh and zc_sums.
+ * what is lent: calls on different states may run at once, in interrupts too. Stack, measured by painting it over a rehearsed job and a replay (64-bit Arm): 4.7 kB
+ * for the replays, 3.6 kB for zc_feed, 2.9 kB for the other events, 0.8 kB for the dock's calls, 0.2 kB for the conversions, under 0.1 kB for zc_fresh and zc_sums.
  *
  * A part is ZC_PART bytes, a job ZC_JOB bytes beside its part and an image as long as its range; zc_part and zc_job below write them:
  *     part: 0 code blocks   1 data blocks   2 clock   3-5 device code   6-15 name   16-18 firmware version
@@ -54,8 +55,17 @@
  * are expected is read from bytes 2 and 3 of the answer, where its statuses lie, whatever else is wrong with it. So an empty answer and a missing second frame
  * are ZC_FAULT_FIRST; a lone 02h, a bare 06h to 9Ah, and an answer to C0h whose 06h became 07h with its second frame behind it are ZC_FAULT_LEN.
  *
- * Each call answers 0, or the number of document 01's refusal, for the chip in the order 1, 2, 3, 9, 4, for the dock 1, 5, 6, 7, 9, 4, 8. After a refusal nothing
- * that was lent has changed, the sums and the numbers told included. zc_replay can also end with ZC_BAD_RECORD or ZC_OUTPUT_FULL, which are no refusals.
+ * A capture is records end to end, all of one form and without a header: the old form has ZC_RECORD bytes (document 01, "Replay"), the new one ZC_RECORD_NEW
+ * (document 02, section 5). Nothing in a capture says which it is, so the caller does, by the call:
+ *     old: 0 kind   1 count   2-7 bytes carried
+ *     new: 0 kind   1 count   2 seat (0 or 1)   3 always 00h   4-7 tick   8-15 bytes carried
+ * Kind 00h is a gap: its count is 0, and the bytes carried are all 00h. Kind 01h carries as many bytes as its count says, 1 to 6 in the old form and 1 to 8 in the
+ * new, and those past the count are 00h. Seat and tick are free in either kind. Whatever else a record holds, it is bad, and so is a short one at the end.
+ *
+ * Each call answers 0, or the number of its refusal: for the chip in document 01's order 1, 2, 3, 9, 4, for the dock 1, 5, 6, 7, 9, 4, 8, for a conversion in
+ * document 02's order 10, 11, 12. After a refusal nothing that was lent has changed, the sums and the numbers told included; but a conversion always tells its two.
+ * A replay that was not refused can also end before the end of its capture, with ZC_BAD_RECORD or ZC_OUTPUT_FULL. There neither is a refusal: the records before
+ * that place were played, and told has their number.
  */
 #ifndef ZC_DOOR_H
 #define ZC_DOOR_H
@@ -72,7 +82,10 @@
 #define ZC_DOCK 26
 #define ZC_ROOM 32 /* the least reply room */
 #define ZC_FRAME_ROOM 260 /* the least frame room */
-#define ZC_OUTPUT 192 /* output for the replies to one record */
+#define ZC_RECORD 8 /* a capture record of the old form */
+#define ZC_RECORD_NEW 16 /* a capture record of the new form */
+#define ZC_OUTPUT 192 /* output for the replies to one record of the old form */
+#define ZC_OUTPUT_NEW 256 /* output for the replies to one record of the new form */
 #define ZC_ANSWER 31 /* the longest answer to a frame of the dock */
 
 /* Refusals. */
@@ -85,10 +98,12 @@
 #define ZC_MANY_RETRIES 7 /* more than 15 */
 #define ZC_OUT_OF_TURN 8 /* a frame asked while an answer is awaited, an answer or a timeout while none is, or anything once the job is over */
 #define ZC_BAD_STATE 9 /* the bytes are no state, or none that the document accepts */
+#define ZC_BAD_RECORD 10 /* a record is bad, or short; of a conversion the refusal, of a replay where it ends */
+#define ZC_NOT_HELD 11 /* a record that the old form cannot hold: seat 1, a tick that is not 0, or a count over 6 */
+#define ZC_SHORT_OUTPUT 12 /* the output is shorter than the capture converted */
 
-/* How a replay ends, beside 0 and the refusals. */
-#define ZC_BAD_RECORD 16 /* the next record is not good */
-#define ZC_OUTPUT_FULL 17 /* the output has no 192 bytes left for the next record's replies: go on from it with fresh output */
+/* How a replay ends, beside 0, its refusals and ZC_BAD_RECORD. */
+#define ZC_OUTPUT_FULL 17 /* the output has not the 192 or 256 bytes left that the next record needs: go on from it with fresh output */
 
 /* The phase of a chip. */
 #define ZC_PHASE_MODE_BYTE 1
@@ -153,11 +168,27 @@ uint32_t zc_power_on(const uint8_t part[ZC_PART], uint8_t state[ZC_STATE], uint8
 uint32_t zc_feed(const uint8_t part[ZC_PART], uint8_t state[ZC_STATE], const uint8_t *fed, uint64_t fed_len, uint8_t *code, uint64_t code_len, uint8_t *data,
                  uint64_t data_len, uint16_t sums[ZC_SUMS], uint8_t *room, uint64_t room_len, uint64_t told[5]);
 
-/* Capture records (8 bytes each) one after the other. told[0] records were played; their replies, told[1] bytes and told[2] frames, lie end to end in the output.
- * It is refused before any record, as zc_gap would be, also where there is none. An empty capture needs no output. */
+/* Capture records one after the other, of the old form by zc_replay and of the new by zc_replay_new. told[0] records were played; their replies, told[1] bytes and
+ * told[2] frames, lie end to end in the output. It is refused before any record, as zc_gap would be, also where there is none. Before each good record the output
+ * must have ZC_OUTPUT bytes left, ZC_OUTPUT_NEW in the new form, else the replay ends there with ZC_OUTPUT_FULL, whatever would be said to it; a bad record ends it
+ * with ZC_BAD_RECORD, whatever output is left. An empty capture needs no output.
+ * A record of seat 1 is judged and counted as the others are, and plays nothing: its bytes are not heard, and its gap drops nothing. Ticks are not looked at. */
 uint32_t zc_replay(const uint8_t part[ZC_PART], uint8_t state[ZC_STATE], const uint8_t *capture, uint64_t capture_len, uint8_t *code, uint64_t code_len,
                    uint8_t *data, uint64_t data_len, uint16_t sums[ZC_SUMS], uint8_t *room, uint64_t room_len, uint8_t *output, uint64_t output_len,
                    uint64_t told[3]);
+uint32_t zc_replay_new(const uint8_t part[ZC_PART], uint8_t state[ZC_STATE], const uint8_t *capture, uint64_t capture_len, uint8_t *code, uint64_t code_len,
+                       uint8_t *data, uint64_t data_len, uint16_t sums[ZC_SUMS], uint8_t *room, uint64_t room_len, uint8_t *output, uint64_t output_len,
+                       uint64_t told[3]);
+
+/* A capture of one form written in the other at the start of the output, which must not overlap it; one record for one. From old to new each record gets seat 0 and
+ * tick 0. From new to old a record must have them, and carry 6 bytes at most. told[0] bytes were written; the output past them stays. There and back again gives
+ * the same bytes, from either form, where neither way is refused.
+ * Refusals: 10 if any record is bad, and told[1] is the number of the first, counted from 0; a short one at the end has the number of the whole ones before it.
+ * Then 11, from new to old alone, if there is any record that the old form cannot hold, and told[1] is the number of the first. So a bad record goes before one that
+ * cannot be held, wherever the two stand. Then 12 if output_len is less than the bytes to be written; an empty capture needs none. A refusal tells 0 bytes, and
+ * 12 also 0 for the record; the output stays whole as it was. Without a refusal told[1] is 0. */
+uint32_t zc_to_new(const uint8_t *capture, uint64_t capture_len, uint8_t *output, uint64_t output_len, uint64_t told[2]);
+uint32_t zc_to_old(const uint8_t *capture, uint64_t capture_len, uint8_t *output, uint64_t output_len, uint64_t told[2]);
 
 /* A dock before its first frame. The chip that it is for has its mode byte. Refusals: 1, 5, 6, 7. */
 uint32_t zc_start(const uint8_t part[ZC_PART], const uint8_t job[ZC_JOB], const uint8_t *image, uint64_t image_len, uint8_t dock[ZC_DOCK]);
@@ -205,6 +236,12 @@ static inline void zc_job(uint8_t job[ZC_JOB], uint32_t first, uint32_t last, ui
     job[9] = zc_low(supply);
     job[10] = zc_low(retries);
 }
+
+/* Of a record of the new form its seat, and its tick, read and set. */
+static inline uint8_t zc_record_seat(const uint8_t record[ZC_RECORD_NEW]) { return record[2]; }
+static inline uint32_t zc_record_tick(const uint8_t record[ZC_RECORD_NEW]) { return zc_get4(record + 4); }
+static inline void zc_record_put_seat(uint8_t record[ZC_RECORD_NEW], uint32_t seat) { record[2] = zc_low(seat); }
+static inline void zc_record_put_tick(uint8_t record[ZC_RECORD_NEW], uint32_t tick) { zc_put4(record + 4, tick); }
 
 static inline uint8_t zc_chip_phase(const uint8_t state[ZC_STATE]) { return state[7]; }
 /* How many bytes are collected; they begin at state + 33. */

@@ -12,8 +12,13 @@ pub const DOCK: usize = 26;
 pub const ROOM: usize = 32;
 pub const FRAME_ROOM: usize = 260;
 pub const ANSWER: usize = 31;
+pub const RECORD: usize = 8;
+pub const RECORD_NEW: usize = 16;
 pub const OUTPUT: usize = 192;
-pub const BAD_RECORD: u32 = 16;
+pub const OUTPUT_NEW: usize = 256;
+pub const BAD_RECORD: u32 = 10;
+pub const NOT_HELD: u32 = 11;
+pub const SHORT_OUTPUT: u32 = 12;
 pub const OUTPUT_FULL: u32 = 17;
 
 /// What is wrong with a frame, as the chip's events tell it and a failed dock names it; door.h has the place of each.
@@ -70,13 +75,21 @@ pub struct Told {
     pub place: u64,
 }
 
-/// What zc_replay tells: 0, the refusal's number, BAD_RECORD or OUTPUT_FULL, the records played, and the bytes and frames of their replies.
+/// What zc_replay and zc_replay_new tell: 0, the refusal's number, BAD_RECORD or OUTPUT_FULL, the records played, and the bytes and frames of their replies.
 #[derive(Clone, Copy, Debug, PartialEq, Eq)]
 pub struct Played {
     pub refusal: u32,
     pub records: u64,
     pub bytes: u64,
     pub frames: u64,
+}
+
+/// What zc_to_new and zc_to_old tell: 0 or the refusal's number, the bytes written at the start of the output, and the record that BAD_RECORD or NOT_HELD names.
+#[derive(Clone, Copy, Debug, PartialEq, Eq)]
+pub struct Converted {
+    pub refusal: u32,
+    pub bytes: u64,
+    pub record: u64,
 }
 
 /// What zc_answer and zc_timeout tell.
@@ -257,12 +270,88 @@ pub fn replay(
             &mut told,
         )
     };
-    let [records, bytes, frames] = told;
+    played(refusal, told)
+}
+
+#[inline]
+pub fn replay_new(
+    part: &Part,
+    state: &mut [u8; STATE],
+    capture: &[u8],
+    code: &mut [u8],
+    data: &mut [u8],
+    sums: &mut [u16; SUMS],
+    room: &mut [u8],
+    output: &mut [u8],
+) -> Played {
+    let mut told = [UNTOLD; 3];
+    let refusal = unsafe {
+        zc_replay_new(
+            part,
+            state,
+            capture.as_ptr(),
+            capture.len() as u64,
+            code.as_mut_ptr(),
+            code.len() as u64,
+            data.as_mut_ptr(),
+            data.len() as u64,
+            sums,
+            room.as_mut_ptr(),
+            room.len() as u64,
+            output.as_mut_ptr(),
+            output.len() as u64,
+            &mut told,
+        )
+    };
+    played(refusal, told)
+}
+
+#[inline]
+fn played(refusal: u32, [records, bytes, frames]: [u64; 3]) -> Played {
     Played {
         refusal,
         records,
         bytes,
         frames,
+    }
+}
+
+#[inline]
+pub fn to_new(capture: &[u8], output: &mut [u8]) -> Converted {
+    let mut told = [UNTOLD; 2];
+    let refusal = unsafe {
+        zc_to_new(
+            capture.as_ptr(),
+            capture.len() as u64,
+            output.as_mut_ptr(),
+            output.len() as u64,
+            &mut told,
+        )
+    };
+    converted(refusal, told)
+}
+
+#[inline]
+pub fn to_old(capture: &[u8], output: &mut [u8]) -> Converted {
+    let mut told = [UNTOLD; 2];
+    let refusal = unsafe {
+        zc_to_old(
+            capture.as_ptr(),
+            capture.len() as u64,
+            output.as_mut_ptr(),
+            output.len() as u64,
+            &mut told,
+        )
+    };
+    converted(refusal, told)
+}
+
+#[inline]
+fn converted(refusal: u32, [bytes, record]: [u64; 2]) -> Converted {
+    Converted {
+        refusal,
+        bytes,
+        record,
     }
 }
 
@@ -458,6 +547,36 @@ extern "C" {
         output: *mut u8,
         output_len: u64,
         told: *mut [u64; 3],
+    ) -> u32;
+    fn zc_replay_new(
+        part: *const [u8; PART],
+        state: *mut [u8; STATE],
+        capture: *const u8,
+        capture_len: u64,
+        code: *mut u8,
+        code_len: u64,
+        data: *mut u8,
+        data_len: u64,
+        sums: *mut [u16; SUMS],
+        room: *mut u8,
+        room_len: u64,
+        output: *mut u8,
+        output_len: u64,
+        told: *mut [u64; 3],
+    ) -> u32;
+    fn zc_to_new(
+        capture: *const u8,
+        capture_len: u64,
+        output: *mut u8,
+        output_len: u64,
+        told: *mut [u64; 2],
+    ) -> u32;
+    fn zc_to_old(
+        capture: *const u8,
+        capture_len: u64,
+        output: *mut u8,
+        output_len: u64,
+        told: *mut [u64; 2],
     ) -> u32;
     fn zc_start(
         part: *const [u8; PART],

@@ -1,6 +1,7 @@
 //! A proved chip with its flash, kept sums and reply room, and the twin's chip in the door's layout.
 
 use crate::door::{self, Played, Told, NAMES, OUTPUT_FULL, ROOM, STATE, SUMS};
+use twin::capture::Form;
 use twin::chip::{Chip, Phase, ERASED};
 use twin::frame::Fault;
 use twin::part::{Area, Part};
@@ -73,15 +74,19 @@ impl Door {
     }
 
     /// How many records were played, and the bytes of their replies. The output may be too short for all of them.
-    pub fn replay(&mut self, capture: &[u8], output: &mut [u8]) -> (usize, usize) {
-        let told = self.play(capture, output);
+    pub fn replay(&mut self, form: Form, capture: &[u8], output: &mut [u8]) -> (usize, usize) {
+        let told = self.play(form, capture, output);
         assert!(told.refusal == 0 || told.refusal == OUTPUT_FULL);
         (told.records as usize, told.bytes as usize)
     }
 
     /// The same for records of any kind: what the call told.
-    pub fn play(&mut self, capture: &[u8], output: &mut [u8]) -> Played {
-        door::replay(
+    pub fn play(&mut self, form: Form, capture: &[u8], output: &mut [u8]) -> Played {
+        let replay = match form {
+            Form::Old => door::replay,
+            Form::New => door::replay_new,
+        };
+        replay(
             &self.part,
             &mut self.state,
             capture,

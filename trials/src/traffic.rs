@@ -2,11 +2,12 @@
 
 use std::iter;
 
+use twin::capture::{bytes_record, converted, Form, NEW_RECORD, RECORD};
 use twin::chip::{BLOCK_ERASE, PROGRAM, RATE_SET, VERIFY};
 use twin::frame::{LAST_FOOTER, MORE_FOOTER};
 use twin::part::Area;
 use twin::random::{command_frame, data_frame, range_body};
-use twin::replay::{bytes_record, replay_part, RECORD};
+use twin::replay::replay_part;
 
 /// What a page is written with, in no round, block or place the same.
 pub fn page(round: usize, block: usize, number: usize) -> Vec<u8> {
@@ -78,6 +79,22 @@ fn recorded(frame: &[u8], carried: usize) -> Vec<[u8; RECORD]> {
     let mut records = vec![[0; RECORD]];
     records.extend(frame.chunks(carried).map(bytes_record));
     records
+}
+
+/// The same traffic in the new form, seat 0 and tick 0.
+pub fn in_new_form(capture: &[u8]) -> Vec<u8> {
+    converted(Form::Old, capture).expect("good records")
+}
+
+/// And with as much of seat 1, record by record.
+pub fn of_two_seats(new: &[u8]) -> Vec<u8> {
+    new.chunks_exact(NEW_RECORD)
+        .flat_map(|record| {
+            let mut other = record.to_vec();
+            other[2] = 1;
+            [record.to_vec(), other].concat()
+        })
+        .collect()
 }
 
 /// How many bytes the records of a capture carry.

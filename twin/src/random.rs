@@ -1,14 +1,15 @@
-//! Random captures for the replay, the same for the same seed, and a count of the statuses they draw (01 "Replay").
+//! Random captures of both forms, the same for the same seed, and a count of the statuses they draw (01 "Replay", 02 §5).
 
 use std::fmt;
 
+use crate::capture::{Form, Record, BYTES, CARRIED, GAP};
 use crate::chip::{
     BLANK_CHECK, BLOCK_ERASE, CHECKSUM, ERASED, PROGRAM, RATE_SET, RESET, SECURITY_GET,
     SECURITY_RELEASE, SECURITY_SET, SIGNATURE, VERIFY,
 };
 use crate::frame::{write, COMMAND_HEADER, DATA_HEADER, LAST_FOOTER, MORE_FOOTER};
 use crate::part::Area;
-use crate::replay::{bytes_record, replay_part, split_frames, CARRIED, RECORD};
+use crate::replay::{replay_part, split_frames};
 
 /// Splitmix64: small, without state beyond one word, and good enough to mix choices.
 pub struct Generator(u64);
@@ -75,12 +76,74 @@ pub fn range_body(command: u8, start: usize, end: usize) -> Vec<u8> {
 }
 
 /// A capture, the same for the same seed; a few end in a bad record or a short one.
-pub fn random_capture(seed: u64) -> Vec<u8> {
+pub fn random_capture(form: Form, seed: u64) -> Vec<u8> {
     let mut script = Script::new(seed);
     script.write();
-    let mut records = script.records();
-    spoil_records(&mut script.choice, &mut records);
+    let records = match form {
+        Form::Old => script.records(0, CARRIED),
+        Form::New => new_records(&mut script, seed),
+    };
+    let mut capture: Vec<u8> = records
+        .iter()
+        .flat_map(|record| record.written(form))
+        .collect();
+    spoil_records(form, &mut script.choice, &mut capture);
+    capture
+}
+
+/// Mostly two seats that know nothing of each other, their records in any order, with ticks; one capture in five is held by the old form.
+fn new_records(script: &mut Script, seed: u64) -> Vec<Record> {
+    let held_by_old = script.choice.chance(20);
+    let fill = if held_by_old {
+        CARRIED
+    } else {
+        Form::New.carried()
+    };
+    let first = script.records(0, fill);
+    if held_by_old {
+        return first;
+    }
+    let mut second = Vec::new();
+    if script.choice.chance(80) {
+        let mut other = Script::new(!seed);
+        other.write();
+        second = other.records(1, fill);
+        second.truncate(first.len() + 20);
+    }
+    let mut records = shuffled(&mut script.choice, first, second);
+    set_ticks(&mut script.choice, &mut records);
     records
+}
+
+/// The records of both in one list, those of each in their order.
+fn shuffled(choice: &mut Generator, first: Vec<Record>, second: Vec<Record>) -> Vec<Record> {
+    let often = choice.pick(&[5, 30, 50]);
+    let (mut first, mut second) = (first.into_iter().peekable(), second.into_iter().peekable());
+    let mut records = Vec::new();
+    while first.peek().is_some() || second.peek().is_some() {
+        let from_second = choice.chance(often);
+        let next = if from_second {
+            second.next().or_else(|| first.next())
+        } else {
+            first.next().or_else(|| second.next())
+        };
+        records.extend(next);
+    }
+    records
+}
+
+/// Ticks mostly rise, from anywhere, past the greatest too; no rule holds them to it.
+fn set_ticks(choice: &mut Generator, records: &mut [Record]) {
+    let start = choice.word() as u32;
+    let mut tick = choice.pick(&[0, 0, start, u32::MAX - 5]);
+    let most = choice.pick(&[0, 1, 300, 1 << 20]);
+    for record in records {
+        record.tick = tick;
+        tick = match choice.below(100) {
+            0 => choice.word() as u32,
+            _ => tick.wrapping_add(choice.between(0, most) as u32),
+        };
+    }
 }
 
 /// What the line carries.
@@ -466,72 +529,172 @@ impl Script {
         self.sounds.extend(frame.into_iter().map(Sound::Byte));
     }
 
-    /// The sounds packed into records, of any fill from 1 to 6 bytes.
-    fn records(&mut self) -> Vec<u8> {
+    /// The sounds packed into records of this seat and tick 0, of any fill from 1 byte to the most.
+    fn records(&mut self, seat: u8, most: usize) -> Vec<Record> {
         let mut records = Vec::new();
         let mut carried: Vec<u8> = Vec::new();
-        let mut fill = CARRIED;
+        let mut fill = most;
         for index in 0..self.sounds.len() {
             match self.sounds[index] {
                 Sound::Byte(byte) => carried.push(byte),
                 Sound::Gap => {
-                    push_bytes(&mut records, &mut carried);
-                    records.extend_from_slice(&[0; RECORD]);
+                    push_bytes(&mut records, seat, &mut carried);
+                    records.push(Record::carrying(seat, 0, &[]));
                 }
             }
             if carried.len() >= fill {
-                push_bytes(&mut records, &mut carried);
+                push_bytes(&mut records, seat, &mut carried);
                 fill = if self.choice.chance(80) {
-                    CARRIED
+                    most
                 } else {
-                    self.choice.between(1, CARRIED)
+                    self.choice.between(1, most)
                 };
             }
         }
-        push_bytes(&mut records, &mut carried);
+        push_bytes(&mut records, seat, &mut carried);
         records
     }
 }
 
-fn push_bytes(records: &mut Vec<u8>, carried: &mut Vec<u8>) {
+fn push_bytes(records: &mut Vec<Record>, seat: u8, carried: &mut Vec<u8>) {
     if carried.is_empty() {
         return;
     }
-    records.extend_from_slice(&bytes_record(carried));
+    records.push(Record::carrying(seat, 0, carried));
     carried.clear();
 }
 
 /// One capture in ten gets a bad record somewhere, one in twenty a short tail.
-fn spoil_records(choice: &mut Generator, records: &mut Vec<u8>) {
+fn spoil_records(form: Form, choice: &mut Generator, capture: &mut Vec<u8>) {
     if choice.chance(10) {
-        let at = choice.below(records.len() / RECORD + 1) * RECORD;
-        records.splice(at..at, bad_record(choice));
+        let at = choice.below(capture.len() / form.record() + 1) * form.record();
+        capture.splice(at..at, any_bad_record(form, choice));
     }
     if choice.chance(5) {
-        let short = choice.between(1, RECORD - 1);
-        let any = choice.byte();
-        records.extend((0..short).map(|_| choice.pick(&[0x00, 0x01, any])));
+        capture.extend(short_tail(form, choice));
     }
 }
 
-/// A record that is bad in one of 01's ways: kind, count, or an unused byte.
-fn bad_record(choice: &mut Generator) -> [u8; RECORD] {
-    let mut record = [0; RECORD];
+/// A record that is cut off.
+pub fn short_tail(form: Form, choice: &mut Generator) -> Vec<u8> {
+    let short = choice.between(1, form.record() - 1);
+    let any = choice.byte();
+    (0..short)
+        .map(|_| choice.pick(&[0x00, 0x01, any]))
+        .collect()
+}
+
+/// How a record can be bad; the last two in the new form alone.
+const BAD_WAYS: [&str; 8] = [
+    "kind",
+    "gap with a count",
+    "gap with a byte",
+    "no bytes",
+    "count over the most",
+    "unused byte",
+    "seat",
+    "byte 3",
+];
+
+pub fn bad_ways(form: Form) -> &'static [&'static str] {
+    match form {
+        Form::Old => &BAD_WAYS[..6],
+        Form::New => &BAD_WAYS,
+    }
+}
+
+fn any_bad_record(form: Form, choice: &mut Generator) -> Vec<u8> {
     let any = choice.between(1, 255) as u8;
-    match choice.below(6) {
-        0 => record[0] = choice.between(2, 255) as u8,
-        1 => record[1] = any,
-        2 => record[choice.between(2, RECORD - 1)] = any,
-        3 => record[0] = 0x01,
-        4 => {
-            record = [any; RECORD];
-            record[0] = 0x01;
-            record[1] = choice.between(7, 255) as u8;
+    let way = choice.below(bad_ways(form).len());
+    bad_record(form, way, any, choice)
+}
+
+/// A record that is bad in one way, and in no other; `any` is not 0. In the new form it is of either seat and has any tick.
+pub fn bad_record(form: Form, way: usize, any: u8, choice: &mut Generator) -> Vec<u8> {
+    let size = form.record();
+    let head = size - form.carried();
+    let mut record = vec![0; size];
+    if form == Form::New {
+        record[2] = choice.below(2) as u8;
+        let tick = choice.word() as u32;
+        record[4..8].copy_from_slice(&choice.pick(&[0, tick]).to_le_bytes());
+    }
+    match bad_ways(form)[way] {
+        "kind" => record[0] = from(form, choice, 2),
+        "gap with a count" => record[1] = any,
+        "gap with a byte" => record[choice.between(head, size - 1)] = any,
+        "no bytes" => record[0] = BYTES,
+        "count over the most" => {
+            record[head..].fill(any);
+            record[0] = BYTES;
+            record[1] = from(form, choice, form.carried() + 1);
         }
-        // a good Reset, and the unused byte after it
-        _ => record = [0x01, 0x05, 0x01, 0x01, 0x00, 0xFF, 0x03, any],
+        "unused byte" => {
+            put_reset(&mut record, head);
+            // the sixth byte of the old form; in the new one also those that follow it
+            let unused = size - head - 5;
+            let place = if unused > 1 { choice.below(unused) } else { 0 };
+            record[head + 5 + place] = any;
+        }
+        "seat" => {
+            put_any(choice, &mut record, head);
+            record[2] = from(form, choice, 2);
+        }
+        _ => {
+            put_any(choice, &mut record, head);
+            record[3] = any;
+        }
     }
     record
+}
+
+/// A byte from this number on; in the new form half of the time the number itself.
+fn from(form: Form, choice: &mut Generator, least: usize) -> u8 {
+    let any = choice.between(least, 255);
+    let byte = match form {
+        Form::Old => any,
+        Form::New => choice.pick(&[least, any]),
+    };
+    byte as u8
+}
+
+/// A good Reset.
+fn put_reset(record: &mut [u8], head: usize) {
+    record[..2].copy_from_slice(&[BYTES, 5]);
+    record[head..head + 5].copy_from_slice(&[0x01, 0x01, 0x00, 0xFF, 0x03]);
+}
+
+/// A gap or a good Reset.
+fn put_any(choice: &mut Generator, record: &mut [u8], head: usize) {
+    if choice.chance(70) {
+        put_reset(record, head);
+    } else {
+        record[0] = GAP;
+    }
+}
+
+/// Why the old form cannot hold a good record of the new one.
+pub const NOT_HELD_WAYS: [&str; 7] = [
+    "seat 1",
+    "tick, low",
+    "tick, 2nd",
+    "tick, 3rd",
+    "tick, high",
+    "7 bytes",
+    "8 bytes",
+];
+
+/// A good record of the new form that the old one cannot hold for this reason alone.
+pub fn not_held_record(way: usize, choice: &mut Generator) -> Vec<u8> {
+    let any = choice.between(1, 255) as u8;
+    let count = choice.between(0, 6);
+    let (seat, tick, count) = match way {
+        0 => (1, 0, count),
+        1..=4 => (0, u32::from(any) << (8 * (way - 1)), count),
+        _ => (0, 0, way + 2),
+    };
+    let carried: Vec<u8> = (0..count).map(|_| choice.byte()).collect();
+    Record::carrying(seat, tick, &carried).written(Form::New)
 }
 
 /// How often each status byte came in replies.

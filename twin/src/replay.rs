@@ -1,18 +1,12 @@
-//! A recorded capture played into a fresh chip, its replies as lines of hex (01 "Replay").
+//! A recorded capture, of either form, played into a fresh chip, its replies as lines of hex (01 "Replay", 02 §5).
 
 use std::io::{self, Read, Write};
 
+use crate::capture::{judge_record, Form, Record, NEW_RECORD, PLAYED_SEAT};
 use crate::chip::{step, Answer, Chip, Event, ERASED, SMALLEST_ROOM};
 use crate::frame::{counted, Fault};
 use crate::part::{Area, Part};
 use crate::sums::{work_out, Sums, SUMS};
-
-pub const RECORD: usize = 8;
-/// The most bytes one record carries.
-pub const CARRIED: usize = 6;
-
-const GAP: u8 = 0x00;
-const BYTES: u8 = 0x01;
 
 /// The part of the replay; device code, name and version as in 000 table 3-2, its misprint mended.
 pub fn replay_part() -> Part {
@@ -33,36 +27,6 @@ pub enum Outcome {
     End(u64),
     /// Number of the bad or short record.
     Bad(u64),
-}
-
-/// A record judged good.
-#[derive(Clone, Copy, Debug, PartialEq, Eq)]
-pub enum Record {
-    Gap,
-    Bytes { bytes: [u8; CARRIED], count: usize },
-}
-
-/// A record is judged whole before any of its bytes is heard.
-pub fn judge_record(record: &[u8; RECORD]) -> Option<Record> {
-    let [kind, count, bytes @ ..] = *record;
-    let count = usize::from(count);
-    let unused_clear = |from: usize| bytes[from..].iter().all(|byte| *byte == 0x00);
-    match kind {
-        GAP if count == 0 && unused_clear(0) => Some(Record::Gap),
-        BYTES if (1..=CARRIED).contains(&count) && unused_clear(count) => {
-            Some(Record::Bytes { bytes, count })
-        }
-        _ => None,
-    }
-}
-
-/// The record that carries these bytes, one to six.
-pub fn bytes_record(carried: &[u8]) -> [u8; RECORD] {
-    let mut record = [0; RECORD];
-    record[0] = BYTES;
-    record[1] = carried.len() as u8;
-    record[2..2 + carried.len()].copy_from_slice(carried);
-    record
 }
 
 /// The chip's whole answer to one event, and the fault of the frame that the event completed, if it was judged bad.
@@ -131,8 +95,9 @@ impl Player {
     }
 }
 
-/// Plays a capture; every answer with at least one frame is also shown to `heard`.
+/// Plays a capture of this form; every answer with at least one frame is also shown to `heard`.
 pub fn replay<R: Read, W: Write>(
+    form: Form,
     mut capture: R,
     mut output: W,
     mut heard: impl FnMut(&[u8]),
@@ -140,19 +105,18 @@ pub fn replay<R: Read, W: Write>(
     let mut player = Player::fresh();
     let mut frames = 0;
     let mut number = 0;
-    let mut record = [0; RECORD];
+    let mut room = [0; NEW_RECORD];
     loop {
-        let got = read_up_to(&mut capture, &mut record)?;
+        let got = read_up_to(&mut capture, &mut room[..form.record()])?;
         if got == 0 {
             writeln!(output, "END {frames}")?;
             return Ok(Outcome::End(frames));
         }
-        let whole = got == RECORD;
-        let Some(good) = judge_record(&record).filter(|_| whole) else {
+        let Some(good) = judge_record(form, &room[..got]) else {
             writeln!(output, "BAD {number}")?;
             return Ok(Outcome::Bad(number));
         };
-        for event in events(good) {
+        for event in events(&good) {
             let reply = player.hear(event);
             if reply.frames > 0 {
                 heard(&reply.bytes);
@@ -167,19 +131,18 @@ pub fn replay<R: Read, W: Write>(
 }
 
 /// The replay of a capture held in memory, as text.
-pub fn replay_text(capture: &[u8]) -> String {
+pub fn replay_text(form: Form, capture: &[u8]) -> String {
     let mut output = Vec::new();
-    replay(capture, &mut output, |_| ()).expect("memory neither ends early nor fails");
+    replay(form, capture, &mut output, |_| ()).expect("memory neither ends early nor fails");
     String::from_utf8(output).expect("only hex, digits and capitals are written")
 }
 
-pub fn events(record: Record) -> Vec<Event> {
-    match record {
-        Record::Gap => vec![Event::Gap],
-        Record::Bytes { bytes, count } => bytes[..count]
-            .iter()
-            .map(|byte| Event::Byte(*byte))
-            .collect(),
+/// What a good record plays; of seat 1 it is nothing, and a gap there drops nothing.
+pub fn events(record: &Record) -> Vec<Event> {
+    match &record.carried {
+        _ if record.seat != PLAYED_SEAT => Vec::new(),
+        None => vec![Event::Gap],
+        Some(carried) => carried.bytes().iter().copied().map(Event::Byte).collect(),
     }
 }
 

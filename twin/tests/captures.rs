@@ -1,23 +1,25 @@
-//! Records, the printed form, and random captures (01 "Replay").
+//! Records of the old form, the printed lines, and random captures (01 "Replay"); tests/forms.rs has the new form.
 
 mod common;
 
 use std::io::{self, Read};
 
 use common::*;
+use twin::capture::{bytes_record, judge_record, Form, CARRIED, RECORD};
 use twin::chip::{Event, Phase};
 use twin::part::Part;
 use twin::random::{random_capture, Tally};
-use twin::replay::{
-    bytes_record, events, judge_record, replay, replay_text, split_frames, Outcome, Player,
-    CARRIED, RECORD,
-};
+use twin::replay::{events, replay, split_frames, Outcome, Player};
 
 const CAPTURES: u64 = 2_000;
 
 /// Bytes in full records of six, as many as it takes.
 fn records(bytes: &[u8]) -> Vec<u8> {
     bytes.chunks(CARRIED).flat_map(bytes_record).collect()
+}
+
+fn replay_text(capture: &[u8]) -> String {
+    twin::replay::replay_text(Form::Old, capture)
 }
 
 fn setup() -> Vec<u8> {
@@ -131,13 +133,13 @@ impl Read for Trickle<'_> {
 #[test]
 fn any_reader_gives_the_same_text() {
     for seed in 0..50 {
-        let capture = random_capture(seed);
+        let capture = random_capture(Form::Old, seed);
         let mut output = Vec::new();
         let trickle = Trickle {
             bytes: &capture,
             interrupted: false,
         };
-        replay(trickle, &mut output, |_| ()).unwrap();
+        replay(Form::Old, trickle, &mut output, |_| ()).unwrap();
         assert_eq!(String::from_utf8(output).unwrap(), replay_text(&capture));
     }
 }
@@ -145,9 +147,12 @@ fn any_reader_gives_the_same_text() {
 #[test]
 fn same_seed_same_capture() {
     for seed in 0..50 {
-        assert_eq!(random_capture(seed), random_capture(seed));
+        assert_eq!(
+            random_capture(Form::Old, seed),
+            random_capture(Form::Old, seed)
+        );
     }
-    assert_ne!(random_capture(1), random_capture(2));
+    assert_ne!(random_capture(Form::Old, 1), random_capture(Form::Old, 2));
 }
 
 #[test]
@@ -155,9 +160,12 @@ fn random_captures_reach_every_status() {
     let mut tally = Tally::new();
     let (mut ended, mut bad, mut frames) = (0, 0, 0);
     for seed in 1..=CAPTURES {
-        let capture = random_capture(seed);
+        let capture = random_capture(Form::Old, seed);
         let mut output = Vec::new();
-        let outcome = replay(&capture[..], &mut output, |answer| tally.hear(answer)).unwrap();
+        let outcome = replay(Form::Old, &capture[..], &mut output, |answer| {
+            tally.hear(answer)
+        })
+        .unwrap();
         let text = String::from_utf8(output).unwrap();
         let lines = text.lines().count() as u64;
         match outcome {
@@ -284,13 +292,13 @@ impl Reach {
 fn random_captures_reach_every_command() {
     let mut reach = Reach::default();
     for seed in 1..=300 {
-        let capture = random_capture(seed);
+        let capture = random_capture(Form::Old, seed);
         let mut player = Player::fresh();
         for record in capture.chunks_exact(RECORD) {
-            let Some(good) = judge_record(record.try_into().unwrap()) else {
+            let Some(good) = judge_record(Form::Old, record) else {
                 break;
             };
-            for event in events(good) {
+            for event in events(&good) {
                 let before = Player {
                     part: player.part.clone(),
                     chip: player.chip.clone(),

@@ -3,6 +3,7 @@
 mod common;
 
 use common::*;
+use twin::capture::Form;
 use twin::chip::Phase;
 use twin::replay::replay_text;
 
@@ -17,7 +18,7 @@ fn whole_case() {
 02 08 FF 03 00 00 0F 00 FF FF E9 03
 END 3
 ";
-    assert_eq!(replay_text(&capture), printed);
+    assert_eq!(replay_text(Form::Old, &capture), printed);
 }
 
 #[test]

@@ -7,11 +7,12 @@ use std::process::Command;
 
 use common::flow::signature_of;
 use common::*;
+use twin::capture::{judge_record, Form, RECORD};
 use twin::chip::{Event, Phase};
 use twin::dock::{answer, ask, start, timeout};
 use twin::dock::{Cause, Failure, Job, Stage, State};
 use twin::frame::{read_reply, Fault};
-use twin::replay::{events, hex_line, judge_record, replay_part, Player, RECORD};
+use twin::replay::{events, hex_line, replay_part, Player};
 
 const NONE: (u8, u16) = (0, 0);
 const LEN: (u8, u16) = (3, 1);
@@ -871,7 +872,7 @@ fn the_samples_say_which_byte_is_wrong() {
         let told: Vec<u16> = made
             .stdout
             .chunks(RECORD)
-            .flat_map(|record| events(judge_record(record.try_into().unwrap()).unwrap()))
+            .flat_map(|record| events(&judge_record(Form::Old, record).unwrap()))
             .map(|event| player.hear(event))
             .filter(|reply| reply.frames > 0)
             .map(|reply| in_numbers(reply.fault).1)

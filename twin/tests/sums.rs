@@ -3,10 +3,11 @@
 mod common;
 
 use common::*;
+use twin::capture::{judge_record, Form, RECORD};
 use twin::chip::{Event, Phase};
 use twin::part::{Area, Part};
 use twin::random::{random_capture, range_body, Generator};
-use twin::replay::{events, judge_record, replay_part, Player, RECORD};
+use twin::replay::{events, replay_part, Player};
 use twin::sums::{slot_of, sum_of, work_out, Sums, SUMS};
 
 /// The sum counted upwards and negated, not the way the twin does it.
@@ -326,11 +327,11 @@ fn right_sums_stay_right() {
     let mut renewed = 0;
     for seed in 1..=300 {
         let mut player = Player::fresh();
-        for record in random_capture(seed).chunks_exact(RECORD) {
-            let Some(good) = judge_record(record.try_into().unwrap()) else {
+        for record in random_capture(Form::Old, seed).chunks_exact(RECORD) {
+            let Some(good) = judge_record(Form::Old, record) else {
                 break;
             };
-            for event in events(good) {
+            for event in events(&good) {
                 let before = player.sums;
                 let said = player.hear(event).frames > 0;
                 renewed += u64::from(player.sums != before);

@@ -25,7 +25,9 @@ use Rattle.chip_state.proofs.Laws.{accepted}
 use Rattle.claims_good.specs.Good.{Stands, aByte, verdictIn}
 use Rattle.chip_layout.proofs.Laws.{chip-accepts, chip-in-is}
 use Rattle.chip_layout.specs.Admission.{chipAcceptance}
-use Rattle.replay_door.specs.Calls.{replayTold, replayedBy, replayedThrough}
+use Rattle.replay_capture.specs.declared.Form.{Form}
+use Rattle.replay_door.specs.Calls.{endNumber, replayTold, replayedBy, replayedThrough}
+use Rattle.replay_records.specs.declared.Ended.the-variants.{AtBadRecord, OutputFull, Whole}
 use Rattle.chip_layout.specs.Layout.{chipIn, collectorIn, stateSize}
 use Rattle.chip_core.specs.Effect.{Memory}
 use Rattle.frame.proofs.Laws.Sum.{Below, below-drop, below-take, more}
@@ -101,8 +103,13 @@ accepted-feed-replies part bs state m room b c l e =
     (stands part state m room b l (chip-accepts (partIn part) state (length (m .flash .codeFlash)) (length (m .flash .dataFlash)) (length room) e)) c refl
 
 -- A replay that is refused before its first record plays none and keeps everything.
-pub refused-replay-keeps : (p : Part) (capture told state : List ℕ) (m : Memory) (room output : List ℕ) (r : Refusal)
+pub refused-replay-keeps : (form : Form) (p : Part) (capture told state : List ℕ) (m : Memory) (room output : List ℕ) (r : Refusal)
     → chipAcceptance p state (length (m .flash .codeFlash)) (length (m .flash .dataFlash)) (length room) ≡ Verdict.Refused r
-    → replayedThrough p capture told state m room output ≡ replayTold (number r) told state m room output
+    → replayedThrough form p capture told state m room output ≡ replayTold (number r) told state m room output
 unfolding replayedThrough replayedBy
-refused-replay-keeps p capture told state m room output r e = rw e
+refused-replay-keeps form p capture told state m room output r e = rw e
+
+-- How a replay ends, by its number: 10 is the bad record's, here as for the conversions (`NumbersAre`, claims_capture).
+pub endings-are : (endNumber Whole ≡ 0) × (endNumber AtBadRecord ≡ 10) × (endNumber OutputFull ≡ 17)
+unfolding endNumber
+endings-are = (refl, refl, refl)

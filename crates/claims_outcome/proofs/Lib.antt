@@ -31,3 +31,5 @@ pub mod ReplayHex
 pub mod ReplayPlay
 pub mod ReplayQuiet
 pub mod ReplayRecords
+pub mod Conversion
+pub mod ConversionDoor

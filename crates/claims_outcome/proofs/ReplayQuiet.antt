@@ -7,5 +7,5 @@ use Rattle.claims_outcome.proofs.Outcome.{Once}
 use Rattle.replay_quiet.proofs.settle.Reads as settle
 use Rattle.replay_quiet.proofs.settle.Kinds as settle-kinds
 
-pub settle-once : Once settle-kinds.ps settle-kinds.r settle.Post (λ κs r x. settling r (now (x .1 .1 .1 .0)))
+pub settle-once : Once settle-kinds.ps settle-kinds.r settle.Post (λ κs r x. settling r (now (x .1 .1 .1 .1 .0)))
 settle-once κs a r s x y p q = p ∙ sym q

@@ -2,3 +2,5 @@ pub mod NeverRefused
 pub mod WholeCase
 pub mod Lines
 pub mod Pieces
+pub mod Converted
+pub mod Seats

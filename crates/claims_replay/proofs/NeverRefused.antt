@@ -8,9 +8,10 @@ use native.Mathlib.Omega.{arith}
 use lib.ListN.{drop, length, length-append, length-drop, take}
 use lib.Seq.{length-take-le}
 use borrow.Author.Tests.{le-ltb}
-use Rattle.replay_capture.specs.Capture.{carriedBytes, recordOf, recordSize, recordsIn, recordsOf}
+use Rattle.replay_capture.specs.Capture.{carriedBytes, headSize, recordOf, recordSize, recordsIn, recordsOf}
+use Rattle.replay_capture.specs.declared.Form.{Form}
 use Rattle.replay_capture.specs.declared.Record.{Record}
-use Rattle.replay_capture.specs.declared.Record.the-variants.{BadRecord, BytesRecord, GapRecord}
+use Rattle.replay_capture.specs.declared.Record.the-variants.{BadRecord, BytesRecord, GapRecord, OtherSeat}
 use Rattle.chip.specs.Run.{answers, before, onward, spokenIn}
 use Rattle.chip.specs.Step.{Outcome}
 use Rattle.chip.specs.declared.Answer.{Answer}
@@ -102,21 +103,22 @@ kept-turns : (p : Part) (x : Playing) (output : List ℕ) → Plays p x → Turn
 unfolding playedInto
 kept-turns p x output w = record { goes = λ r e. by-goes (x .left .answer) (w .bytes) (w .frames) x (w .replied) r e; fits = λ e. by-fits (x .left .answer) x e; stands = again (w .stands) }
 
-with-turns : (p : Part) (vs : List Event) (c : Chip) (m : Memory) (room output : List ℕ) → Stands p (before c m room) → AllProper vs → outputLeast ≤ length output
-    → Turns p (playWith vs p c m room output)
+with-turns : (form : Form) (p : Part) (vs : List Event) (c : Chip) (m : Memory) (room output : List ℕ) → Stands p (before c m room) → AllProper vs → outputLeast form ≤ length output
+    → Turns p (playWith form vs p c m room output)
 unfolding playWith if_then_else_
-with-turns p vs c m room output s e h =
-    rw (le-ltb (length output) 192 h)
+with-turns form p vs c m room output s e h =
+    rw (le-ltb (length output) (outputLeast form) h)
     (kept-turns p (played p vs (beforePlaying c m room)) output (plays p vs (beforePlaying c m room) (record { bytes = 0; frames = 0; replied = refl; stands = s }) e))
 
-pub turn-plays : (p : Part) (bs : List ℕ) (c : Chip) (m : Memory) (room output : List ℕ) → Stands p (before c m room) → Below 256 bs → outputLeast ≤ length output
-    → Turns p (playOf p bs c m room output)
+pub turn-plays : (form : Form) (p : Part) (bs : List ℕ) (c : Chip) (m : Memory) (room output : List ℕ) → Stands p (before c m room) → Below 256 bs → outputLeast form ≤ length output
+    → Turns p (playOf form p bs c m room output)
 unfolding playOf playBy eventsOf
-turn-plays p bs c m room output s b h = go (recordOf recordSize bs)
+turn-plays form p bs c m room output s b h = go (recordOf form bs)
   where
-    go : (r : Record) → Turns p (playBy r p bs c m room output)
-    go GapRecord = with-turns p (Gap ∷ []) c m room output s (andEvent aGap noEvent) h
-    go (BytesRecord n) = with-turns p (map Byte (carriedBytes n bs)) c m room output s (all-bytes (carriedBytes n bs) (below-take 256 n (below-drop 256 2 b))) h
+    go : (r : Record) → Turns p (playBy form r p bs c m room output)
+    go GapRecord = with-turns form p (Gap ∷ []) c m room output s (andEvent aGap noEvent) h
+    go (BytesRecord n) = with-turns form p (map Byte (carriedBytes form n bs)) c m room output s (all-bytes (carriedBytes form n bs) (below-take 256 n (below-drop 256 (headSize form) b))) h
+    go OtherSeat = with-turns form p [] c m room output s noEvent h
     go BadRecord = record { goes = λ r e. let z : _≡_ {A = ℕ} 0 1 = cc in omega arith; fits = λ e. let z : _≡_ {A = ℕ} 0 1 = cc in omega arith; stands = s }
 
 -- A whole capture: with output for every record it is never halted.
@@ -124,26 +126,26 @@ pub data AllBelow : List (List ℕ) → Type 0 where
   noRecord : AllBelow []
   andRecord : {r : List ℕ} {rs : List (List ℕ)} → Below 256 r → AllBelow rs → AllBelow (r ∷ rs)
 
-pub record Goes (p : Part) (rs : List (List ℕ)) (x : Replaying) : Type 0 where
+pub record Goes (form : Form) (p : Part) (rs : List (List ℕ)) (x : Replaying) : Type 0 where
   pub stands : Stands p (before (x .chip) (x .memory) (x .room))
   pub whole : x .ended ≡ Whole
   pub within : x .bytes ≤ length (x .output)
-  pub enough : outputLeast * length rs + x .bytes ≤ length (x .output)
+  pub enough : outputLeast form * length rs + x .bytes ≤ length (x .output)
 
-goes-on : (p : Part) (r : List ℕ) (rs : List (List ℕ)) (x : Replaying) (n k : ℕ) → Goes p (r ∷ rs) x → Below 256 r
-    → playOf p r (x .chip) (x .memory) (x .room) (drop (x .bytes) (x .output)) .ended ≡ Played n k
-    → Goes p rs (afterRecord Whole 1 n k (playOf p r (x .chip) (x .memory) (x .room) (drop (x .bytes) (x .output))) x)
-goes-on p r rs x n k g b e =
+goes-on : (form : Form) (p : Part) (r : List ℕ) (rs : List (List ℕ)) (x : Replaying) (n k : ℕ) → Goes form p (r ∷ rs) x → Below 256 r
+    → playOf form p r (x .chip) (x .memory) (x .room) (drop (x .bytes) (x .output)) .ended ≡ Played n k
+    → Goes form p rs (afterRecord Whole 1 n k (playOf form p r (x .chip) (x .memory) (x .room) (drop (x .bytes) (x .output))) x)
+goes-on form p r rs x n k g b e =
     let l = drop (x .bytes) (x .output) in
     let w : length l ≡ length (x .output) - x .bytes = length-drop (x .bytes) (x .output) in
-    let a : outputLeast ≤ length l = omega (arith, w, g .enough) in
-    let t = playOf p r (x .chip) (x .memory) (x .room) l in
-    let f = play-fits p r (x .chip) (x .memory) (x .room) l (g .stands .arrays) in
+    let a : outputLeast form ≤ length l = omega (arith, w, g .enough) in
+    let t = playOf form p r (x .chip) (x .memory) (x .room) l in
+    let f = play-fits form p r (x .chip) (x .memory) (x .room) l (g .stands .arrays) in
     let o : length (take (x .bytes) (x .output) ++ t .output) ≡ length (x .output) =
     length-append (take (x .bytes) (x .output)) (t .output)
-    ∙ (rw (length-take-le (x .bytes) (x .output) (g .within), play-keeps p r (x .chip) (x .memory) (x .room) l (g .stands .arrays)) (omega (arith, w, g .within))) in
+    ∙ (rw (length-take-le (x .bytes) (x .output) (g .within), play-keeps form p r (x .chip) (x .memory) (x .room) l (g .stands .arrays)) (omega (arith, w, g .within))) in
     record {
-      stands = turn-plays p r (x .chip) (x .memory) (x .room) l (g .stands) b a .stands;
+      stands = turn-plays form p r (x .chip) (x .memory) (x .room) l (g .stands) b a .stands;
       whole = refl;
       within = omega (arith, o, w, f .bytes n k e, g .within);
       enough = omega (arith, o, g .enough, f .short n k e);
@@ -161,47 +163,47 @@ not-whole q e f = let z : _≡_ {A = Ended} Whole (Ended.Refused q) = sym e ∙ 
 not-full : {x : Ended} → x ≡ Whole → x ≡ OutputFull → ⊥
 not-full e f = let z : _≡_ {A = Ended} Whole OutputFull = sym e ∙ f in let y : _≡_ {A = ℕ} 0 1 = cc in omega arith
 
-pub replayed-unhalted : (p : Part) (rs : List (List ℕ)) (x : Replaying) → AllBelow rs → Goes p rs x → Unhalted p (replayedFrom p rs x)
+pub replayed-unhalted : (form : Form) (p : Part) (rs : List (List ℕ)) (x : Replaying) → AllBelow rs → Goes form p rs x → Unhalted p (replayedFrom form p rs x)
 unfolding replayedFrom whileWhole nextBy
-replayed-unhalted p [] x noRecord g = record { stands = g .stands; unrefused = λ q e. not-whole q (g .whole) e; unfilled = λ e. not-full (g .whole) e }
-replayed-unhalted p (r ∷ rs) x (andRecord b bs) g = go (t .ended) refl (λ y w. replayed-unhalted p rs y bs w)
+replayed-unhalted form p [] x noRecord g = record { stands = g .stands; unrefused = λ q e. not-whole q (g .whole) e; unfilled = λ e. not-full (g .whole) e }
+replayed-unhalted form p (r ∷ rs) x (andRecord b bs) g = go (t .ended) refl (λ y w. replayed-unhalted form p rs y bs w)
   where
     t : RecordPlaying
-    t = playOf p r (x .chip) (x .memory) (x .room) (drop (x .bytes) (x .output))
+    t = playOf form p r (x .chip) (x .memory) (x .room) (drop (x .bytes) (x .output))
 
-    room : outputLeast ≤ length (drop (x .bytes) (x .output))
+    room : outputLeast form ≤ length (drop (x .bytes) (x .output))
     room = let w : length (drop (x .bytes) (x .output)) ≡ length (x .output) - x .bytes = length-drop (x .bytes) (x .output) in omega (arith, w, g .enough)
 
     turns : Turns p t
-    turns = turn-plays p r (x .chip) (x .memory) (x .room) (drop (x .bytes) (x .output)) (g .stands) b room
+    turns = turn-plays form p r (x .chip) (x .memory) (x .room) (drop (x .bytes) (x .output)) (g .stands) b room
 
-    go : (a : RecordEnded) → t .ended ≡ a → ((y : Replaying) → Goes p rs y → Unhalted p (replayedFrom p rs y))
-        → Unhalted p (whileWhole (nextBy a t x .ended) (replayedFrom p rs (nextBy a t x)) (nextBy a t x))
-    go (Played n k) e rest = rest (afterRecord Whole 1 n k t x) (goes-on p r rs x n k g b e)
+    go : (a : RecordEnded) → t .ended ≡ a → ((y : Replaying) → Goes form p rs y → Unhalted p (replayedFrom form p rs y))
+        → Unhalted p (whileWhole (nextBy a t x .ended) (replayedFrom form p rs (nextBy a t x)) (nextBy a t x))
+    go (Played n k) e rest = rest (afterRecord Whole 1 n k t x) (goes-on form p r rs x n k g b e)
     go NotGood e rest = record { stands = turns .stands; unrefused = λ q f. let z : _≡_ {A = ℕ} 0 1 = cc in omega arith; unfilled = λ f. let z : _≡_ {A = ℕ} 0 1 = cc in omega arith }
     go OutputShort e rest = absurd (turns .fits e)
     go (RecordEnded.Refused s) e rest = absurd (turns .goes s e)
 
-pub records-below : (most : ℕ) (bs : List ℕ) → Below 256 bs → AllBelow (recordsIn recordSize most bs)
+pub records-below : (size most : ℕ) (bs : List ℕ) → Below 256 bs → AllBelow (recordsIn size most bs)
 unfolding recordsIn
-records-below zero bs b = noRecord
-records-below (suc most) [] b = noRecord
-records-below (suc most) (x ∷ bs) b = andRecord (below-take 256 recordSize b) (records-below most (drop recordSize (x ∷ bs)) (below-drop 256 recordSize b))
+records-below size zero bs b = noRecord
+records-below size (suc most) [] b = noRecord
+records-below size (suc most) (x ∷ bs) b = andRecord (below-take 256 size b) (records-below size most (drop size (x ∷ bs)) (below-drop 256 size b))
 
-pub replay-unhalted : (p : Part) (capture : List ℕ) (c : Chip) (m : Memory) (room output : List ℕ) → Stands p (before c m room) → Below 256 capture
-    → outputLeast * length (recordsOf recordSize capture) ≤ length output → Unhalted p (replayOf p capture c m room output)
+pub replay-unhalted : (form : Form) (p : Part) (capture : List ℕ) (c : Chip) (m : Memory) (room output : List ℕ) → Stands p (before c m room) → Below 256 capture
+    → outputLeast form * length (recordsOf (recordSize form) capture) ≤ length output → Unhalted p (replayOf form p capture c m room output)
 unfolding replayOf recordsOf
-replay-unhalted p capture c m room output s b h =
-    replayed-unhalted p (recordsIn recordSize (length capture) capture)
+replay-unhalted form p capture c m room output s b h =
+    replayed-unhalted form p (recordsIn (recordSize form) (length capture) capture)
     (record { ended = Whole; records = 0; bytes = 0; frames = 0; chip = c; memory = m; room = room; output = output })
-    (records-below (length capture) capture b)
+    (records-below (recordSize form) (length capture) capture b)
     (record { stands = s; whole = refl; within = omega arith; enough = omega (arith, h) })
 
-pub never-halted : (p : Part) (capture : List ℕ) (c : Chip) (m : Memory) (room output : List ℕ) → Stands p (before c m room) → Below 256 capture
-    → outputLeast * length (recordsOf recordSize capture) ≤ length output → (q : Refusal) → replayOf p capture c m room output .ended ≡ Ended.Refused q → ⊥
-never-halted p capture c m room output s b h q e = replay-unhalted p capture c m room output s b h .unrefused q e
+pub never-halted : (form : Form) (p : Part) (capture : List ℕ) (c : Chip) (m : Memory) (room output : List ℕ) → Stands p (before c m room) → Below 256 capture
+    → outputLeast form * length (recordsOf (recordSize form) capture) ≤ length output → (q : Refusal) → replayOf form p capture c m room output .ended ≡ Ended.Refused q → ⊥
+never-halted form p capture c m room output s b h q e = replay-unhalted form p capture c m room output s b h .unrefused q e
 
 -- And never for want of output.
-pub never-filled : (p : Part) (capture : List ℕ) (c : Chip) (m : Memory) (room output : List ℕ) → Stands p (before c m room) → Below 256 capture
-    → outputLeast * length (recordsOf recordSize capture) ≤ length output → replayOf p capture c m room output .ended ≡ OutputFull → ⊥
-never-filled p capture c m room output s b h e = replay-unhalted p capture c m room output s b h .unfilled e
+pub never-filled : (form : Form) (p : Part) (capture : List ℕ) (c : Chip) (m : Memory) (room output : List ℕ) → Stands p (before c m room) → Below 256 capture
+    → outputLeast form * length (recordsOf (recordSize form) capture) ≤ length output → replayOf form p capture c m room output .ended ≡ OutputFull → ⊥
+never-filled form p capture c m room output s b h e = replay-unhalted form p capture c m room output s b h .unfilled e

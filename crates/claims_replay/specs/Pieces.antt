@@ -1,10 +1,12 @@
--- A capture replayed in pieces, as the program reads it: document 01, "Replay". Every piece but the last is whole records; each has output of its own, with
--- whatever bytes in it, and goes to the chip that the pieces before it left. Nothing of the program's own is in it, only what `replay_records::replay` does.
+-- A capture, of either form, replayed in pieces, as the program reads it: document 01, "Replay", and 02, section 5. Every piece but the last is whole
+-- records; each has output of its own, with whatever bytes in it, and goes to the chip that the pieces before it left. Nothing of the program's own is in it, only
+-- what `replay_records::replay` does.
 use mathlib.Core.List.{List, [], _++_, _∷_}
 use mathlib.Core.Path.{_≡_}
 use Prim.Native.Nat.{_%_, _*_, _+_, _≤_, ℕ}
 use lib.ListN.{length, replicate}
 use Rattle.replay_capture.specs.Capture.{recordSize, recordsOf}
+use Rattle.replay_capture.specs.declared.Form.{Form}
 use Rattle.chip.specs.Run.{before}
 use Rattle.chip.specs.Step.{freshChip}
 use Rattle.chip_state.specs.declared.Chip.{Chip}
@@ -42,11 +44,11 @@ pub record Piece : Type 0 where
   pub output : List ℕ
 
 -- One more piece, to the chip that was left.
-abbrev pub ofPiece : Part → Upshot → Piece → Upshot
-ofPiece p g q = upshotOf (replayOf p (q .capture) (g .chip) (g .memory) (g .room) (q .output))
+abbrev pub ofPiece : Form → Part → Upshot → Piece → Upshot
+ofPiece form p g q = upshotOf (replayOf form p (q .capture) (g .chip) (g .memory) (g .room) (q .output))
 
-abbrev pub withPiece : Part → Upshot → Piece → Upshot
-withPiece p g q = andThen g (ofPiece p g q)
+abbrev pub withPiece : Form → Part → Upshot → Piece → Upshot
+withPiece form p g q = andThen g (ofPiece form p g q)
 
 -- Only a piece that was replayed whole is followed by the next.
 unfoldable pub whileOn : Ended → Upshot → Upshot → Upshot
@@ -55,29 +57,29 @@ whileOn AtBadRecord rest g = g
 whileOn OutputFull rest g = g
 whileOn (Refused r) rest g = g
 
-unfoldable pub inPieces : Part → List Piece → Upshot → Upshot
-inPieces p [] g = g
-inPieces p (q ∷ qs) g = whileOn (withPiece p g q .ended) (inPieces p qs (withPiece p g q)) (withPiece p g q)
+unfoldable pub inPieces : Form → Part → List Piece → Upshot → Upshot
+inPieces form p [] g = g
+inPieces form p (q ∷ qs) g = whileOn (withPiece form p g q .ended) (inPieces form p qs (withPiece form p g q)) (withPiece form p g q)
 
 unfoldable pub joined : List Piece → List ℕ
 joined [] = []
 joined (q ∷ qs) = q .capture ++ joined qs
 
 -- Output with room for the replies of every record.
-abbrev pub Suffices : List ℕ → List ℕ → Type 0
-Suffices capture output = outputLeast * length (recordsOf recordSize capture) ≤ length output
+abbrev pub Suffices : Form → List ℕ → List ℕ → Type 0
+Suffices form capture output = outputLeast form * length (recordsOf (recordSize form) capture) ≤ length output
 
 -- Cut between records, with enough output for each piece.
-pub data Pieces : List Piece → Type 0 where
-  noPiece : Pieces []
-  lastPiece : (q : Piece) → Suffices (q .capture) (q .output) → Pieces (q ∷ [])
-  andPiece : (q : Piece) (qs : List Piece) → length (q .capture) % recordSize ≡ 0 → Suffices (q .capture) (q .output) → Pieces qs → Pieces (q ∷ qs)
+pub data Pieces (form : Form) : List Piece → Type 0 where
+  noPiece : Pieces form []
+  lastPiece : (q : Piece) → Suffices form (q .capture) (q .output) → Pieces form (q ∷ [])
+  andPiece : (q : Piece) (qs : List Piece) → length (q .capture) % recordSize form ≡ 0 → Suffices form (q .capture) (q .output) → Pieces form qs → Pieces form (q ∷ qs)
 
 -- The pieces together have the upshot of the whole, its record numbers included: a bad record's number is that in the whole capture.
 abbrev pub InPieces : Type 0
 InPieces =
-    (p : Part) (qs : List Piece) (c : Chip) (m : Memory) (room output : List ℕ) → Arrays p → Pieces qs → Suffices (joined qs) output
-    → inPieces p qs (beginning c m room) ≡ upshotOf (replayOf p (joined qs) c m room output)
+    (form : Form) (p : Part) (qs : List Piece) (c : Chip) (m : Memory) (room output : List ℕ) → Arrays p → Pieces form qs → Suffices form (joined qs) output
+    → inPieces form p qs (beginning c m room) ≡ upshotOf (replayOf form p (joined qs) c m room output)
 
 -- From a chip that stands, no piece is refused, and the chip stands after each.
 pub record Standing (p : Part) (g : Upshot) : Type 0 where
@@ -86,8 +88,8 @@ pub record Standing (p : Part) (g : Upshot) : Type 0 where
 
 abbrev pub PiecesStand : Type 0
 PiecesStand =
-    (p : Part) (qs : List Piece) (c : Chip) (m : Memory) (room : List ℕ) → Stands p (before c m room) → Below 256 (joined qs) → Pieces qs
-    → Standing p (inPieces p qs (beginning c m room))
+    (form : Form) (p : Part) (qs : List Piece) (c : Chip) (m : Memory) (room : List ℕ) → Stands p (before c m room) → Below 256 (joined qs) → Pieces form qs
+    → Standing p (inPieces form p qs (beginning c m room))
 
 -- What is printed of the pieces: the lines of each one's reply frames as it is replayed, and the last line, of the numbers added up.
 unfoldable pub onlyOn : Ended → List ℕ → List ℕ
@@ -96,16 +98,16 @@ onlyOn AtBadRecord text = []
 onlyOn OutputFull text = []
 onlyOn (Refused r) text = []
 
-unfoldable pub linesInPieces : Part → List Piece → Upshot → List ℕ
-linesInPieces p [] g = []
-linesInPieces p (q ∷ qs) g = lines (ofPiece p g q .said) ++ onlyOn (withPiece p g q .ended) (linesInPieces p qs (withPiece p g q))
+unfoldable pub linesInPieces : Form → Part → List Piece → Upshot → List ℕ
+linesInPieces form p [] g = []
+linesInPieces form p (q ∷ qs) g = lines (ofPiece form p g q .said) ++ onlyOn (withPiece form p g q .ended) (linesInPieces form p qs (withPiece form p g q))
 
 abbrev pub freshStart : Upshot
 freshStart = beginning (freshChip replayPart) freshMemory (replicate 32 0x00)
 
-unfoldable pub printedInPieces : List Piece → List ℕ
-printedInPieces qs = let g = inPieces replayPart qs freshStart in linesInPieces replayPart qs freshStart ++ lastLine g (g .ended)
+unfoldable pub printedInPieces : Form → List Piece → List ℕ
+printedInPieces form qs = let g = inPieces form replayPart qs freshStart in linesInPieces form replayPart qs freshStart ++ lastLine g (g .ended)
 
 -- It is what the whole prints.
 abbrev pub PrintedInPieces : Type 0
-PrintedInPieces = (qs : List Piece) → Below 256 (joined qs) → Pieces qs → printedInPieces qs ≡ printed (joined qs)
+PrintedInPieces = (form : Form) (qs : List Piece) → Below 256 (joined qs) → Pieces form qs → printedInPieces form qs ≡ printed form (joined qs)

@@ -1,4 +1,4 @@
--- What the replay of a capture prints: document 01, "Replay", from the capture's bytes to the characters on standard output.
+-- What the replay of a capture, of either form, prints: document 01, "Replay", and 02, section 5, from the capture's bytes to the characters on standard output.
 use mathlib.Core.List.{List, [], _++_, _∷_}
 use Prim.Native.Nat.{_%_, _*_, _+_, _/_, suc, zero, ℕ}
 use lib.Dec.{ltb}
@@ -8,6 +8,7 @@ use Rattle.chip_state.specs.declared.Chip.{Chip}
 use Rattle.chip_core.specs.Effect.{Memory}
 use Rattle.claims_stars.specs.Table.{freshMemory}
 use Rattle.frame.specs.Frame.{counted}
+use Rattle.replay_capture.specs.declared.Form.{Form}
 use Rattle.replay_hex.specs.Hex.{lineOf}
 use Rattle.replay_records.specs.Records.{Replaying, replayOf, replayPart}
 use Rattle.replay_play.specs.Play.{outputLeast}
@@ -65,9 +66,9 @@ lastLine x (Refused r) = []
 
 -- "The chip has 16 code and 4 data blocks, clock 32, all fresh." Its sums are worked out once, before the first record (`FreshSums`, claims_stars). The output has
 -- room for every record's replies.
-abbrev pub freshReplay : List ℕ → Replaying
-freshReplay capture =
-    replayOf replayPart capture (freshChip replayPart) freshMemory (replicate 32 0x00) (replicate (outputLeast * length capture) 0x00)
+abbrev pub freshReplay : Form → List ℕ → Replaying
+freshReplay form capture =
+    replayOf form replayPart capture (freshChip replayPart) freshMemory (replicate 32 0x00) (replicate (outputLeast form * length capture) 0x00)
 
-unfoldable pub printed : List ℕ → List ℕ
-printed capture = let g = upshotOf (freshReplay capture) in lines (g .said) ++ lastLine g (g .ended)
+unfoldable pub printed : Form → List ℕ → List ℕ
+printed form capture = let g = upshotOf (freshReplay form capture) in lines (g .said) ++ lastLine g (g .ended)

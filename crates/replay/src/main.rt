@@ -1,4 +1,4 @@
-// Replays a recorded capture into a fresh chip and prints each reply frame as a line of hex: document 01, "Replay".
+// Replays a recorded capture, of the form that it is told, into a fresh chip and prints each reply frame as a line of hex: document 01, "Replay", and 02, section 5.
 // The records are judged, fed and answered by `replay_records::replay`; here the capture is read and the lines are printed.
 ghost use Prim.Native.Nat.{_+_, _≤_};
 ghost use lib.ListN.{length};
@@ -9,27 +9,28 @@ use libc::STDERR_FILENO;
 use libc::STDIN_FILENO;
 use libc::STDOUT_FILENO;
 use part::Part;
+use replay_capture::Form;
 use replay_records::Ended;
 
 // Where there is room, and whether what had to go out for it went out.
-struct Place {
+struct TextPlace {
     at: usize,
     well: bool,
 }
 
 // Where so many characters have room in the text: after those used, or, these having gone out, at the start.
-fn room_for(need: usize, text: &[u8], used: usize) -> Place
+fn room_for(need: usize, text: &[u8], used: usize) -> TextPlace
     requires { ⌜ (need ≤ length (now text)) × (used ≤ length (now text)) ⌝ }
     ensures { λ r. ⌜ r .at + need ≤ length (now (text .entry)) ⌝ }
 {
     if need <= text.len() - used {
-        return Place {
+        return TextPlace {
             at: used,
             well: true,
         };
     }
     let well = io::write_all(STDOUT_FILENO, &text[0..used]);
-    Place { at: 0, well }
+    TextPlace { at: 0, well }
 }
 
 // Reply frames that lie end to end, a line each. The lines go out when the text is full and at the end.
@@ -115,6 +116,7 @@ fn told(is_shown: bool, going: Going, progress: Progress) -> Going {
 
 // The records of one buffer, and the lines of their replies.
 fn turn(
+    form: Form,
     part: Part,
     chip: Chip,
     capture: &[u8],
@@ -128,7 +130,7 @@ fn turn(
 ) -> Went
     requires { ⌜ 1024 ≤ length (now text) ⌝ }
 {
-    let played = replay_records::replay(part, chip, capture, code, data, sums, room, output);
+    let played = replay_records::replay(form, part, chip, capture, code, data, sums, room, output);
     let n = played.bytes;
     let after = played.chip;
     if output.len() < n {
@@ -174,9 +176,9 @@ fn fail_at(name: &[u8]) {
     os::fail(name);
 }
 
-// The sums are worked out once, on the fresh flash. A buffer of 2,048 bytes is 256 records, for whose replies the output has room. A proved loop has to end, and
-// nothing says that the input does: so it counts its turns down, from a number that no run uses up.
-fn replay(fd: i32, name: &[u8]) {
+// The sums are worked out once, on the fresh flash. A buffer of 2,048 bytes is 256 old records or 128 new ones, for whose replies the output has room. A proved
+// loop has to end, and nothing says that the input does: so it counts its turns down, from a number that no run uses up.
+fn replay(form: Form, fd: i32, name: &[u8]) {
     let part = replay_records::replay_part();
     let fresh = events::fresh(part);
     let mut chip = fresh.chip;
@@ -202,6 +204,7 @@ fn replay(fd: i32, name: &[u8]) {
             return;
         }
         let went = turn(
+            form,
             part,
             chip,
             &capture[0..n],
@@ -239,7 +242,7 @@ fn replay(fd: i32, name: &[u8]) {
 fn help() {
     io::write_all(
         STDOUT_FILENO,
-        b"replay [CAPTURE]: replays a recorded capture, from standard input where no file is named, into a fresh chip\n",
+        b"replay [--old | --new] [CAPTURE]: replays a recorded capture, from standard input where no file is named, into a fresh chip\n",
     );
     io::write_all(
         STDOUT_FILENO,
@@ -251,7 +254,15 @@ fn help() {
     );
     io::write_all(
         STDOUT_FILENO,
-        b"A record has 8 bytes: 00 and seven bytes 00 for a gap; or 01, a count from 1 to 6, that many bytes, then 00 up to 8 bytes.\n",
+        b"An old record, the form unless told, has 8 bytes: 00 and seven bytes 00 for a gap; or 01, a count from 1 to 6, that many bytes, then 00 up to 8 bytes.\n",
+    );
+    io::write_all(
+        STDOUT_FILENO,
+        b"A new one has 16: kind and count, the seat (0 or 1), 00, a tick of four bytes, low first, and eight data bytes, of which those past the count are 00.\n",
+    );
+    io::write_all(
+        STDOUT_FILENO,
+        b"Records of seat 1 are judged and counted, and not played.\n",
     );
     io::write_all(
         STDOUT_FILENO,
@@ -259,33 +270,72 @@ fn help() {
     );
 }
 
-fn main() {
-    if os::arg_count() < 2 {
-        replay(STDIN_FILENO, b"standard input");
+// What an argument asks for.
+enum Word {
+    Help,
+    Read(Form),
+    Capture,
+}
+
+fn meaning(word: &[u8]) -> Word {
+    if lent::is_same(word, b"--help") {
+        return Word::Help;
+    }
+    if lent::is_same(word, b"--old") {
+        return Word::Read(Form::Old);
+    }
+    if lent::is_same(word, b"--new") {
+        return Word::Read(Form::New);
+    }
+    Word::Capture
+}
+
+// The capture that the argument at a place names, or standard input where there is none.
+fn replay_named(form: Form, i: usize) {
+    let count = os::arg_count();
+    if count <= i {
+        replay(form, STDIN_FILENO, b"standard input");
         return;
     }
-    if 2 < os::arg_count() {
+    if i < count - 1 {
         io::write_all(
             STDERR_FILENO,
-            b"replay: more than one argument; see replay --help\n",
+            b"replay: one form and one capture can be named; see replay --help\n",
         );
         return;
     }
     let mut path = io::buffer();
-    let n = os::arg(1, &mut path);
+    let n = os::arg(i, &mut path);
     if os::errno() != 0 {
         os::fail(b"replay: its argument");
         return;
     }
-    if lent::is_same(&path[..n], b"--help") {
-        help();
-        return;
+    match meaning(&path[..n]) {
+        Word::Capture => {
+            let fd = os::open_read(&path[..n]);
+            if fd < 0 {
+                fail_at(&path[..n]);
+                return;
+            }
+            replay(form, fd, &path[..n]);
+            libc::close(fd);
+        }
+        Word::Read(other) => {
+            io::write_all(
+                STDERR_FILENO,
+                b"replay: more than one form is told; see replay --help\n",
+            );
+        }
+        Word::Help => help(),
     }
-    let fd = os::open_read(&path[..n]);
-    if fd < 0 {
-        fail_at(&path[..n]);
-        return;
+}
+
+fn main() {
+    let mut word = io::buffer();
+    let n = os::arg(1, &mut word);
+    match meaning(&word[..n]) {
+        Word::Help => help(),
+        Word::Read(form) => replay_named(form, 2),
+        Word::Capture => replay_named(Form::Old, 1),
     }
-    replay(fd, &path[..n]);
-    libc::close(fd);
 }

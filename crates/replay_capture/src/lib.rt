@@ -1,82 +1,146 @@
-// Capture records: what a good one is, and what it carries. Document 01, "Replay".
+// Capture records, of the old form and of the new: what a good one is, its seat and its tick, and what it is to a replay. Document 01, "Replay", and 02, section 5.
 ghost use mathlib.Core.Path.{_≡_};
 ghost use Prim.Native.Nat.{_+_, _≤_};
 ghost use lib.ListN.{length};
-ghost use Rattle.replay_capture.specs.Capture.{bytesRecord, gapRecord, recordEnd, recordOf, recordSize, unused};
+ghost use Rattle.replay_capture.specs.Capture.{carriedBytes, dataSize, goodCount, headSize, goodRecord, recordEnd, recordOf, recordSize};
+ghost use Rattle.replay_capture.specs.Capture.{seatOf, spareOf, tickOf, unused};
 
-// What a record is: a gap, so many bytes, or not good.
+// Document 01's records, and the wider ones of 02, section 5.
+pub enum Form {
+    Old,
+    New,
+}
+
+// What a record is to the replay of seat 0: a gap, so many bytes, the other seat's, or not good.
 pub enum Record {
     GapRecord,
     BytesRecord(usize),
+    OtherSeat,
     BadRecord,
 }
 
-pub fn record_size() -> usize
-    ensures { λ r. ⌜ r ≡ recordSize ⌝ }
+// The refusal of a bad record, wherever one is told.
+pub const BAD_RECORD: u32 = 10;
+
+pub fn record_size(form: Form) -> usize
+    ensures { λ r. ⌜ r ≡ recordSize form ⌝ }
 {
-    8
+    match form {
+        Form::Old => 8,
+        Form::New => 16,
+    }
 }
 
-fn is_unused(n: usize, bytes: &[u8]) -> bool
-    requires { ⌜ n + 2 ≤ length (now bytes) ⌝ }
-    ensures { λ r. ⌜ r ≡ unused n (now (bytes .entry)) ⌝ }
+// How many bytes come before the data.
+pub fn head_size(form: Form) -> usize
+    ensures { λ r. ⌜ r ≡ headSize form ⌝ }
 {
-    let at = n + 2;
+    match form {
+        Form::Old => 2,
+        Form::New => 8,
+    }
+}
+
+pub fn data_size(form: Form) -> usize
+    ensures { λ r. ⌜ r ≡ dataSize form ⌝ }
+{
+    record_size(form) - head_size(form)
+}
+
+pub fn seat(form: Form, bytes: &[u8]) -> u8
+    ensures { λ r. ⌜ r ≡ seatOf form (now (bytes .entry)) ⌝ }
+{
+    match form {
+        Form::Old => 0,
+        Form::New => lent::byte_at(bytes, 2),
+    }
+}
+
+fn spare(form: Form, bytes: &[u8]) -> u8
+    ensures { λ r. ⌜ r ≡ spareOf form (now (bytes .entry)) ⌝ }
+{
+    match form {
+        Form::Old => 0x00,
+        Form::New => lent::byte_at(bytes, 3),
+    }
+}
+
+pub fn tick(form: Form, bytes: &[u8]) -> u32
+    ensures { λ r. ⌜ r ≡ tickOf form (now (bytes .entry)) ⌝ }
+{
+    match form {
+        Form::Old => 0,
+        Form::New => numbers::number4(bytes, 4),
+    }
+}
+
+fn is_good_count(form: Form, kind: u8, n: usize) -> bool
+    ensures { λ r. ⌜ r ≡ goodCount form kind n ⌝ }
+{
+    if kind == 0x00 {
+        return n == 0;
+    }
+    if kind == 0x01 {
+        return 1 <= n && n <= data_size(form);
+    }
+    false
+}
+
+fn is_unused(form: Form, n: usize, bytes: &[u8]) -> bool
+    requires { ⌜ headSize form + n ≤ length (now bytes) ⌝ }
+    ensures { λ r. ⌜ r ≡ unused form n (now (bytes .entry)) ⌝ }
+{
+    let at = head_size(form) + n;
     lent::are_all(&bytes[at..], 0x00)
 }
 
-fn gap_record(bytes: &[u8]) -> Record
-    requires { ⌜ length (now bytes) ≡ recordSize ⌝ }
-    ensures { λ r. ⌜ r ≡ gapRecord (now (bytes .entry)) ⌝ }
+// Whether the bytes are one good record; another number of them than its size is none.
+pub fn is_good(form: Form, bytes: &[u8]) -> bool
+    ensures { λ r. ⌜ r ≡ goodRecord form (now (bytes .entry)) ⌝ }
 {
-    if bytes[1] == 0 {
-        if is_unused(0, bytes) {
-            return Record::GapRecord;
-        }
-        return Record::BadRecord;
+    if bytes.len() != record_size(form) {
+        return false;
     }
-    Record::BadRecord
+    let n = lent::byte_at(bytes, 1) as usize;
+    if !is_good_count(form, lent::byte_at(bytes, 0), n) {
+        return false;
+    }
+    if 1 < seat(form, bytes) {
+        return false;
+    }
+    if spare(form, bytes) != 0x00 {
+        return false;
+    }
+    is_unused(form, n, bytes)
 }
 
-fn bytes_record(bytes: &[u8]) -> Record
-    requires { ⌜ length (now bytes) ≡ recordSize ⌝ }
-    ensures { λ r. ⌜ r ≡ bytesRecord recordSize (now (bytes .entry)) ⌝ }
+pub fn read(form: Form, bytes: &[u8]) -> Record
+    ensures { λ r. ⌜ r ≡ recordOf form (now (bytes .entry)) ⌝ }
 {
-    let n = bytes[1] as usize;
-    if 1 <= n {
-        if n <= 6 {
-            if is_unused(n, bytes) {
-                return Record::BytesRecord(n);
-            }
-            return Record::BadRecord;
-        }
+    if !is_good(form, bytes) {
         return Record::BadRecord;
     }
-    Record::BadRecord
+    if seat(form, bytes) != 0 {
+        return Record::OtherSeat;
+    }
+    if lent::byte_at(bytes, 0) == 0x00 {
+        return Record::GapRecord;
+    }
+    Record::BytesRecord(lent::byte_at(bytes, 1) as usize)
 }
 
-// The bytes are one record; another number of them than its size is a bad one.
-pub fn read(bytes: &[u8]) -> Record
-    ensures { λ r. ⌜ r ≡ recordOf recordSize (now (bytes .entry)) ⌝ }
+// The bytes that a record carries, where they lie.
+pub fn carried(form: Form, n: usize, bytes: &[u8]) -> &[u8]
+    ensures { λ r. ⌜ now r ≡ carriedBytes form n (now (bytes .entry)) ⌝ }
 {
-    if bytes.len() == record_size() {
-        let kind = bytes[0];
-        if kind == 0x00 {
-            return gap_record(bytes);
-        }
-        if kind == 0x01 {
-            return bytes_record(bytes);
-        }
-        return Record::BadRecord;
-    }
-    Record::BadRecord
+    lent::span(bytes, head_size(form), n)
 }
 
 // Where the record that begins at a place ends, in a capture of len bytes.
-pub fn record_end(at: usize, len: usize) -> usize
-    ensures { λ r. ⌜ r ≡ recordEnd recordSize at len ⌝ }
+pub fn record_end(form: Form, at: usize, len: usize) -> usize
+    ensures { λ r. ⌜ r ≡ recordEnd (recordSize form) at len ⌝ }
 {
-    let size = record_size();
+    let size = record_size(form);
     if len < size {
         return len;
     }

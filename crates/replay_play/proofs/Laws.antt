@@ -9,10 +9,11 @@ use native.Mathlib.Omega.{arith}
 use lib.ListN.{drop, drop-of-length-le, getD, length, length-append, length-drop, length-map, length-take, take}
 use lib.Seq.{drop-cons, drop-drop, length-take-le, take-all}
 use borrow.Author.Tests.{le-ltb, lt-ltb}
-use Rattle.replay_capture.proofs.Laws.{Carries, carries-is}
-use Rattle.replay_capture.specs.Capture.{carriedBytes, recordOf, recordSize, six}
+use Rattle.replay_capture.proofs.Laws.{Carries, carried-long, carries-is, sizes}
+use Rattle.replay_capture.specs.Capture.{carriedBytes, dataSize, recordOf}
+use Rattle.replay_capture.specs.declared.Form.{Form}
 use Rattle.replay_capture.specs.declared.Record.{Record}
-use Rattle.replay_capture.specs.declared.Record.the-variants.{BadRecord, BytesRecord, GapRecord}
+use Rattle.replay_capture.specs.declared.Record.the-variants.{BadRecord, BytesRecord, GapRecord, OtherSeat}
 use Rattle.chip_feed.proofs.Feeding.{feed-is, feed-next, feed-none, feed-takes, feed-within, on-refused, on-said, on-silent}
 use Rattle.frame.specs.declared.judgement.Judgement.{Judgement}
 use Rattle.frame.specs.declared.judgement.Judgement.the-variants.{Good}
@@ -35,7 +36,7 @@ use Rattle.lent.specs.Lent.{left, putOf}
 use Rattle.lent.specs.declared.Room.{Room}
 use Rattle.part.specs.declared.Part.{Part}
 use Rattle.part.specs.declared.refusal.Refusal.{Refusal}
-use Rattle.replay_play.specs.Play.{Playing, RecordPlaying, eventsOf, goesOn, playedInto, played, answering, beforePlaying, playBy, playOf, playWith, endedBy, recordPlaying}
+use Rattle.replay_play.specs.Play.{Playing, RecordPlaying, eventsOf, goesOn, outputLeast, playedInto, played, answering, beforePlaying, playBy, playOf, playWith, endedBy, recordPlaying}
 use Rattle.replay_play.specs.declared.RecordEnded.{RecordEnded}
 use Rattle.replay_play.specs.declared.RecordEnded.the-variants.{NotGood, OutputShort, Played}
 use Rattle.replay_play.specs.declared.RecordEnded.the-variants as RecordEnded
@@ -206,10 +207,10 @@ played-refused {p} {bs} {c} {m} {room} {i} {n} {k} {whole} {output} {t} {r} f q 
 
 pub played-turn : {p : Part} {bs : List ℕ} {c : Chip} {m : Memory} {room : List ℕ} {i n k : ℕ} {whole output output′ : List ℕ} {t : Playing} {j l : ℕ} {s : Room} (f : Feeding)
     → PlayedFrom p bs c m room i n k whole output t → Arrays p → f ≡ feedOf p (take (length bs - i) (drop i bs)) (before c m room) → i < length bs → f .left .answer ≡ Replied j l
-    → length bs ≤ 6 → 192 ≤ length whole → left s output′ ≡ putOf output n (take (j - 0) (f .left .room))
+    → 32 * length bs ≤ length whole → left s output′ ≡ putOf output n (take (j - 0) (f .left .room))
     → PlayedFrom p bs (f .left .chip) (f .left .memory) (f .left .room) (i + f .taken) (n + j) (k + l) whole output′ t
 unfolding answering
-played-turn {p} {bs} {c} {m} {room} {i} {n} {k} {whole} {output} {output′} {t} {j} {l} {s} f q a e h z six w u =
+played-turn {p} {bs} {c} {m} {room} {i} {n} {k} {whole} {output} {output′} {t} {j} {l} {s} f q a e h z w u =
     let x : Playing = record { left = record { answer = Replied (q .bytes) (q .frames); fault = q .fault; chip = c; memory = m; room = room }; said = q .said; frames = k } in
     let fit : Fitting (f .left .answer) (length (f .left .room)) = rw e (feed-fits p (take (length bs - i) (drop i bs)) c m room a) in
     let zero : j - 0 ≡ j = omega arith in
@@ -266,7 +267,7 @@ turn-said {p} {bs} {c} {m} {room} {i} {n} {k} {whole} {output} {t} {j} {l} f q a
 
 -- One event alone.
 pub one-said : (p : Part) (v : Event) (c : Chip) (m : Memory) (room output output′ : List ℕ) (o : Outcome) (n k : ℕ) (s : Room) → Arrays p → o ≡ stepOf p c v m room
-    → o .answer ≡ Replied n k → 192 ≤ length output → left s output′ ≡ putOf output 0 (take (n - 0) (o .room))
+    → o .answer ≡ Replied n k → 32 ≤ length output → left s output′ ≡ putOf output 0 (take (n - 0) (o .room))
     → recordPlaying (record { ended = Played n k; chip = o .chip }) (o .memory) (o .room) output′ ≡ playedInto (played p (v ∷ []) (beforePlaying c m room)) output
 unfolding playedInto endedBy played goesOn answering
 one-said p v c m room output output′ o n k s a e z w u =
@@ -298,20 +299,65 @@ one-lies p v c m room o n k a e z =
     let fit : Fitting (o .answer) (length (o .room)) = rw e (step-fits p c v m room a) in
     fit .lies n k z
 
--- The bytes that a record carries, lent as a part of it.
-pub carried-short : {n : ℕ} {bs : List ℕ} → Carries n bs → length (take (n + 2 - 2) (drop 2 bs)) ≤ 6
-carried-short {n} {bs} k =
-    let two : n + 2 - 2 ≡ n = omega arith in
-    rw (length-take, two) (omega (arith, k .most))
+-- The bytes that a record carries are few, and have room for their replies.
+pub carried-room : {form : Form} {n least output : ℕ} {bs ds : List ℕ} → Carries form n bs → ds ≡ carriedBytes form n bs → least ≡ outputLeast form → least ≤ output
+    → (length ds ≤ 8) × (32 * length ds ≤ output)
+carried-room {form} {n} {least} {output} {bs} {ds} k e l h =
+    let d : length ds ≡ n = ap length e ∙ carried-long k in
+    (omega (arith, k .most, sizes form .dataMost), omega (arith, k .most))
 
-pub play-bytes-is : (x : RecordPlaying) (n : ℕ) (p : Part) (bs : List ℕ) (c : Chip) (m : Memory) (room output : List ℕ) → recordOf recordSize bs ≡ BytesRecord n → 192 ≤ length output
-    → x ≡ playedInto (played p (map Byte (take (n + 2 - 2) (drop 2 bs))) (beforePlaying c m room)) output → x ≡ playOf p bs c m room output
-unfolding playOf playBy playWith eventsOf if_then_else_
-play-bytes-is x n p bs c m room output e h g =
-    let two : n + 2 - 2 ≡ n = omega arith in
-    let y : x ≡ playedInto (played p (map Byte (take n (drop 2 bs))) (beforePlaying c m room)) output =
-    g ∙ ap (λ (k : ℕ). playedInto (played p (map Byte (take k (drop 2 bs))) (beforePlaying c m room)) output) two in
-    simp (e, le-ltb (length output) 192 h) y
+-- One event alone has room too.
+pub event-room : (form : Form) {least output : ℕ} → least ≡ outputLeast form → least ≤ output → 32 ≤ output
+event-room form {least} {output} l h = omega (arith, sizes form .dataLeast)
+
+-- What a record of each kind comes to, as the code finds it.
+module _ (form : Form) (p : Part) (bs : List ℕ) (c : Chip) (m : Memory) (room output : List ℕ) where
+  play-good : (r : Record) → recordOf form bs ≡ r → (r ≡ BadRecord → ⊥) → playOf form p bs c m room output ≡ playWith form (eventsOf form r bs) p c m room output
+  unfolding playOf playBy
+  play-good GapRecord e g = rw e
+  play-good (BytesRecord n) e g = rw e
+  play-good OtherSeat e g = rw e
+  play-good BadRecord e g = absurd (g refl)
+
+  pub play-bad : recordOf form bs ≡ BadRecord → recordPlaying (record { ended = NotGood; chip = c }) m room output ≡ playOf form p bs c m room output
+  unfolding playOf playBy
+  play-bad e = rw e
+
+  pub play-short : {least : ℕ} (r : Record) → recordOf form bs ≡ r → (r ≡ BadRecord → ⊥) → least ≡ outputLeast form → length output < least
+      → recordPlaying (record { ended = OutputShort; chip = c }) m room output ≡ playOf form p bs c m room output
+  unfolding playWith if_then_else_
+  play-short {least} r e g l h = simp (play-good r e g, lt-ltb (length output) (outputLeast form) (omega (arith, l)))
+
+  pub play-events : {least : ℕ} (x : RecordPlaying) (r : Record) → recordOf form bs ≡ r → (r ≡ BadRecord → ⊥) → least ≡ outputLeast form → least ≤ length output
+      → x ≡ playedInto (played p (eventsOf form r bs) (beforePlaying c m room)) output → x ≡ playOf form p bs c m room output
+  unfolding playWith if_then_else_
+  play-events {least} x r e g l h y = simp (play-good r e g, le-ltb (length output) (outputLeast form) (omega (arith, l))) y
+
+-- None of the other kinds is the bad one.
+pub gap-good : GapRecord ≡ BadRecord → ⊥
+gap-good e = let z : _≡_ {A = ℕ} 0 1 = cc in omega arith
+
+pub bytes-good : (n : ℕ) → BytesRecord n ≡ BadRecord → ⊥
+bytes-good n e = let z : _≡_ {A = ℕ} 0 1 = cc in omega arith
+
+pub other-good : OtherSeat ≡ BadRecord → ⊥
+other-good e = let z : _≡_ {A = ℕ} 0 1 = cc in omega arith
+
+-- The other seat's record plays nothing.
+pub nothing-played : (form : Form) (p : Part) (bs : List ℕ) (c : Chip) (m : Memory) (room output : List ℕ)
+    → recordPlaying (record { ended = Played 0 0; chip = c }) m room output ≡ playedInto (played p (eventsOf form OtherSeat bs) (beforePlaying c m room)) output
+unfolding eventsOf played playedInto endedBy
+nothing-played form p bs c m room output = refl
+
+pub bytes-played : (x : RecordPlaying) (form : Form) (n : ℕ) (p : Part) (bs ds : List ℕ) (c : Chip) (m : Memory) (room output : List ℕ) → ds ≡ carriedBytes form n bs
+    → x ≡ playedInto (played p (map Byte ds) (beforePlaying c m room)) output → x ≡ playedInto (played p (eventsOf form (BytesRecord n) bs) (beforePlaying c m room)) output
+unfolding eventsOf
+bytes-played x form n p bs ds c m room output e h = h ∙ ap (λ (l : List ℕ). playedInto (played p (map Byte l) (beforePlaying c m room)) output) e
+
+pub gap-played : (x : RecordPlaying) (form : Form) (p : Part) (bs : List ℕ) (c : Chip) (m : Memory) (room output : List ℕ)
+    → x ≡ playedInto (played p (Gap ∷ []) (beforePlaying c m room)) output → x ≡ playedInto (played p (eventsOf form GapRecord bs) (beforePlaying c m room)) output
+unfolding eventsOf
+gap-played x form p bs c m room output h = h
 
 -- How long what is said gets: 31 bytes for an event at most, and no frame without a byte.
 answering-long : (a : Answer) (o : Outcome) (x : Playing) (room : ℕ) → Fitting a room → (length (answering a o x .said) ≤ length (x .said) + 31)
@@ -349,67 +395,83 @@ played-framed p (v ∷ vs) x a h =
     let l : y .frames ≤ length (y .said) = answering-framed (o .answer) o x (step-fits p (x .left .chip) v (x .left .memory) (x .left .room) a) h in
     goes-all (λ z. z .frames ≤ length (z .said)) (o .answer) (played p vs y) y (played-framed p vs y a l) l
 
--- What a record's turn may claim to have said.
-pub record Fits (t : RecordEnded) (output : ℕ) : Type 0 where
+-- A record has no more events than it has data bytes.
+events-few : (form : Form) (r : Record) (bs : List ℕ) → ((n : ℕ) → r ≡ BytesRecord n → n ≤ dataSize form) → length (eventsOf form r bs) ≤ dataSize form
+unfolding eventsOf
+events-few form GapRecord bs h = omega (arith, sizes form .dataLeast)
+events-few form (BytesRecord n) bs h = rw (length-map, length-take) (omega (arith, h n refl))
+events-few form OtherSeat bs h = omega arith
+events-few form BadRecord bs h = omega arith
+
+-- What a record's turn may claim to have said, where it asks for so much output.
+pub record Fits (least : ℕ) (t : RecordEnded) (output : ℕ) : Type 0 where
   pub bytes : (n k : ℕ) → t ≡ Played n k → n ≤ output
   pub frames : (n k : ℕ) → t ≡ Played n k → k ≤ n
-  pub short : (n k : ℕ) → t ≡ Played n k → n ≤ 192
+  pub short : (n k : ℕ) → t ≡ Played n k → n ≤ least
 
-by-fits : (a : Answer) (x : Playing) (output : ℕ) → length (x .said) ≤ 192 → 192 ≤ output → x .frames ≤ length (x .said) → Fits (endedBy a x) output
+by-fits : (least : ℕ) (a : Answer) (x : Playing) (output : ℕ) → length (x .said) ≤ least → least ≤ output → x .frames ≤ length (x .said) → Fits least (endedBy a x) output
 unfolding endedBy
-by-fits (Replied n k) x output l h f =
+by-fits least (Replied n k) x output l h f =
     record {
       bytes = λ i j e. let u : length (x .said) ≡ i = cc in omega arith;
       frames = λ i j e. let u : length (x .said) ≡ i = cc in let v : x .frames ≡ j = cc in omega arith;
       short = λ i j e. let u : length (x .said) ≡ i = cc in omega arith;
     }
-by-fits (Answer.Refused r) x output l h f =
+by-fits least (Answer.Refused r) x output l h f =
     record {
       bytes = λ i j e. absurd (let z : _≡_ {A = ℕ} 0 1 = cc in omega arith);
       frames = λ i j e. absurd (let z : _≡_ {A = ℕ} 0 1 = cc in omega arith);
       short = λ i j e. absurd (let z : _≡_ {A = ℕ} 0 1 = cc in omega arith);
     }
 
-none-fits : (t : RecordEnded) (output : ℕ) → ((n k : ℕ) → t ≡ Played n k → ⊥) → Fits t output
-none-fits t output h = record { bytes = λ n k e. absurd (h n k e); frames = λ n k e. absurd (h n k e); short = λ n k e. absurd (h n k e) }
+none-fits : (least : ℕ) (t : RecordEnded) (output : ℕ) → ((n k : ℕ) → t ≡ Played n k → ⊥) → Fits least t output
+none-fits least t output h = record { bytes = λ n k e. absurd (h n k e); frames = λ n k e. absurd (h n k e); short = λ n k e. absurd (h n k e) }
 
-with-fits : (vs : List Event) (p : Part) (c : Chip) (m : Memory) (room output : List ℕ) → Arrays p → length vs ≤ 6 → Fits (playWith vs p c m room output .ended) (length output)
+with-fits : (form : Form) (vs : List Event) (p : Part) (c : Chip) (m : Memory) (room output : List ℕ) → Arrays p → length vs ≤ dataSize form
+    → Fits (outputLeast form) (playWith form vs p c m room output .ended) (length output)
 unfolding playWith playedInto if_then_else_
-with-fits vs p c m room output a h = go (decLe 192 (length output))
+with-fits form vs p c m room output a h = go (decLe (outputLeast form) (length output))
   where
-    go : Dec (192 ≤ length output) → Fits (playWith vs p c m room output .ended) (length output)
+    go : Dec (outputLeast form ≤ length output) → Fits (outputLeast form) (playWith form vs p c m room output .ended) (length output)
     go (yes k) =
         let x = played p vs (beforePlaying c m room) in
-        rw (le-ltb (length output) 192 k)
-        (by-fits (x .left .answer) x (length output) (omega (arith, played-long p vs (beforePlaying c m room) a)) k (played-framed p vs (beforePlaying c m room) a (omega arith)))
-    go (no k) = rw (lt-ltb (length output) 192 (omega arith)) (none-fits OutputShort (length output) (λ n i e. let z : _≡_ {A = ℕ} 0 1 = cc in omega arith))
+        rw (le-ltb (length output) (outputLeast form) k)
+        (by-fits (outputLeast form) (x .left .answer) x (length output) (omega (arith, played-long p vs (beforePlaying c m room) a)) k
+        (played-framed p vs (beforePlaying c m room) a (omega arith)))
+    go (no k) = rw (lt-ltb (length output) (outputLeast form) (omega arith)) (none-fits (outputLeast form) OutputShort (length output) (λ n i e. let z : _≡_ {A = ℕ} 0 1 = cc in omega arith))
 
-by-record : (r : Record) (p : Part) (bs : List ℕ) (c : Chip) (m : Memory) (room output : List ℕ) → Arrays p → ((n : ℕ) → r ≡ BytesRecord n → n ≤ 6)
-    → Fits (playBy r p bs c m room output .ended) (length output)
-unfolding playBy eventsOf
-by-record GapRecord p bs c m room output a h = with-fits (Gap ∷ []) p c m room output a (omega arith)
-by-record (BytesRecord n) p bs c m room output a h =
-    with-fits (map Byte (carriedBytes n bs)) p c m room output a (rw (length-map, length-take) (omega (arith, h n refl)))
-by-record BadRecord p bs c m room output a h = none-fits NotGood (length output) (λ n i e. let z : _≡_ {A = ℕ} 0 1 = cc in omega arith)
+by-record : (form : Form) (r : Record) (p : Part) (bs : List ℕ) (c : Chip) (m : Memory) (room output : List ℕ) → Arrays p → length (eventsOf form r bs) ≤ dataSize form
+    → Fits (outputLeast form) (playBy form r p bs c m room output .ended) (length output)
+unfolding playBy
+by-record form GapRecord p bs c m room output a h = with-fits form (eventsOf form GapRecord bs) p c m room output a h
+by-record form (BytesRecord n) p bs c m room output a h = with-fits form (eventsOf form (BytesRecord n) bs) p c m room output a h
+by-record form OtherSeat p bs c m room output a h = with-fits form (eventsOf form OtherSeat bs) p c m room output a h
+by-record form BadRecord p bs c m room output a h = none-fits (outputLeast form) NotGood (length output) (λ n i e. let z : _≡_ {A = ℕ} 0 1 = cc in omega arith)
 
-pub play-fits : (p : Part) (bs : List ℕ) (c : Chip) (m : Memory) (room output : List ℕ) → Arrays p → Fits (playOf p bs c m room output .ended) (length output)
+few-of : (form : Form) (bs : List ℕ) → length (eventsOf form (recordOf form bs) bs) ≤ dataSize form
+few-of form bs = events-few form (recordOf form bs) bs (λ n e. carries-is form n bs e .most)
+
+pub play-fits : (form : Form) (p : Part) (bs : List ℕ) (c : Chip) (m : Memory) (room output : List ℕ) → Arrays p
+    → Fits (outputLeast form) (playOf form p bs c m room output .ended) (length output)
 unfolding playOf
-play-fits p bs c m room output a = by-record (recordOf recordSize bs) p bs c m room output a (λ n e. carries-is n bs e .most)
+play-fits form p bs c m room output a = by-record form (recordOf form bs) p bs c m room output a (few-of form bs)
 
 -- The output keeps its length.
-with-keeps : (vs : List Event) (p : Part) (c : Chip) (m : Memory) (room output : List ℕ) → Arrays p → length vs ≤ 6 → length (playWith vs p c m room output .output) ≡ length output
+with-keeps : (form : Form) (vs : List Event) (p : Part) (c : Chip) (m : Memory) (room output : List ℕ) → Arrays p → length vs ≤ dataSize form
+    → length (playWith form vs p c m room output .output) ≡ length output
 unfolding playWith playedInto if_then_else_
-with-keeps vs p c m room output a h = go (decLe 192 (length output))
+with-keeps form vs p c m room output a h = go (decLe (outputLeast form) (length output))
   where
-    go : Dec (192 ≤ length output) → length (playWith vs p c m room output .output) ≡ length output
-    go (yes k) = rw (le-ltb (length output) 192 k, length-append, length-drop) (omega (arith, played-long p vs (beforePlaying c m room) a))
-    go (no k) = rw (lt-ltb (length output) 192 (omega arith))
+    go : Dec (outputLeast form ≤ length output) → length (playWith form vs p c m room output .output) ≡ length output
+    go (yes k) = rw (le-ltb (length output) (outputLeast form) k, length-append, length-drop) (omega (arith, played-long p vs (beforePlaying c m room) a))
+    go (no k) = rw (lt-ltb (length output) (outputLeast form) (omega arith))
 
-pub play-keeps : (p : Part) (bs : List ℕ) (c : Chip) (m : Memory) (room output : List ℕ) → Arrays p → length (playOf p bs c m room output .output) ≡ length output
-unfolding playOf playBy eventsOf
-play-keeps p bs c m room output a = go (recordOf recordSize bs) (λ n e. carries-is n bs e .most)
+pub play-keeps : (form : Form) (p : Part) (bs : List ℕ) (c : Chip) (m : Memory) (room output : List ℕ) → Arrays p → length (playOf form p bs c m room output .output) ≡ length output
+unfolding playOf playBy
+play-keeps form p bs c m room output a = go (recordOf form bs) (few-of form bs)
   where
-    go : (r : Record) → ((n : ℕ) → r ≡ BytesRecord n → n ≤ 6) → length (playBy r p bs c m room output .output) ≡ length output
-    go GapRecord h = with-keeps (Gap ∷ []) p c m room output a (omega arith)
-    go (BytesRecord n) h = with-keeps (map Byte (carriedBytes n bs)) p c m room output a (rw (length-map, length-take) (omega (arith, h n refl)))
+    go : (r : Record) → length (eventsOf form r bs) ≤ dataSize form → length (playBy form r p bs c m room output .output) ≡ length output
+    go GapRecord h = with-keeps form (eventsOf form GapRecord bs) p c m room output a h
+    go (BytesRecord n) h = with-keeps form (eventsOf form (BytesRecord n) bs) p c m room output a h
+    go OtherSeat h = with-keeps form (eventsOf form OtherSeat bs) p c m room output a h
     go BadRecord h = refl

@@ -3,11 +3,10 @@
 -- Assumes nothing.
 use mathlib.Core.Bool.{true}
 use mathlib.Core.List.{List, [], _++_, _∷_, append-assoc, map}
-use mathlib.Core.Path.{_∙_, _≡_, ap, sym}
+use mathlib.Core.Path.{_∙_, _≡_, ap, refl, sym}
 use Prim.Native.Nat.{_+_, _≤_, ℕ}
 use native.Mathlib.Omega.{arith}
 use lib.ListN.{length, length-append}
-use borrow.Author.Tests.{le-ltb}
 use Rattle.chip.proofs.Adding.{after, verdictAt}
 use Rattle.chip.proofs.Quiet.{byte-fronts, collects, fronts-accepted, gap-drops}
 use Rattle.chip.specs.Run.{before}
@@ -24,11 +23,12 @@ use Rattle.frame.specs.Collector.{added, dropped, heard}
 use Rattle.frame.specs.declared.collector.Collector.{Collector}
 use Rattle.part.specs.declared.Part.{Part}
 use Rattle.part.specs.declared.refusal.Verdict.the-variants.{Accepted}
-use Rattle.replay_capture.specs.Capture.{carriedBytes, recordOf, recordSize}
-use Rattle.replay_capture.specs.declared.Record.the-variants.{BytesRecord, GapRecord}
-use Rattle.replay_play.specs.Play.{Playing, answering, beforePlaying, endedBy, eventsOf, goesOn, playBy, playOf, playWith, played, playedInto, recordPlaying}
+use Rattle.replay_capture.specs.Capture.{carriedBytes, recordOf}
+use Rattle.replay_capture.specs.declared.Form.{Form}
+use Rattle.replay_capture.specs.declared.Record.the-variants.{BytesRecord, GapRecord, OtherSeat}
+use Rattle.replay_play.proofs.Laws.{bytes-good, bytes-played, gap-good, gap-played, nothing-played, other-good, play-events}
+use Rattle.replay_play.specs.Play.{Playing, answering, beforePlaying, endedBy, goesOn, outputLeast, playOf, played, playedInto, recordPlaying}
 use Rattle.replay_play.specs.declared.RecordEnded.the-variants.{Played}
-use Rattle.words.specs.Words.{if_then_else_}
 
 -- An event that is answered with nothing.
 silent-plays : (p : Part) (v : Event) (vs : List Event) (c d : Chip) (m : Memory) (room : List ℕ) → before d m room ≡ stepOf p c v m room
@@ -59,18 +59,23 @@ nothing-said : (p : Part) (vs : List Event) (c d : Chip) (m : Memory) (room outp
 unfolding playedInto endedBy
 nothing-said p vs c d m room output e = sym (ap (λ (x : Playing). playedInto x output) e)
 
-pub gap-quiet : (p : Part) (bs : List ℕ) (c : Chip) (m : Memory) (room output : List ℕ) → recordOf recordSize bs ≡ GapRecord → 192 ≤ length output → verdictAt p c m room ≡ Accepted
-    → recordPlaying (record { ended = Played 0 0; chip = collects c (dropped (c .collector)) }) m room output ≡ playOf p bs c m room output
-unfolding playOf playBy playWith eventsOf played if_then_else_
-gap-quiet p bs c m room output e h a =
-    simp (e, le-ltb (length output) 192 h)
-    (nothing-said p (Gap ∷ []) c (collects c (dropped (c .collector))) m room output (silent-plays p Gap [] c (collects c (dropped (c .collector))) m room (gap-drops p c m room a)))
+module _ (form : Form) (p : Part) (bs : List ℕ) (c : Chip) (m : Memory) (room output : List ℕ) (long : outputLeast form ≤ length output) where
+  pub gap-quiet : recordOf form bs ≡ GapRecord → verdictAt p c m room ≡ Accepted
+      → recordPlaying (record { ended = Played 0 0; chip = collects c (dropped (c .collector)) }) m room output ≡ playOf form p bs c m room output
+  unfolding played
+  gap-quiet e a =
+      play-events form p bs c m room output _ GapRecord e gap-good refl long
+      (gap-played _ form p bs c m room output
+      (nothing-said p (Gap ∷ []) c (collects c (dropped (c .collector))) m room output (silent-plays p Gap [] c (collects c (dropped (c .collector))) m room (gap-drops p c m room a))))
 
-pub bytes-quiet : (p : Part) (bs : List ℕ) (n : ℕ) (c : Chip) (m : Memory) (room output : List ℕ) → recordOf recordSize bs ≡ BytesRecord n → 192 ≤ length output
-    → length (c .collector .bytes) ≡ 260 → c .collector .len + length (carriedBytes n bs) ≤ 260 → verdictAt p c m room ≡ Accepted
-    → goodHeard (c .core .phase) (heard (c .collector) ++ carriedBytes n bs) ≡ true
-    → recordPlaying (record { ended = Played 0 0; chip = collects c (added (c .collector) (carriedBytes n bs)) }) m room output ≡ playOf p bs c m room output
-unfolding playOf playBy playWith eventsOf if_then_else_
-bytes-quiet p bs n c m room output e h l w a g =
-    simp (e, le-ltb (length output) 192 h)
-    (nothing-said p (map Byte (carriedBytes n bs)) c (collects c (added (c .collector) (carriedBytes n bs))) m room output (fronts-play p (carriedBytes n bs) c m room l w a g))
+  pub bytes-quiet : (n : ℕ) → recordOf form bs ≡ BytesRecord n → length (c .collector .bytes) ≡ 260 → c .collector .len + length (carriedBytes form n bs) ≤ 260
+      → verdictAt p c m room ≡ Accepted → goodHeard (c .core .phase) (heard (c .collector) ++ carriedBytes form n bs) ≡ true
+      → recordPlaying (record { ended = Played 0 0; chip = collects c (added (c .collector) (carriedBytes form n bs)) }) m room output ≡ playOf form p bs c m room output
+  bytes-quiet n e l w a g =
+      play-events form p bs c m room output _ (BytesRecord n) e (bytes-good n) refl long
+      (bytes-played _ form n p bs _ c m room output refl
+      (nothing-said p (map Byte (carriedBytes form n bs)) c (collects c (added (c .collector) (carriedBytes form n bs))) m room output (fronts-play p (carriedBytes form n bs) c m room l w a g)))
+
+  -- The other seat's record changes nothing at all.
+  pub other-quiet : recordOf form bs ≡ OtherSeat → recordPlaying (record { ended = Played 0 0; chip = c }) m room output ≡ playOf form p bs c m room output
+  other-quiet e = play-events form p bs c m room output _ OtherSeat e other-good refl long (nothing-played form p bs c m room output)

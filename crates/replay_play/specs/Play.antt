@@ -1,12 +1,13 @@
--- The play of one record: document 01, "Replay". The events of a good record go to the chip one after the other; its reply frames are kept in order, end to
--- end.
+-- The play of one record, of either form: document 01, "Replay", and 02, section 5. The events of a good record go to the chip one after the other;
+-- its reply frames are kept in order, end to end.
 use mathlib.Core.List.{List, [], _++_, _∷_, map}
-use Prim.Native.Nat.{_+_, ℕ}
+use Prim.Native.Nat.{_*_, _+_, ℕ}
 use lib.Dec.{ltb}
 use lib.ListN.{drop, length, take}
-use Rattle.replay_capture.specs.Capture.{carriedBytes, recordOf, recordSize}
+use Rattle.replay_capture.specs.Capture.{carriedBytes, dataSize, recordOf}
+use Rattle.replay_capture.specs.declared.Form.{Form}
 use Rattle.replay_capture.specs.declared.Record.{Record}
-use Rattle.replay_capture.specs.declared.Record.the-variants.{BadRecord, BytesRecord, GapRecord}
+use Rattle.replay_capture.specs.declared.Record.the-variants.{BadRecord, BytesRecord, GapRecord, OtherSeat}
 use Rattle.chip.specs.Run.{before, onward}
 use Rattle.chip.specs.Step.{Outcome}
 use Rattle.chip.specs.declared.Answer.{Answer}
@@ -51,11 +52,12 @@ played p (v ∷ vs) x =
     let y = answering (o .answer) o x in
     goesOn (o .answer) (played p vs y) y
 
--- The events of a record: "Kind 00h is a gap (count 0); 01h carries 1 to 6 bytes."
-unfoldable pub eventsOf : Record → List ℕ → List Event
-eventsOf GapRecord bs = Gap ∷ []
-eventsOf (BytesRecord n) bs = map Byte (carriedBytes n bs)
-eventsOf BadRecord bs = []
+-- The events of a record: "Kind 00h is a gap (count 0); 01h carries 1 to 6 bytes", in the new form 1 to 8. Replay "skips seat 1".
+unfoldable pub eventsOf : Form → Record → List ℕ → List Event
+eventsOf form GapRecord bs = Gap ∷ []
+eventsOf form (BytesRecord n) bs = map Byte (carriedBytes form n bs)
+eventsOf form OtherSeat bs = []
+eventsOf form BadRecord bs = []
 
 -- What playing leaves: how it ended, the chip, flash and the kept sums, the room, and the reply frames from the start of the lent output.
 pub record RecordPlaying : Type 0 where
@@ -82,23 +84,25 @@ playedInto x output =
       output = x .said ++ drop (length (x .said)) output;
     }
 
--- A record has at most six bytes, each with a reply of at most 31 bytes: 192 bytes of output always suffice, and with fewer none is played.
-abbrev pub outputLeast : ℕ
-outputLeast = 192
+-- Each byte has a reply of at most 31 bytes: 32 bytes of output for each that a record can carry always suffice (192 in the old form, 256 in the new), and with
+-- fewer none is played.
+abbrev pub outputLeast : Form → ℕ
+outputLeast form = 32 * dataSize form
 
 abbrev pub unchanged : RecordEnded → Chip → Memory → List ℕ → List ℕ → RecordPlaying
 unchanged t c m room output = record { ended = t; chip = c; memory = m; room = room; output = output }
 
-unfoldable pub playWith : List Event → Part → Chip → Memory → List ℕ → List ℕ → RecordPlaying
-playWith vs p c m room output =
-    if ltb (length output) outputLeast then unchanged OutputShort c m room output
+unfoldable pub playWith : Form → List Event → Part → Chip → Memory → List ℕ → List ℕ → RecordPlaying
+playWith form vs p c m room output =
+    if ltb (length output) (outputLeast form) then unchanged OutputShort c m room output
     else playedInto (played p vs (beforePlaying c m room)) output
 
--- A record is judged whole before any of its bytes is fed.
-unfoldable pub playBy : Record → Part → List ℕ → Chip → Memory → List ℕ → List ℕ → RecordPlaying
-playBy GapRecord p bs c m room output = playWith (eventsOf GapRecord bs) p c m room output
-playBy (BytesRecord n) p bs c m room output = playWith (eventsOf (BytesRecord n) bs) p c m room output
-playBy BadRecord p bs c m room output = unchanged NotGood c m room output
+-- A record is judged whole before any of its bytes is fed, whichever seat's it is.
+unfoldable pub playBy : Form → Record → Part → List ℕ → Chip → Memory → List ℕ → List ℕ → RecordPlaying
+playBy form GapRecord p bs c m room output = playWith form (eventsOf form GapRecord bs) p c m room output
+playBy form (BytesRecord n) p bs c m room output = playWith form (eventsOf form (BytesRecord n) bs) p c m room output
+playBy form OtherSeat p bs c m room output = playWith form (eventsOf form OtherSeat bs) p c m room output
+playBy form BadRecord p bs c m room output = unchanged NotGood c m room output
 
-unfoldable pub playOf : Part → List ℕ → Chip → Memory → List ℕ → List ℕ → RecordPlaying
-playOf p bs c m room output = playBy (recordOf recordSize bs) p bs c m room output
+unfoldable pub playOf : Form → Part → List ℕ → Chip → Memory → List ℕ → List ℕ → RecordPlaying
+playOf form p bs c m room output = playBy form (recordOf form bs) p bs c m room output

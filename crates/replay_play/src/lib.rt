@@ -1,17 +1,19 @@
-// The play of one capture record: judged whole, its events go to the chip, its reply frames into the lent output. Document 01, "Replay".
+// The play of one capture record, of either form: judged whole, its events go to the chip, its reply frames into the lent output. Document 01, "Replay", and 02,
+// section 5.
 ghost use mathlib.Core.Path.{_≡_};
 ghost use mathlib.Core.List.{_∷_, [], map};
-ghost use Prim.Native.Nat.{_≤_};
+ghost use Prim.Native.Nat.{_*_, _≤_};
 ghost use lib.ListN.{length};
 ghost use Rattle.chip.specs.declared.Event.the-variants.{Byte, Gap};
 ghost use Rattle.chip_core.specs.Effect.{memory};
-ghost use Rattle.replay_play.specs.Play.{beforePlaying, playOf, played, playedInto, recordPlaying};
+ghost use Rattle.replay_play.specs.Play.{beforePlaying, outputLeast, playOf, played, playedInto, recordPlaying};
 use chip::Answer;
 use chip::Event;
 use chip::events;
 use chip_state::Chip;
 use part::Part;
 use part::refusal::Refusal;
+use replay_capture::Form;
 use replay_capture::Record;
 
 // How playing ended: with so many bytes and frames of replies; at a record that is not good; before one, for want of output; or at a call that the chip refused.
@@ -36,7 +38,7 @@ fn play_gap(
     room: &mut [u8],
     output: &mut [u8],
 ) -> PlayedRecord
-    requires { ⌜ 192 ≤ length (now output) ⌝ }
+    requires { ⌜ 32 ≤ length (now output) ⌝ }
     ensures { λ r. ⌜ recordPlaying r (memory (now (code .exit)) (now («data» .exit)) (now (sums .exit))) (now (room .exit)) (now (output .exit))
         ≡ playedInto (played part (Gap ∷ []) (beforePlaying chip (memory (now (code .entry)) (now («data» .entry)) (now (sums .entry))) (now (room .entry))))
         (now (output .entry)) ⌝ }
@@ -75,7 +77,7 @@ fn play_bytes(
     room: &mut [u8],
     output: &mut [u8],
 ) -> PlayedRecord
-    requires { ⌜ (length (now bytes) ≤ 6) × (192 ≤ length (now output)) ⌝ }
+    requires { ⌜ (length (now bytes) ≤ 8) × (32 * length (now bytes) ≤ length (now output)) ⌝ }
     ensures { λ r. ⌜ recordPlaying r (memory (now (code .exit)) (now («data» .exit)) (now (sums .exit))) (now (room .exit)) (now (output .exit))
         ≡ playedInto (played part (map Byte (now (bytes .entry)))
         (beforePlaying chip (memory (now (code .entry)) (now («data» .entry)) (now (sums .entry))) (now (room .entry)))) (now (output .entry)) ⌝ }
@@ -115,8 +117,16 @@ fn play_bytes(
     }
 }
 
-// One record: judged whole, then its events one after the other. With output under 192 bytes it is not played.
+// How much output a record asks for, whatever it carries.
+pub fn output_least(form: Form) -> usize
+    ensures { λ r. ⌜ r ≡ outputLeast form ⌝ }
+{
+    32 * replay_capture::data_size(form)
+}
+
+// One record: judged whole, then its events one after the other; the other seat's has none. With less output than it asks for it is not played.
 pub fn play(
+    form: Form,
     part: Part,
     chip: Chip,
     bytes: &[u8],
@@ -127,16 +137,32 @@ pub fn play(
     output: &mut [u8],
 ) -> PlayedRecord
     ensures { λ r. ⌜ recordPlaying r (memory (now (code .exit)) (now («data» .exit)) (now (sums .exit))) (now (room .exit)) (now (output .exit))
-        ≡ playOf part (now (bytes .entry)) chip (memory (now (code .entry)) (now («data» .entry)) (now (sums .entry))) (now (room .entry)) (now (output .entry)) ⌝ }
+        ≡ playOf form part (now (bytes .entry)) chip (memory (now (code .entry)) (now («data» .entry)) (now (sums .entry))) (now (room .entry)) (now (output .entry)) ⌝ }
 {
-    let judged = replay_capture::read(bytes);
+    let judged = replay_capture::read(form, bytes);
+    let least = output_least(form);
     match judged {
         Record::BadRecord => PlayedRecord {
             ended: RecordEnded::NotGood,
             chip,
         },
+        Record::OtherSeat => {
+            if output.len() < least {
+                return PlayedRecord {
+                    ended: RecordEnded::OutputShort,
+                    chip,
+                };
+            }
+            PlayedRecord {
+                ended: RecordEnded::Played {
+                    bytes: 0,
+                    frames: 0,
+                },
+                chip,
+            }
+        }
         Record::GapRecord => {
-            if output.len() < 192 {
+            if output.len() < least {
                 return PlayedRecord {
                     ended: RecordEnded::OutputShort,
                     chip,
@@ -145,14 +171,14 @@ pub fn play(
             play_gap(part, chip, code, data, sums, room, output)
         }
         Record::BytesRecord(n) => {
-            if output.len() < 192 {
+            if output.len() < least {
                 return PlayedRecord {
                     ended: RecordEnded::OutputShort,
                     chip,
                 };
             }
-            let end = n + 2;
-            play_bytes(part, chip, &bytes[2..end], code, data, sums, room, output)
+            let carried = replay_capture::carried(form, n, bytes);
+            play_bytes(part, chip, carried, code, data, sums, room, output)
         }
     }
 }

@@ -6,8 +6,9 @@ use mathlib.Core.Path.{_∙_, _≡_, ap, refl, sym}
 use Prim.Native.Nat.{_+_, _-_, _<_, _≤_, ℕ}
 use native.Mathlib.Decide.{decLe}
 use native.Mathlib.Omega.{arith}
-use lib.ListN.{List·getD-append, drop, getD, length, length-append, length-drop, take}
+use lib.ListN.{List·getD-append, getD, length, length-append, take}
 use lib.Seq.{getD-append-add, getD-take, length-take-le, take-all}
+use lib.Dec.{leb}
 use borrow.Author.Tests.{le-leb, lt-leb}
 use Rattle.chip_core.specs.Hearing.{hearing}
 use Rattle.chip_core.specs.declared.Hearing.{Hearing}
@@ -22,10 +23,12 @@ use Rattle.lent.proofs.Laws.{put-lands}
 use Rattle.lent.specs.Lent.{Left, left, putOf}
 use Rattle.lent.specs.declared.Room.{Room}
 use Rattle.part.specs.declared.Part.{Part}
-use Rattle.replay_capture.proofs.Laws.{Carries, carries-is}
-use Rattle.replay_capture.specs.Capture.{carriedBytes, recordOf, recordSize}
+use Rattle.replay_capture.proofs.Laws.{Carries, carried-long, carries-is, sizes}
+use Rattle.replay_capture.specs.Capture.{carriedBytes, recordOf}
+use Rattle.replay_capture.specs.declared.Form.{Form}
 use Rattle.replay_capture.specs.declared.Record.{Record}
-use Rattle.replay_capture.specs.declared.Record.the-variants.{BadRecord, BytesRecord, GapRecord}
+use Rattle.replay_capture.specs.declared.Record.the-variants.{BadRecord, BytesRecord, GapRecord, OtherSeat}
+use Rattle.replay_play.specs.Play.{outputLeast}
 use Rattle.replay_quiet.specs.Quiet.{acceptedIn, collectedBy, isQuiet, settledIf, settleOf, settling}
 use Rattle.replay_quiet.specs.declared.Lengths.{Lengths}
 use Rattle.replay_quiet.specs.declared.Quiet.the-variants.{NotQuiet, Settled}
@@ -67,21 +70,15 @@ front-is {r} {e} {n} {head} {len} f l more count w h g i j x y =
     let k : n ≡ length (take count l ++ more) = j ∙ long-behind l more count (omega arith) in
     g ∙ rw (i, k, x, y)
 
--- The bytes that a record carries, lent as a part of it.
-pub carried-part : (n : ℕ) (bs : List ℕ) → take (n + 2 - 2) (drop 2 bs) ≡ carriedBytes n bs
-carried-part n bs = let two : n + 2 - 2 ≡ n = omega arith in ap (λ (k : ℕ). take k (drop 2 bs)) two
-
-pub carried-long : {n : ℕ} {bs : List ℕ} → Carries n bs → length (carriedBytes n bs) ≡ n
-carried-long {n} {bs} x = length-take-le n (drop 2 bs) (rw (length-drop, x .long) (omega (arith, x .most)))
-
--- Whether a record of bytes is quiet, and whether a bad one is, as the code asks.
-pub bytes-quiet-is : (n count : ℕ) (f : Phase) (held bs : List ℕ) → isQuiet (BytesRecord n) f (heard (collecting held count)) bs ≡ goodHeard f (take count held ++ take (n + 2 - 2) (drop 2 bs))
+-- Whether a record is quiet, as the code asks it.
+pub bytes-quiet-is : (form : Form) {ds : List ℕ} (n count : ℕ) (f : Phase) (held bs : List ℕ) → ds ≡ carriedBytes form n bs
+    → isQuiet form (BytesRecord n) f (heard (collecting held count)) bs ≡ goodHeard f (take count held ++ ds)
 unfolding isQuiet
-bytes-quiet-is n count f held bs = rw (heard-is (collecting held count), carried-part n bs)
+bytes-quiet-is form {ds} n count f held bs e = rw (heard-is (collecting held count), e)
 
-pub bad-is-loud : (f : Phase) (hs bs : List ℕ) → isQuiet BadRecord f hs bs ≡ false
+pub bad-is-loud : (form : Form) (f : Phase) (hs bs : List ℕ) → isQuiet form BadRecord f hs bs ≡ false
 unfolding isQuiet
-bad-is-loud f hs bs = refl
+bad-is-loud form f hs bs = refl
 
 and-none : (t : Bool) → t and false ≡ false
 unfolding _and_
@@ -89,50 +86,65 @@ and-none true = refl
 and-none false = refl
 
 -- What settling a record leaves: nothing, for want of output or of a quiet record that is accepted;
-pub settles-short : (known : Bool) (p : Part) (c : Chip) (bs : List ℕ) (l : Lengths) → l .output < 192 → settling NotQuiet (c .collector .bytes) ≡ settleOf known p c bs l
-unfolding settleOf settledIf _and_
-settles-short known p c bs l h = simp (lt-leb 192 (l .output) h)
-
-module _ (known : Bool) (p : Part) (c : Chip) (bs : List ℕ) (l : Lengths) (r : Record) (judged : recordOf recordSize bs ≡ r) (room : 192 ≤ l .output) where
-  pub settles-loud : isQuiet r (c .core .phase) (heard (c .collector)) bs ≡ false → settling NotQuiet (c .collector .bytes) ≡ settleOf known p c bs l
+module _ (form : Form) (known : Bool) (p : Part) (c : Chip) (bs : List ℕ) (l : Lengths) {least : ℕ} (asked : least ≡ outputLeast form) where
+  pub settles-short : l .output < least → settling NotQuiet (c .collector .bytes) ≡ settleOf form known p c bs l
   unfolding settleOf settledIf _and_
-  settles-loud e = simp (judged, le-leb 192 (l .output) room, e)
+  settles-short h = simp (lt-leb (outputLeast form) (l .output) (omega (arith, asked)))
 
-  pub settles-barred : acceptedIn known p c l ≡ false → settling NotQuiet (c .collector .bytes) ≡ settleOf known p c bs l
-  unfolding settleOf settledIf _and_
-  settles-barred e = simp (judged, le-leb 192 (l .output) room, e, and-none (isQuiet r (c .core .phase) (heard (c .collector)) bs))
+  module _ (r : Record) (judged : recordOf form bs ≡ r) (room : least ≤ l .output) where
+    enough : leb (outputLeast form) (l .output) ≡ true
+    enough = le-leb (outputLeast form) (l .output) (omega (arith, asked))
 
-  settles : isQuiet r (c .core .phase) (heard (c .collector)) bs ≡ true → acceptedIn known p c l ≡ true
-      → settling (Settled (collectedBy r bs (c .collector) .len)) (collectedBy r bs (c .collector) .bytes) ≡ settleOf known p c bs l
-  unfolding settleOf settledIf _and_
-  settles e a = simp (judged, le-leb 192 (l .output) room, e, a)
+    pub settles-loud : isQuiet form r (c .core .phase) (heard (c .collector)) bs ≡ false → settling NotQuiet (c .collector .bytes) ≡ settleOf form known p c bs l
+    unfolding settleOf settledIf _and_
+    settles-loud e = simp (judged, enough, e)
 
--- a gap, with nothing collected any more; and bytes, with them behind what is collected.
-pub settles-gap : (known : Bool) (p : Part) (c : Chip) (bs : List ℕ) (l : Lengths) → recordOf recordSize bs ≡ GapRecord → 192 ≤ l .output → acceptedIn known p c l ≡ true
-    → settling (Settled 0) (c .collector .bytes) ≡ settleOf known p c bs l
-unfolding isQuiet collectedBy
-settles-gap known p c bs l e h a =
-    sym (ap (λ (d : Collector). settling (Settled (d .len)) (d .bytes)) (dropped-leaves (c .collector))) ∙ settles known p c bs l GapRecord e h refl a
+    pub settles-barred : acceptedIn known p c l ≡ false → settling NotQuiet (c .collector .bytes) ≡ settleOf form known p c bs l
+    unfolding settleOf settledIf _and_
+    settles-barred e = simp (judged, enough, e, and-none (isQuiet form r (c .core .phase) (heard (c .collector)) bs))
 
-pub settles-bytes : (known : Bool) (p : Part) (c : Chip) (bs : List ℕ) (l : Lengths) (n : ℕ) (a : Room) (held : List ℕ) → recordOf recordSize bs ≡ BytesRecord n → 192 ≤ l .output
-    → length (c .collector .bytes) ≡ 260 → c .collector .len + n ≤ 260 → isQuiet (BytesRecord n) (c .core .phase) (heard (c .collector)) bs ≡ true → acceptedIn known p c l ≡ true
-    → left a held ≡ putOf (c .collector .bytes) (c .collector .len) (take (n + 2 - 2) (drop 2 bs)) → settling (Settled (c .collector .len + n)) held ≡ settleOf known p c bs l
-unfolding collectedBy
-settles-bytes known p c bs l n a held e h w k g t u =
-    let q : left a held ≡ putOf (c .collector .bytes) (c .collector .len) (carriedBytes n bs) = u ∙ ap (putOf (c .collector .bytes) (c .collector .len)) (carried-part n bs) in
-    let m : length (carriedBytes n bs) ≡ n = carried-long (carries-is n bs e) in
-    let f : collecting held (c .collector .len + n) ≡ added (c .collector) (carriedBytes n bs) =
-    ap (λ (i : ℕ). collecting held (c .collector .len + i)) (sym m)
-    ∙ add-put (c .collector) (carriedBytes n bs) held a q (ap (λ (x : Left). x .answer) (q ∙ put-lands (c .collector .bytes) (c .collector .len) (carriedBytes n bs) (omega (arith, m, w)))) w in
-    ap (λ (d : Collector). settling (Settled (d .len)) (d .bytes)) f ∙ settles known p c bs l (BytesRecord n) e h g t
+    settles : isQuiet form r (c .core .phase) (heard (c .collector)) bs ≡ true → acceptedIn known p c l ≡ true
+        → settling (Settled (collectedBy form r bs (c .collector) .len)) (collectedBy form r bs (c .collector) .bytes) ≡ settleOf form known p c bs l
+    unfolding settleOf settledIf _and_
+    settles e a = simp (judged, enough, e, a)
+
+  -- a gap, with nothing collected any more; the other seat's, with all as it was; and bytes, with them behind what is collected.
+  pub settles-gap : recordOf form bs ≡ GapRecord → least ≤ l .output → acceptedIn known p c l ≡ true → settling (Settled 0) (c .collector .bytes) ≡ settleOf form known p c bs l
+  unfolding isQuiet collectedBy
+  settles-gap e h a = sym (ap (λ (d : Collector). settling (Settled (d .len)) (d .bytes)) (dropped-leaves (c .collector))) ∙ settles GapRecord e h refl a
+
+  pub settles-other : recordOf form bs ≡ OtherSeat → least ≤ l .output → acceptedIn known p c l ≡ true
+      → settling (Settled (c .collector .len)) (c .collector .bytes) ≡ settleOf form known p c bs l
+  unfolding isQuiet collectedBy
+  settles-other e h a = settles OtherSeat e h refl a
+
+  pub settles-bytes : {ds : List ℕ} (n : ℕ) (a : Room) (held : List ℕ) → recordOf form bs ≡ BytesRecord n → least ≤ l .output → ds ≡ carriedBytes form n bs
+      → length (c .collector .bytes) ≡ 260 → c .collector .len + n ≤ 260 → isQuiet form (BytesRecord n) (c .core .phase) (heard (c .collector)) bs ≡ true → acceptedIn known p c l ≡ true
+      → left a held ≡ putOf (c .collector .bytes) (c .collector .len) ds → settling (Settled (c .collector .len + n)) held ≡ settleOf form known p c bs l
+  unfolding collectedBy
+  settles-bytes {ds} n a held e h d w k g t u =
+      let q : left a held ≡ putOf (c .collector .bytes) (c .collector .len) (carriedBytes form n bs) = u ∙ ap (putOf (c .collector .bytes) (c .collector .len)) d in
+      let m : length (carriedBytes form n bs) ≡ n = carried-long (carries-is form n bs e) in
+      let f : collecting held (c .collector .len + n) ≡ added (c .collector) (carriedBytes form n bs) =
+      ap (λ (i : ℕ). collecting held (c .collector .len + i)) (sym m)
+      ∙ add-put (c .collector) (carriedBytes form n bs) held a q
+      (ap (λ (x : Left). x .answer) (q ∙ put-lands (c .collector .bytes) (c .collector .len) (carriedBytes form n bs) (omega (arith, m, w)))) w in
+      ap (λ (d : Collector). settling (Settled (d .len)) (d .bytes)) f ∙ settles (BytesRecord n) e h g t
 
 -- Where bytes leave a front, they have places.
-pub front-fits : (n count : ℕ) (f : Phase) (held bs : List ℕ) → recordOf recordSize bs ≡ BytesRecord n → length held ≡ 260 → goodHeard f (take count held ++ take (n + 2 - 2) (drop 2 bs)) ≡ true → count + n < 260
-front-fits n count f held bs e w g = go (decLe count 260)
+pub front-fits : (form : Form) {ds : List ℕ} (n count : ℕ) (f : Phase) (held bs : List ℕ) → recordOf form bs ≡ BytesRecord n → ds ≡ carriedBytes form n bs → length held ≡ 260
+    → goodHeard f (take count held ++ ds) ≡ true → count + n < 260
+front-fits form {ds} n count f held bs e d w g = go (decLe count 260)
   where
-    part : length (take (n + 2 - 2) (drop 2 bs)) ≡ n
-    part = ap length (carried-part n bs) ∙ carried-long (carries-is n bs e)
+    part : length ds ≡ n
+    part = ap length d ∙ carried-long (carries-is form n bs e)
 
     go : Dec (count ≤ 260) → count + n < 260
-    go (yes k) = omega (arith, part, good-within (hearing f) _ _ _ g, long-behind held (take (n + 2 - 2) (drop 2 bs)) count (omega arith))
-    go (no k) = absurd (let z : false ≡ true = full-is-none f held (take (n + 2 - 2) (drop 2 bs)) count w (omega arith) ∙ g in let y : _≡_ {A = ℕ} 0 1 = cc in omega arith)
+    go (yes k) = omega (arith, part, good-within (hearing f) _ _ _ g, long-behind held ds count (omega arith))
+    go (no k) = absurd (let z : false ≡ true = full-is-none f held ds count w (omega arith) ∙ g in let y : _≡_ {A = ℕ} 0 1 = cc in omega arith)
+
+-- The bytes that a record carries are few.
+pub carried-few : {form : Form} {n : ℕ} {bs ds : List ℕ} → Carries form n bs → ds ≡ carriedBytes form n bs → length ds ≤ 8
+carried-few {form} {n} {bs} {ds} k e =
+    let d : length ds ≡ n = ap length e ∙ carried-long k in
+    omega (arith, k .most, sizes form .dataMost)

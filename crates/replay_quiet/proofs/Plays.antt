@@ -21,11 +21,12 @@ use Rattle.frame.specs.declared.collector.Collector.{Collector}
 use Rattle.part.specs.declared.Part.{Part}
 use Rattle.part.specs.declared.refusal.Verdict.{Verdict}
 use Rattle.part.specs.declared.refusal.Verdict.the-variants.{Accepted, Refused}
-use Rattle.replay_capture.specs.Capture.{carriedBytes, recordOf, recordSize}
+use Rattle.replay_capture.specs.Capture.{carriedBytes, recordOf}
+use Rattle.replay_capture.specs.declared.Form.{Form}
 use Rattle.replay_capture.specs.declared.Record.{Record}
-use Rattle.replay_capture.specs.declared.Record.the-variants.{BadRecord, BytesRecord, GapRecord}
-use Rattle.replay_play.proofs.Quiet.{bytes-quiet, gap-quiet}
-use Rattle.replay_play.specs.Play.{playOf, recordPlaying}
+use Rattle.replay_capture.specs.declared.Record.the-variants.{BadRecord, BytesRecord, GapRecord, OtherSeat}
+use Rattle.replay_play.proofs.Quiet.{bytes-quiet, gap-quiet, other-quiet}
+use Rattle.replay_play.specs.Play.{outputLeast, playOf, recordPlaying}
 use Rattle.replay_play.specs.declared.RecordEnded.the-variants.{Played}
 use Rattle.replay_quiet.specs.Quiet.{Settling, acceptedIn, collectedBy, isAccepted, isQuiet, settledIf, settleOf, settling}
 use Rattle.replay_quiet.specs.declared.Lengths.{Lengths}
@@ -34,8 +35,8 @@ use Rattle.replay_quiet.specs.declared.Quiet.the-variants.{NotQuiet, Set
 use Rattle.words.proofs.Laws.{and-left, and-right}
 use Rattle.words.specs.Words.{_and_, _or_}
 
-pub record PlayedBy (p : Part) (bs : List ℕ) (c : Chip) (m : Memory) (room output : List ℕ) (d : Collector) : Type 0 where
-  pub plays : recordPlaying (record { ended = Played 0 0; chip = collects c d }) m room output ≡ playOf p bs c m room output
+pub record PlayedBy (form : Form) (p : Part) (bs : List ℕ) (c : Chip) (m : Memory) (room output : List ℕ) (d : Collector) : Type 0 where
+  pub plays : recordPlaying (record { ended = Played 0 0; chip = collects c d }) m room output ≡ playOf form p bs c m room output
   pub accepted : verdictAt p (collects c d) m room ≡ Accepted
   pub places : length (d .bytes) ≡ 260
 
@@ -48,68 +49,72 @@ unfolding _or_
 known-so true v k e = k refl
 known-so false v k e = accepted-so v e
 
-module _ (p : Part) (bs : List ℕ) (c : Chip) (m : Memory) (room output : List ℕ) (places : length (c .collector .bytes) ≡ 260) (accepted : verdictAt p c m room ≡ Accepted)
-    (long : 192 ≤ length output) where
-  by-gap : recordOf recordSize bs ≡ GapRecord → PlayedBy p bs c m room output (dropped (c .collector))
+module _ (form : Form) (p : Part) (bs : List ℕ) (c : Chip) (m : Memory) (room output : List ℕ) (places : length (c .collector .bytes) ≡ 260) (accepted : verdictAt p c m room ≡ Accepted)
+    (long : outputLeast form ≤ length output) where
+  by-gap : recordOf form bs ≡ GapRecord → PlayedBy form p bs c m room output (dropped (c .collector))
   by-gap e =
       record {
-        plays = gap-quiet p bs c m room output e long accepted;
+        plays = gap-quiet form p bs c m room output long e accepted;
         accepted = gap-accepted p c m room accepted;
         places = ap (λ (d : Collector). length (d .bytes)) (dropped-leaves (c .collector)) ∙ places;
       }
 
-  by-bytes : (n : ℕ) → recordOf recordSize bs ≡ BytesRecord n → goodHeard (c .core .phase) (heard (c .collector) ++ carriedBytes n bs) ≡ true
-      → PlayedBy p bs c m room output (added (c .collector) (carriedBytes n bs))
+  by-bytes : (n : ℕ) → recordOf form bs ≡ BytesRecord n → goodHeard (c .core .phase) (heard (c .collector) ++ carriedBytes form n bs) ≡ true
+      → PlayedBy form p bs c m room output (added (c .collector) (carriedBytes form n bs))
   by-bytes n e g =
       let f = hearing (c .core .phase) in
       let w : c .collector .len < 260 = good-within f _ _ _ (state-collected p (c .core) _ _ _ f (accepts accepted .state) refl) in
-      let h : c .collector .len + length (carriedBytes n bs) ≤ 260 =
-      omega (arith, good-within f _ _ _ g, length-append (heard (c .collector)) (carriedBytes n bs), length-heard (c .collector) (omega (arith, w, places))) in
+      let h : c .collector .len + length (carriedBytes form n bs) ≤ 260 =
+      omega (arith, good-within f _ _ _ g, length-append (heard (c .collector)) (carriedBytes form n bs), length-heard (c .collector) (omega (arith, w, places))) in
       record {
-        plays = bytes-quiet p bs n c m room output e long places h accepted g;
-        accepted = fronts-accepted p c m room (carriedBytes n bs) places h accepted g;
-        places = added-places (c .collector) (carriedBytes n bs) places h;
+        plays = bytes-quiet form p bs c m room output long n e places h accepted g;
+        accepted = fronts-accepted p c m room (carriedBytes form n bs) places h accepted g;
+        places = added-places (c .collector) (carriedBytes form n bs) places h;
       }
 
-  by-record : (r : Record) → recordOf recordSize bs ≡ r → isQuiet r (c .core .phase) (heard (c .collector)) bs ≡ true → PlayedBy p bs c m room output (collectedBy r bs (c .collector))
+  by-other : recordOf form bs ≡ OtherSeat → PlayedBy form p bs c m room output (c .collector)
+  by-other e = record { plays = other-quiet form p bs c m room output long e; accepted = accepted; places = places }
+
+  by-record : (r : Record) → recordOf form bs ≡ r → isQuiet form r (c .core .phase) (heard (c .collector)) bs ≡ true → PlayedBy form p bs c m room output (collectedBy form r bs (c .collector))
   unfolding isQuiet collectedBy
   by-record GapRecord e q = by-gap e
   by-record (BytesRecord n) e q = by-bytes n e q
+  by-record OtherSeat e q = by-other e
   by-record BadRecord e q = absurd (let z : _≡_ {A = ℕ} 0 1 = cc in omega arith)
 
-pub settled-plays : (known : Bool) (p : Part) (c : Chip) (m : Memory) (room output bs : List ℕ) (l : Lengths) (n : ℕ) (held : List ℕ) (s : Quiet) → length (c .collector .bytes) ≡ 260
+pub settled-plays : (form : Form) (known : Bool) (p : Part) (c : Chip) (m : Memory) (room output bs : List ℕ) (l : Lengths) (n : ℕ) (held : List ℕ) (s : Quiet) → length (c .collector .bytes) ≡ 260
     → (known ≡ true → verdictAt p c m room ≡ Accepted) → l .code ≡ length (m .flash .codeFlash) → l .«data» ≡ length (m .flash .dataFlash) → l .room ≡ length room → l .output ≡ length output
-    → settling s held ≡ settleOf known p c bs l → s ≡ Settled n → PlayedBy p bs c m room output (collecting held n)
+    → settling s held ≡ settleOf form known p c bs l → s ≡ Settled n → PlayedBy form p bs c m room output (collecting held n)
 unfolding settleOf settledIf
-settled-plays known p c m room output bs l n held s w k lc ld lr lo e t = go (leb 192 (l .output) and isQuiet r (c .core .phase) (heard (c .collector)) bs and acceptedIn known p c l) refl e
+settled-plays form known p c m room output bs l n held s w k lc ld lr lo e t = go (leb (outputLeast form) (l .output) and isQuiet form r (c .core .phase) (heard (c .collector)) bs and acceptedIn known p c l) refl e
   where
     r : Record
-    r = recordOf recordSize bs
+    r = recordOf form bs
 
-    go : (u : Bool) → leb 192 (l .output) and isQuiet r (c .core .phase) (heard (c .collector)) bs and acceptedIn known p c l ≡ u → settling s held ≡ settledIf u r bs (c .collector)
-        → PlayedBy p bs c m room output (collecting held n)
+    go : (u : Bool) → leb (outputLeast form) (l .output) and isQuiet form r (c .core .phase) (heard (c .collector)) bs and acceptedIn known p c l ≡ u → settling s held ≡ settledIf u form r bs (c .collector)
+        → PlayedBy form p bs c m room output (collecting held n)
     go false x y = absurd (let v : Settled n ≡ NotQuiet = sym t ∙ ap (λ (z : Settling). z .quiet) y in let z : _≡_ {A = ℕ} 0 1 = cc in omega arith)
     go true x y =
-        let d = collectedBy r bs (c .collector) in
+        let d = collectedBy form r bs (c .collector) in
         let a : acceptedIn known p c l ≡ true = and-right _ _ (and-right _ _ x) in
         let v : verdictAt p c m room ≡ Accepted = known-so known (verdictAt p c m room) k (rw (sym lc, sym ld, sym lr) a) in
         let i : Settled n ≡ Settled (d .len) = sym t ∙ ap (λ (z : Settling). z .quiet) y in
         let j : n ≡ d .len = cc in
         let h : held ≡ d .bytes = ap (λ (z : Settling). z .held) y in
         let o : collecting held n ≡ d = ap (λ (q : List ℕ). collecting q n) h ∙ ap (λ (q : ℕ). collecting (d .bytes) q) j in
-        subst (λ (q : Collector). PlayedBy p bs c m room output q) (sym o)
-        (by-record p bs c m room output w v (omega (arith, leb-true 192 (l .output) (and-left _ _ x), lo)) r refl (and-left _ _ (and-right _ _ x)))
+        subst (λ (q : Collector). PlayedBy form p bs c m room output q) (sym o)
+        (by-record form p bs c m room output w v (omega (arith, leb-true (outputLeast form) (l .output) (and-left _ _ x), lo)) r refl (and-left _ _ (and-right _ _ x)))
 
 -- A record that is not settled is left to the play, and nothing was changed.
-pub left-alone : (known : Bool) (p : Part) (c : Chip) (bs : List ℕ) (l : Lengths) (held : List ℕ) (s : Quiet) → settling s held ≡ settleOf known p c bs l → s ≡ NotQuiet → held ≡ c .collector .bytes
+pub left-alone : (form : Form) (known : Bool) (p : Part) (c : Chip) (bs : List ℕ) (l : Lengths) (held : List ℕ) (s : Quiet) → settling s held ≡ settleOf form known p c bs l → s ≡ NotQuiet → held ≡ c .collector .bytes
 unfolding settleOf settledIf
-left-alone known p c bs l held s e t = go (leb 192 (l .output) and isQuiet r (c .core .phase) (heard (c .collector)) bs and acceptedIn known p c l) e
+left-alone form known p c bs l held s e t = go (leb (outputLeast form) (l .output) and isQuiet form r (c .core .phase) (heard (c .collector)) bs and acceptedIn known p c l) e
   where
     r : Record
-    r = recordOf recordSize bs
+    r = recordOf form bs
 
-    go : (u : Bool) → settling s held ≡ settledIf u r bs (c .collector) → held ≡ c .collector .bytes
+    go : (u : Bool) → settling s held ≡ settledIf u form r bs (c .collector) → held ≡ c .collector .bytes
     go false y = ap (λ (z : Settling). z .held) y
     go true y =
         absurd
-        (let v : NotQuiet ≡ Settled (collectedBy r bs (c .collector) .len) = sym t ∙ ap (λ (z : Settling). z .quiet) y in let z : _≡_ {A = ℕ} 0 1 = cc in omega arith)
+        (let v : NotQuiet ≡ Settled (collectedBy form r bs (c .collector) .len) = sym t ∙ ap (λ (z : Settling). z .quiet) y in let z : _≡_ {A = ℕ} 0 1 = cc in omega arith)

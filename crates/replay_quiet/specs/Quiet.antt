@@ -1,6 +1,6 @@
 -- Records that change what is collected alone: document 01, "Replay" and "Frames" ("Collecting"). "A gap drops what is collected and changes nothing else"; bytes
--- after which what is collected is still the front of a frame that is awaited are added to it. What playing such a record leaves is said in replay_play; here is
--- which records they are, and where they are settled.
+-- after which what is collected is still the front of a frame that is awaited are added to it; and a record of the other seat changes nothing (02, section 5). What
+-- playing such a record leaves is said in replay_play; here is which records they are, and where they are settled.
 use mathlib.Core.Bool.{Bool, false, true}
 use mathlib.Core.List.{List, _++_}
 use Prim.Native.Nat.{ℕ}
@@ -14,9 +14,10 @@ use Rattle.frame.specs.declared.collector.Collector.{Collector}
 use Rattle.part.specs.declared.Part.{Part}
 use Rattle.part.specs.declared.refusal.Verdict.{Verdict}
 use Rattle.part.specs.declared.refusal.Verdict.the-variants.{Accepted, Refused}
-use Rattle.replay_capture.specs.Capture.{carriedBytes, recordOf, recordSize}
+use Rattle.replay_capture.specs.Capture.{carriedBytes, recordOf}
+use Rattle.replay_capture.specs.declared.Form.{Form}
 use Rattle.replay_capture.specs.declared.Record.{Record}
-use Rattle.replay_capture.specs.declared.Record.the-variants.{BadRecord, BytesRecord, GapRecord}
+use Rattle.replay_capture.specs.declared.Record.the-variants.{BadRecord, BytesRecord, GapRecord, OtherSeat}
 use Rattle.replay_play.specs.Play.{outputLeast}
 use Rattle.replay_quiet.specs.declared.Lengths.{Lengths}
 use Rattle.replay_quiet.specs.declared.Quiet.{Quiet}
@@ -28,16 +29,18 @@ abbrev pub chipHeld : Core → List ℕ → ℕ → Chip
 chipHeld k held count = record { core = k; collector = collecting held count }
 
 -- hs is what has been heard, bs the record's bytes.
-unfoldable pub isQuiet : Record → Phase → List ℕ → List ℕ → Bool
-isQuiet GapRecord f hs bs = true
-isQuiet (BytesRecord n) f hs bs = goodHeard f (hs ++ carriedBytes n bs)
-isQuiet BadRecord f hs bs = false
+unfoldable pub isQuiet : Form → Record → Phase → List ℕ → List ℕ → Bool
+isQuiet form GapRecord f hs bs = true
+isQuiet form (BytesRecord n) f hs bs = goodHeard f (hs ++ carriedBytes form n bs)
+isQuiet form OtherSeat f hs bs = true
+isQuiet form BadRecord f hs bs = false
 
 -- What is collected after such a record.
-unfoldable pub collectedBy : Record → List ℕ → Collector → Collector
-collectedBy GapRecord bs c = dropped c
-collectedBy (BytesRecord n) bs c = added c (carriedBytes n bs)
-collectedBy BadRecord bs c = c
+unfoldable pub collectedBy : Form → Record → List ℕ → Collector → Collector
+collectedBy form GapRecord bs c = dropped c
+collectedBy form (BytesRecord n) bs c = added c (carriedBytes form n bs)
+collectedBy form OtherSeat bs c = c
+collectedBy form BadRecord bs c = c
 
 -- What is left: what became of the record, and all of the lent bytes.
 pub record Settling : Type 0 where
@@ -47,9 +50,9 @@ pub record Settling : Type 0 where
 abbrev pub settling : Quiet → List ℕ → Settling
 settling q l = record { quiet = q; held = l }
 
-unfoldable pub settledIf : Bool → Record → List ℕ → Collector → Settling
-settledIf true r bs c = settling (Settled (collectedBy r bs c .len)) (collectedBy r bs c .bytes)
-settledIf false r bs c = settling NotQuiet (c .bytes)
+unfoldable pub settledIf : Bool → Form → Record → List ℕ → Collector → Settling
+settledIf true form r bs c = settling (Settled (collectedBy form r bs c .len)) (collectedBy form r bs c .bytes)
+settledIf false form r bs c = settling NotQuiet (c .bytes)
 
 abbrev pub isAccepted : Verdict → Bool
 isAccepted Accepted = true
@@ -60,12 +63,13 @@ abbrev pub acceptedIn : Bool → Part → Chip → Lengths → Bool
 acceptedIn known p c l = known or isAccepted (verdictOn p c (l .code) (l .«data») (l .room))
 
 -- The record is settled where the output has room for a record's replies, it is quiet, and the chip accepts the call.
-unfoldable pub settleOf : Bool → Part → Chip → List ℕ → Lengths → Settling
-settleOf known p c bs l =
+unfoldable pub settleOf : Form → Bool → Part → Chip → List ℕ → Lengths → Settling
+settleOf form known p c bs l =
     settledIf
-    (leb outputLeast (l .output)
-    and isQuiet (recordOf recordSize bs) (c .core .phase) (heard (c .collector)) bs
+    (leb (outputLeast form) (l .output)
+    and isQuiet form (recordOf form bs) (c .core .phase) (heard (c .collector)) bs
     and acceptedIn known p c l)
-    (recordOf recordSize bs)
+    form
+    (recordOf form bs)
     bs
     (c .collector)

@@ -1,6 +1,6 @@
-// Records that change what is collected alone, settled where the collected bytes lie: a gap, and bytes after which what is collected is still the front of a
-// frame that is awaited. Nothing answers them, so a run of them is one stretch: no chip is copied for them, and one verdict holds for all.
-// Document 01, "Replay" and "Frames" ("Collecting").
+// Records that change what is collected alone, or nothing at all, settled where the collected bytes lie: a gap, bytes after which what is collected is still the
+// front of a frame that is awaited, and the other seat's. Nothing answers them, so a run of them is one stretch: no chip is copied for them, and one verdict
+// holds for all. Document 01, "Replay" and "Frames" ("Collecting"), and 02, section 5.
 ghost use mathlib.Core.Path.{_≡_};
 ghost use mathlib.Core.List.{_++_};
 ghost use Prim.Native.Nat.{_≤_};
@@ -12,6 +12,7 @@ use chip_core::Phase;
 use chip_state::Handed;
 use part::Part;
 use part::refusal::Verdict;
+use replay_capture::Form;
 use replay_capture::Record;
 
 // What became of a record: it is settled, and so many bytes are collected; or it is not quiet, and nothing was changed.
@@ -41,7 +42,7 @@ fn byte_after(held: &[u8], count: usize, more: &[u8], i: usize) -> u8
 
 // Whether what is collected is the front of a frame that is awaited, with more bytes behind it.
 fn is_front(phase: Phase, held: &[u8], count: usize, more: &[u8]) -> bool
-    requires { ⌜ (length (now held) ≡ 260) × (length (now more) ≤ 6) ⌝ }
+    requires { ⌜ (length (now held) ≡ 260) × (length (now more) ≤ 8) ⌝ }
     ensures { λ r. ⌜ r ≡ goodHeard phase (take count (now (held .entry)) ++ now (more .entry)) ⌝ }
 {
     if frame::LONGEST <= count {
@@ -84,8 +85,9 @@ fn is_accepted(
 }
 
 // One record of a capture, where it is quiet, the chip accepts it and the output has room for a record's replies: the bytes that it carries go behind those
-// collected, or, for a gap, none is collected any more.
+// collected; for a gap, none is collected any more; for the other seat's, all stays.
 pub fn settle(
+    form: Form,
     known: bool,
     part: Part,
     core: Core,
@@ -94,14 +96,20 @@ pub fn settle(
     bytes: &[u8],
     lengths: Lengths,
 ) -> Quiet
-    ensures { λ r. ⌜ settling r (now (held .exit)) ≡ settleOf known part (chipHeld core (now (held .entry)) count) (now (bytes .entry)) lengths ⌝ }
+    ensures { λ r. ⌜ settling r (now (held .exit)) ≡ settleOf form known part (chipHeld core (now (held .entry)) count) (now (bytes .entry)) lengths ⌝ }
 {
-    if lengths.output < 192 {
+    if lengths.output < replay_play::output_least(form) {
         return Quiet::NotQuiet;
     }
-    let judged = replay_capture::read(bytes);
+    let judged = replay_capture::read(form, bytes);
     match judged {
         Record::BadRecord => Quiet::NotQuiet,
+        Record::OtherSeat => {
+            if is_accepted(known, part, core, held, count, lengths) {
+                return Quiet::Settled(count);
+            }
+            Quiet::NotQuiet
+        }
         Record::GapRecord => {
             if is_accepted(known, part, core, held, count, lengths) {
                 return Quiet::Settled(0);
@@ -109,11 +117,11 @@ pub fn settle(
             Quiet::NotQuiet
         }
         Record::BytesRecord(n) => {
-            let end = n + 2;
+            let carried = replay_capture::carried(form, n, bytes);
             let phase = core.phase;
-            if is_front(phase, held, count, &bytes[2..end]) {
+            if is_front(phase, held, count, carried) {
                 if is_accepted(known, part, core, held, count, lengths) {
-                    lent::put(held, count, &bytes[2..end]);
+                    lent::put(held, count, carried);
                     return Quiet::Settled(count + n);
                 }
                 return Quiet::NotQuiet;

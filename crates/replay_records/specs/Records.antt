@@ -1,9 +1,10 @@
--- Replay of a capture: document 01, "Replay". Its records are played one after the other, up to the first that is not good; the reply frames stand end to end.
+-- Replay of a capture, of either form: document 01, "Replay", and 02, section 5. Its records are played one after the other, up to the first that
+-- is not good; the reply frames stand end to end.
 use mathlib.Core.List.{List, [], _++_, _∷_}
 use Prim.Native.Nat.{_+_, ℕ}
 use lib.ListN.{drop, take}
 use Rattle.replay_capture.specs.Capture.{recordSize, recordsOf}
-use Rattle.chip.specs.declared.Answer.the-variants as Answer
+use Rattle.replay_capture.specs.declared.Form.{Form}
 use Rattle.chip_state.specs.declared.Chip.{Chip}
 use Rattle.chip_core.specs.Effect.{Memory}
 use Rattle.part.specs.declared.Part.{Part}
@@ -61,25 +62,27 @@ nextBy NotGood t x = afterRecord AtBadRecord 0 0 0 t x
 nextBy OutputShort t x = afterRecord OutputFull 0 0 0 t x
 nextBy (RecordEnded.Refused r) t x = afterRecord (Ended.Refused r) 0 0 0 t x
 
-abbrev pub nextOf : Part → List ℕ → Replaying → Replaying
-nextOf p r x =
-    let t = playOf p r (x .chip) (x .memory) (x .room) (drop (x .bytes) (x .output)) in
+abbrev pub nextOf : Form → Part → List ℕ → Replaying → Replaying
+nextOf form p r x =
+    let t = playOf form p r (x .chip) (x .memory) (x .room) (drop (x .bytes) (x .output)) in
     nextBy (t .ended) t x
 
--- "a bad or short record prints `BAD`, a space and its number from 0, and stops there": its number is that of the records played.
+-- "a bad or short record prints `BAD`, a space and its number from 0, and stops there": its number is that of the records before it, whichever seat's they are.
 unfoldable pub whileWhole : Ended → Replaying → Replaying → Replaying
 whileWhole Whole rest x = rest
 whileWhole AtBadRecord rest x = x
 whileWhole OutputFull rest x = x
 whileWhole (Ended.Refused r) rest x = x
 
-unfoldable pub replayedFrom : Part → List (List ℕ) → Replaying → Replaying
-replayedFrom p [] x = x
-replayedFrom p (r ∷ rs) x = whileWhole (nextOf p r x .ended) (replayedFrom p rs (nextOf p r x)) (nextOf p r x)
+unfoldable pub replayedFrom : Form → Part → List (List ℕ) → Replaying → Replaying
+replayedFrom form p [] x = x
+replayedFrom form p (r ∷ rs) x = whileWhole (nextOf form p r x .ended) (replayedFrom form p rs (nextOf form p r x)) (nextOf form p r x)
 
-unfoldable pub replayOf : Part → List ℕ → Chip → Memory → List ℕ → List ℕ → Replaying
-replayOf p capture c m room output =
-    replayedFrom p (recordsOf recordSize capture) (record { ended = Whole; records = 0; bytes = 0; frames = 0; chip = c; memory = m; room = room; output = output })
+-- "Replay reads either form, told which"
+unfoldable pub replayOf : Form → Part → List ℕ → Chip → Memory → List ℕ → List ℕ → Replaying
+replayOf form p capture c m room output =
+    replayedFrom form p (recordsOf (recordSize form) capture)
+    (record { ended = Whole; records = 0; bytes = 0; frames = 0; chip = c; memory = m; room = room; output = output })
 
 -- "The chip has 16 code and 4 data blocks, clock 32". Device code, name and version are those of 000, table 3-2, its misprint of one digit mended.
 abbrev pub replayPart : Part

@@ -1,4 +1,5 @@
-// Replay of a capture into a chip: its records are played one after the other, their reply frames stand in the lent output. Document 01, "Replay".
+// Replay of a capture, of either form, into a chip: its records are played one after the other, their reply frames stand in the lent output. Document 01,
+// "Replay", and 02, section 5.
 // Reading the capture and printing the frames is the program's.
 ghost use mathlib.Core.Path.{_≡_};
 ghost use mathlib.Core.Bool.{true};
@@ -15,6 +16,7 @@ use chip_state::Chip;
 use frame::collector::Collector;
 use part::Part;
 use part::refusal::Refusal;
+use replay_capture::Form;
 use replay_play::RecordEnded;
 use replay_quiet::Lengths;
 use replay_quiet::Quiet;
@@ -45,6 +47,7 @@ struct RecordTurn {
 
 // One record, with the collected bytes where they lie: a quiet one is settled there, any other is played on the whole chip.
 fn turn(
+    form: Form,
     known: bool,
     part: Part,
     core: Core,
@@ -60,7 +63,7 @@ fn turn(
     requires { ⌜ (length (now held) ≡ 260)
         × (known ≡ true → verdictOn part (chipHeld core (now held) count) (length (now code)) (length (now «data»)) (length (now room)) ≡ Accepted) ⌝ }
     ensures { λ r. ⌜ (turnLeft r (now (held .exit)) (memory (now (code .exit)) (now («data» .exit)) (now (sums .exit))) (now (room .exit)) (now (output .exit))
-        ≡ playOf part (now (bytes .entry)) (chipHeld core (now (held .entry)) count) (memory (now (code .entry)) (now («data» .entry)) (now (sums .entry)))
+        ≡ playOf form part (now (bytes .entry)) (chipHeld core (now (held .entry)) count) (memory (now (code .entry)) (now («data» .entry)) (now (sums .entry)))
         (now (room .entry)) (now (output .entry)))
         × (length (now (held .exit)) ≡ 260)
         × (r .known ≡ true
@@ -73,7 +76,7 @@ fn turn(
         room: room.len(),
         output: output.len(),
     };
-    let quiet = replay_quiet::settle(known, part, core, held, count, bytes, lengths);
+    let quiet = replay_quiet::settle(form, known, part, core, held, count, bytes, lengths);
     match quiet {
         Quiet::Settled(n) => RecordTurn {
             ended: RecordEnded::Played {
@@ -93,7 +96,7 @@ fn turn(
                     len: count,
                 },
             };
-            let t = replay_play::play(part, chip, bytes, code, data, sums, room, output);
+            let t = replay_play::play(form, part, chip, bytes, code, data, sums, room, output);
             let ended = t.ended;
             let last = t.chip;
             let core = last.core;
@@ -113,6 +116,7 @@ fn turn(
 // A capture's records one after the other, up to the first that is not good. Where the output has no room for a further record's replies, the caller goes on
 // from that record with fresh output: nothing is lost.
 pub fn replay(
+    form: Form,
     part: Part,
     chip: Chip,
     capture: &[u8],
@@ -123,7 +127,8 @@ pub fn replay(
     output: &mut [u8],
 ) -> Replayed
     ensures { λ r. ⌜ replaying r (memory (now (code .exit)) (now («data» .exit)) (now (sums .exit))) (now (room .exit)) (now (output .exit))
-        ≡ replayOf part (now (capture .entry)) chip (memory (now (code .entry)) (now («data» .entry)) (now (sums .entry))) (now (room .entry)) (now (output .entry)) ⌝ }
+        ≡ replayOf form part (now (capture .entry)) chip (memory (now (code .entry)) (now («data» .entry)) (now (sums .entry)))
+        (now (room .entry)) (now (output .entry)) ⌝ }
 {
     let mut core = chip.core;
     let collector = chip.collector;
@@ -135,8 +140,9 @@ pub fn replay(
     let mut bytes = 0;
     let mut frames = 0;
     while at < capture.len() {
-        let end = replay_capture::record_end(at, capture.len());
+        let end = replay_capture::record_end(form, at, capture.len());
         let t = turn(
+            form,
             known,
             part,
             core,

@@ -15,7 +15,8 @@ use std::time::Instant;
 use trials::chip::Door;
 use trials::door::{BAD_RECORD, OUTPUT};
 use trials::traffic::{capture, page_frames};
-use twin::replay::{replay_part, split_frames, CARRIED, RECORD};
+use twin::capture::{Form, CARRIED, RECORD};
+use twin::replay::{replay_part, split_frames};
 
 const RUNS: usize = 5;
 /// A process that ends within a few milliseconds is seldom left alone for as long.
@@ -68,7 +69,7 @@ fn play(path: &Path) -> io::Result<()> {
     let (mut records, mut frames) = (0, 0);
     loop {
         let n = fill(&mut input, &mut buffer)?;
-        let told = door.play(&buffer[..n], &mut output);
+        let told = door.play(Form::Old, &buffer[..n], &mut output);
         records += told.records;
         frames += told.frames;
         printed.write_all(&lines(&output[..told.bytes as usize]))?;

@@ -1,6 +1,6 @@
-//! The proved chip and the proved dock against the twin, in one process and on the same bytes: ratios of the least of several runs each. Replay is also set
-//! beside a control, which works the SUM of what it has collected out anew at every byte (02 §3). After every turn all have said the same bytes and hold the same
-//! flash, kept sums and state.
+//! The proved chip, dock and conversions against the twin, in one process and on the same bytes: ratios of the least of several runs each. Replay is also set
+//! beside a control, which works the SUM of what it has collected out anew at every byte (02 §3), and the new form of its records beside the old (02 §5). After
+//! every turn all have said the same bytes and hold the same flash, kept sums and state.
 
 use std::hint::black_box;
 use std::iter;
@@ -9,13 +9,16 @@ use std::time::Instant;
 use trials::chip::{layout, Door};
 use trials::dock::work;
 use trials::door::{self, DOCK, FRAME_ROOM};
-use trials::traffic::{capture, carried_bytes, opening, page, page_frames, traffic};
+use trials::traffic::{
+    capture, carried_bytes, in_new_form, of_two_seats, opening, page, page_frames, traffic,
+};
+use twin::capture::{convert, judge_record, Form, CARRIED, PLAYED_SEAT};
 use twin::chip::{step, Answer, Chip, Event, ACK, ERASED, NACK, PROGRAM, RESET};
 use twin::dock;
 use twin::frame::{sum, LAST_FOOTER, MORE_FOOTER};
 use twin::part::{Area, Part};
 use twin::random::{command_frame, data_frame, range_body};
-use twin::replay::{judge_record, replay_part, Player, Record, CARRIED, RECORD};
+use twin::replay::{replay_part, Player};
 use twin::sums::Sums;
 
 const RUNS: usize = 15;
@@ -270,29 +273,38 @@ fn twin_pages(pages: &[u8]) -> Said {
     from_twin(player, said)
 }
 
-fn door_replay(capture: &[u8]) -> Said {
+fn door_plays(form: Form, capture: &[u8]) -> Said {
     let (mut door, mut said, mut output) =
         (Door::fresh(&replay_part()), Vec::new(), vec![0; 1 << 16]);
     let mut at = 0;
     while at < capture.len() {
-        let (played, bytes) = door.replay(&capture[at..], &mut output);
-        at += played * RECORD;
+        let (played, bytes) = door.replay(form, &capture[at..], &mut output);
+        at += played * form.record();
         said.extend_from_slice(&output[..bytes]);
     }
     from_door(door, said)
 }
 
+fn door_replay(capture: &[u8]) -> Said {
+    door_plays(Form::Old, capture)
+}
+
+fn door_replay_new(capture: &[u8]) -> Said {
+    door_plays(Form::New, capture)
+}
+
 /// The twin's chip through a capture; it is shown to `after` at every byte it has heard.
-fn twin_plays(capture: &[u8], after: impl Fn(&Chip)) -> Said {
+fn twin_plays(form: Form, capture: &[u8], after: impl Fn(&Chip)) -> Said {
     let (mut player, mut room, mut said) = (Player::fresh(), [0; 32], Vec::new());
-    for record in capture.chunks_exact(RECORD) {
-        let record = record.try_into().expect("eight bytes");
-        match judge_record(record).expect("a good record") {
-            Record::Gap => {
+    for record in capture.chunks_exact(form.record()) {
+        let record = judge_record(form, record).expect("a good record");
+        match record.carried {
+            _ if record.seat != PLAYED_SEAT => (),
+            None => {
                 hear(&mut player, Event::Gap, &mut room);
             }
-            Record::Bytes { bytes, count } => {
-                for &byte in &bytes[..count] {
+            Some(carried) => {
+                for &byte in carried.bytes() {
                     let n = hear(&mut player, Event::Byte(byte), &mut room);
                     said.extend_from_slice(&room[..n]);
                     after(&player.chip);
@@ -304,15 +316,56 @@ fn twin_plays(capture: &[u8], after: impl Fn(&Chip)) -> Said {
 }
 
 fn twin_replay(capture: &[u8]) -> Said {
-    twin_plays(capture, |_| ())
+    twin_plays(Form::Old, capture, |_| ())
+}
+
+fn twin_replay_new(capture: &[u8]) -> Said {
+    twin_plays(Form::New, capture, |_| ())
 }
 
 /// What 02 §3 saw: "The frame SUM is worked out anew for every byte collected", from LEN to the newest.
 fn control_replay(capture: &[u8]) -> Said {
-    twin_plays(capture, |chip| {
+    twin_plays(Form::Old, capture, |chip| {
         if let [_, len, rest @ ..] = &chip.collected[..chip.count] {
             black_box(sum(*len, black_box(rest)));
         }
+    })
+}
+
+/// How often a capture is converted in one run.
+const CONVERSIONS: usize = 20;
+
+/// A capture into the other form, again and again into the same output.
+fn converted_by(from: Form, capture: &[u8], each: impl Fn(&[u8], &mut [u8]) -> usize) -> Said {
+    let mut output = vec![0; capture.len() / from.record() * from.other().record()];
+    for _ in 0..CONVERSIONS {
+        let bytes = each(black_box(capture), black_box(&mut output));
+        assert_eq!(bytes, output.len());
+    }
+    without_flash(output, &[])
+}
+
+fn door_to_new(capture: &[u8]) -> Said {
+    converted_by(Form::Old, capture, |capture, output| {
+        door::to_new(capture, output).bytes as usize
+    })
+}
+
+fn door_to_old(capture: &[u8]) -> Said {
+    converted_by(Form::New, capture, |capture, output| {
+        door::to_old(capture, output).bytes as usize
+    })
+}
+
+fn twin_to_new(capture: &[u8]) -> Said {
+    converted_by(Form::Old, capture, |capture, output| {
+        convert(Form::Old, capture, output).expect("good records")
+    })
+}
+
+fn twin_to_old(capture: &[u8]) -> Said {
+    converted_by(Form::New, capture, |capture, output| {
+        convert(Form::New, capture, output).expect("records that the old form holds")
     })
 }
 
@@ -383,7 +436,7 @@ impl Rehearsal {
             }
             after = Some(state);
         }
-        said_by_dock(
+        without_flash(
             frames,
             &trials::dock::layout(&after.expect("one job at least")),
         )
@@ -401,11 +454,12 @@ impl Rehearsal {
                 assert_eq!(door::answer(&job, &mut state, answer).refusal, 0);
             }
         }
-        said_by_dock(frames, &state)
+        without_flash(frames, &state)
     }
 }
 
-fn said_by_dock(bytes: Vec<u8>, state: &[u8]) -> Said {
+/// Bytes that are no chip's, and a state that goes with them.
+fn without_flash(bytes: Vec<u8>, state: &[u8]) -> Said {
     Said {
         bytes,
         state: state.to_vec(),
@@ -583,6 +637,44 @@ fn replay_rows() -> [f64; 3] {
     took[0][0].times
 }
 
+/// The new form beside the old on the same traffic, alone and with a record of seat 1 after each; and captures converted.
+fn form_rows() {
+    let old = Traffic::Pages.recorded(CARRIED);
+    let new = in_new_form(&old);
+    let both = of_two_seats(&new);
+    let each: [Run; 2] = [&door_replay_new, &twin_replay_new];
+    let name = "replay of 10,000 records of the new form (zc_replay_new)";
+    let alone = row(name, (RECORDS, "record"), each, &new, RUNS);
+    let name = "and 10,000 of seat 1 between them";
+    let with_other = row(name, (2 * RECORDS, "record"), each, &both, RUNS);
+    let name = "the old form's again (zc_replay)";
+    let before = row(
+        name,
+        (RECORDS, "record"),
+        [&door_replay, &twin_replay],
+        &old,
+        RUNS,
+    );
+    println!(
+        "a record of the new form over one of the old, proved {:15.2}   (twin {:.2})",
+        alone[0] / before[0],
+        alone[1] / before[1]
+    );
+    println!(
+        "a record of seat 1, skipped, proved and twin {}",
+        a_unit(
+            &[with_other[0] - alone[0], with_other[1] - alone[1]],
+            RECORDS,
+            "record"
+        )
+    );
+    let units = (RECORDS * CONVERSIONS, "record");
+    let each: [Run; 2] = [&door_to_new, &twin_to_new];
+    row("old to new (zc_to_new)", units, each, &old, RUNS);
+    let each: [Run; 2] = [&door_to_old, &twin_to_old];
+    row("new to old (zc_to_old)", units, each, &new, RUNS);
+}
+
 fn main() {
     let bytes = traffic(10);
     let n = bytes.len();
@@ -631,6 +723,7 @@ fn main() {
         RUNS,
     );
     let few = replay_rows();
+    form_rows();
     let large = capture(page_frames(), CARRIED, 1_000_000);
     let many = row(
         "replay of 1,000,000 records: page traffic",

@@ -9,7 +9,7 @@ use Rattle.replay.proofs.replay.Statement.{statement}
 use Rattle.replay.proofs.replay.Tie as tie
 
 abbrev Inv-loop : tie.InvT-loop
-Inv-loop fd name part chip₀ code₀ data₀ sums₀ room₀ capture₀ output₀ text₀ records₀ frames₀ progress₀ turns₀ t21 t22 t23 chip code «data» sums room capture output text records frames progress turns =
+Inv-loop form fd name part chip₀ code₀ data₀ sums₀ room₀ capture₀ output₀ text₀ records₀ frames₀ progress₀ turns₀ t21 t22 t23 chip code «data» sums room capture output text records frames progress turns =
     (length code ≡ 16384)
     × (length «data» ≡ 4096)
     × (length room ≡ 32)
@@ -18,7 +18,7 @@ Inv-loop fd name part chip₀ code₀ data₀ sums₀ room₀ capture₀ output�
     × (length text ≡ 65536)
 
 abbrev μ-loop : tie.MeasureT-loop
-μ-loop fd name part chip₀ code₀ data₀ sums₀ room₀ capture₀ output₀ text₀ records₀ frames₀ progress₀ turns₀ t21 t22 t23 chip code «data» sums room capture output text records frames progress turns = turns
+μ-loop form fd name part chip₀ code₀ data₀ sums₀ room₀ capture₀ output₀ text₀ records₀ frames₀ progress₀ turns₀ t21 t22 t23 chip code «data» sums room capture output text records frames progress turns = turns
 
 pub replay-spec : {M : Type 1} → statement M
 replay-spec =

@@ -2,7 +2,7 @@
 -- Assumes nothing.
 use mathlib.Core.List.{map}
 use mathlib.Core.Path.{_∙_, _≡_, refl}
-use Prim.Native.Nat.{_-_, _≤_}
+use Prim.Native.Nat.{_*_, _-_, _≤_}
 use native.Mathlib.Omega.{arith}
 use lib.ListN.{length}
 use borrow.Author.Needs.{needs}
@@ -21,8 +21,8 @@ Inv-loop part bytes code₀ data₀ sums₀ room₀ output₀ last₀ i₀ said�
     (length code ≡ length code₀)
     × (length «data» ≡ length data₀)
     × (length room ≡ length room₀)
-    × (length bytes ≤ 6)
-    × (192 ≤ length output₀)
+    × (length bytes ≤ 8)
+    × (32 * length bytes ≤ length output₀)
     × Arrays part
     × PlayedFrom part bytes last (memory code «data» sums) room i said frames output₀ output (played part (map Byte bytes) (beforePlaying last₀ (memory code₀ data₀ sums₀) room₀))
 
@@ -83,7 +83,7 @@ loop-again c =
       x .3,
       x .4,
       x .5,
-      played-turn _ (x .6) (x .5) (feed .ensures) (loop-test .taken) (answer2 .given .1) (x .3) (x .4) (c .before .before .put .ensures),
+      played-turn _ (x .6) (x .5) (feed .ensures) (loop-test .taken) (answer2 .given .1) (x .4) (c .before .before .put .ensures),
     )
 
 returns : tie.Need-returns Inv-loop μ-loop

@@ -11,16 +11,14 @@ use Rattle.part.specs.Part.{Arrays}
 use Rattle.part.specs.declared.refusal.Verdict.the-variants.{Accepted}
 use Rattle.chip_core.specs.Effect.{memory}
 use Rattle.replay_quiet.specs.Quiet.{chipHeld}
-use Rattle.replay_capture.proofs.Records.{end-after, end-within}
-use Rattle.replay_capture.specs.Capture.{recordSize}
-use Rattle.replay_records.proofs.Loop.{ReplayedFrom, never, output-kept, replayed-bad, replayed-end, replayed-full, replayed-refused, replayed-start, replayed-turn, turn-lies}
+use Rattle.replay_records.proofs.Loop.{ReplayedFrom, never, output-kept, replayed-bad, replayed-end, replayed-full, replayed-refused, replayed-start, replayed-turn, turn-ends, turn-lies}
 use Rattle.replay_records.specs.Records.{replayOf}
 use Rattle.replay_records.specs.declared.Ended.the-variants.{Whole}
 use Rattle.replay_records.proofs.replay.Statement.{statement}
 use Rattle.replay_records.proofs.replay.Tie as tie
 
 abbrev Inv-loop : tie.InvT-loop
-Inv-loop part capture code₀ data₀ sums₀ room₀ output₀ core₀ held₀ count₀ known₀ at₀ records₀ bytes₀ frames₀ code «data» sums room output core held count known at records bytes frames =
+Inv-loop form part capture code₀ data₀ sums₀ room₀ output₀ core₀ held₀ count₀ known₀ at₀ records₀ bytes₀ frames₀ code «data» sums room output core held count known at records bytes frames =
     (length code ≡ length code₀)
     × (length «data» ≡ length data₀)
     × (length room ≡ length room₀)
@@ -29,25 +27,25 @@ Inv-loop part capture code₀ data₀ sums₀ room₀ output₀ core₀ held₀ 
     × Arrays part
     × (length held ≡ 260)
     × (known ≡ true → verdictAt part (chipHeld core held count) (memory code «data» sums) room ≡ Accepted)
-    × ReplayedFrom part capture at
+    × ReplayedFrom form part capture at
     (record { ended = Whole; records = records; bytes = bytes; frames = frames; chip = chipHeld core held count; memory = memory code «data» sums; room = room; output = output })
-    (replayOf part capture (chipHeld core₀ held₀ count₀) (memory code₀ data₀ sums₀) room₀ output₀)
+    (replayOf form part capture (chipHeld core₀ held₀ count₀) (memory code₀ data₀ sums₀) room₀ output₀)
 
 abbrev μ-loop : tie.MeasureT-loop
-μ-loop part capture code₀ data₀ sums₀ room₀ output₀ core₀ held₀ count₀ known₀ at₀ records₀ bytes₀ frames₀ code «data» sums room output core held count known at records bytes frames = length capture - at
+μ-loop form part capture code₀ data₀ sums₀ room₀ output₀ core₀ held₀ count₀ known₀ at₀ records₀ bytes₀ frames₀ code «data» sums room output core held count known at records bytes frames = length capture - at
 
 loop-holds : tie.Need-loop-holds Inv-loop μ-loop
 loop-holds c =
-    (refl, refl, refl, refl, omega arith, record { deviceLong = search needs; nameLong = search needs; versionLong = search needs }, search needs, never, replayed-start _ _ _ _ _ _)
+    (refl, refl, refl, refl, omega arith, record { deviceLong = search needs; nameLong = search needs; versionLong = search needs }, search needs, never, replayed-start _ _ _ _ _ _ _)
 
 sub-turn : tie.Need-sub-turn Inv-loop μ-loop
-sub-turn c = omega (arith, c .before .record-end .ensures, end-after recordSize _ _ (omega arith) (c .before .before .loop-test .taken))
+sub-turn c = omega (arith, turn-ends (c .before .before .before .loop .inv .8) (c .before .before .loop-test .taken) (c .before .record-end .ensures) .0)
 
 part-turn-start : tie.Need-part-turn-start Inv-loop μ-loop
-part-turn-start c = omega (arith, c .before .record-end .ensures, end-after recordSize _ _ (omega arith) (c .before .before .loop-test .taken))
+part-turn-start c = omega (arith, turn-ends (c .before .before .before .loop .inv .8) (c .before .before .loop-test .taken) (c .before .record-end .ensures) .0)
 
 part-turn-end : tie.Need-part-turn-end Inv-loop μ-loop
-part-turn-end c = omega (arith, c .before .record-end .ensures, end-within recordSize _ _ (c .before .before .loop-test .taken))
+part-turn-end c = omega (arith, turn-ends (c .before .before .before .loop .inv .8) (c .before .before .loop-test .taken) (c .before .record-end .ensures) .1)
 
 sub-turn-2 : tie.Need-sub-turn-2 Inv-loop μ-loop
 sub-turn-2 c = omega (arith, c .before .before .before .before .before .before .before .before .loop .inv .8 .stands)
@@ -67,7 +65,7 @@ add-records c =
     let record-end = t .before .before .before .before .before .before .before .before .record-end in
     let loop-test = t .before .before .before .before .before .before .before .before .before .loop-test in
     let x = t .before .before .before .before .before .before .before .before .before .before .loop .inv in
-    omega (arith, x .8 .counted, record-end .ensures, end-after recordSize _ _ (omega arith) (loop-test .taken))
+    omega (arith, x .8 .counted, turn-ends (x .8) (loop-test .taken) (record-end .ensures) .0, turn-ends (x .8) (loop-test .taken) (record-end .ensures) .1)
 
 add-bytes : tie.Need-add-bytes Inv-loop μ-loop
 add-bytes c =
@@ -91,7 +89,9 @@ loop-less c =
     let t = c .before .before .before .before .before .before .before .before .before .before .before .before in
     let record-end = t .before .before .before .before .before .before .before .before .record-end in
     let loop-test = t .before .before .before .before .before .before .before .before .before .loop-test in
-    omega (arith, record-end .ensures, end-after recordSize _ _ (omega arith) (loop-test .taken), end-within recordSize _ _ (loop-test .taken))
+    let x = t .before .before .before .before .before .before .before .before .before .before .loop .inv in
+    let ends = turn-ends (x .8) (loop-test .taken) (record-end .ensures) in
+    omega (arith, ends .0, ends .1)
 
 loop-again : tie.Need-loop-again Inv-loop μ-loop
 loop-again c =
@@ -99,10 +99,10 @@ loop-again c =
     let record-end = t .before .before .before .before .before .before .before .before .record-end in
     let loop-test = t .before .before .before .before .before .before .before .before .before .loop-test in
     let x = t .before .before .before .before .before .before .before .before .before .before .loop .inv in
-    let l = output-kept _ (x .8) (record-end .ensures) (t .turn .ensures .0) (t .turn .kept .1 .1 .1 .1 .1 .1 .1 .1 .1 .1 .0) in (
-      t .turn .kept .1 .1 .1 .1 .1 .1 .0 ∙ x .0,
-      t .turn .kept .1 .1 .1 .1 .1 .1 .1 .0 ∙ x .1,
-      t .turn .kept .1 .1 .1 .1 .1 .1 .1 .1 .1 .0 ∙ x .2,
+    let l = output-kept _ (x .8) (record-end .ensures) (t .turn .ensures .0) (t .turn .kept .1 .1 .1 .1 .1 .1 .1 .1 .1 .1 .1 .0) in (
+      t .turn .kept .1 .1 .1 .1 .1 .1 .1 .0 ∙ x .0,
+      t .turn .kept .1 .1 .1 .1 .1 .1 .1 .1 .0 ∙ x .1,
+      t .turn .kept .1 .1 .1 .1 .1 .1 .1 .1 .1 .1 .0 ∙ x .2,
       l ∙ x .3,
       x .4,
       x .5,
@@ -117,7 +117,7 @@ same-length-4 c =
     let record-end = t .before .before .before .before .before .before .before .before .record-end in
     let loop-test = t .before .before .before .before .before .before .before .before .before .loop-test in
     let x = t .before .before .before .before .before .before .before .before .before .before .loop .inv in
-    output-kept _ (x .8) (record-end .ensures) (t .turn .ensures .0) (t .turn .kept .1 .1 .1 .1 .1 .1 .1 .1 .1 .1 .0) ∙ x .3
+    output-kept _ (x .8) (record-end .ensures) (t .turn .ensures .0) (t .turn .kept .1 .1 .1 .1 .1 .1 .1 .1 .1 .1 .1 .0) ∙ x .3
 
 returns : tie.Need-returns Inv-loop μ-loop
 returns c =
@@ -133,7 +133,7 @@ same-length-8 c =
     let record-end = t .before .before .before .before .before .before .before .before .record-end in
     let loop-test = t .before .before .before .before .before .before .before .before .before .loop-test in
     let x = t .before .before .before .before .before .before .before .before .before .before .loop .inv in
-    output-kept _ (x .8) (record-end .ensures) (t .turn .ensures .0) (t .turn .kept .1 .1 .1 .1 .1 .1 .1 .1 .1 .1 .0) ∙ x .3
+    output-kept _ (x .8) (record-end .ensures) (t .turn .ensures .0) (t .turn .kept .1 .1 .1 .1 .1 .1 .1 .1 .1 .1 .1 .0) ∙ x .3
 
 returns-2 : tie.Need-returns-2 Inv-loop μ-loop
 returns-2 c =
@@ -149,7 +149,7 @@ same-length-12 c =
     let record-end = t .before .before .before .before .before .before .before .before .record-end in
     let loop-test = t .before .before .before .before .before .before .before .before .before .loop-test in
     let x = t .before .before .before .before .before .before .before .before .before .before .loop .inv in
-    output-kept _ (x .8) (record-end .ensures) (t .turn .ensures .0) (t .turn .kept .1 .1 .1 .1 .1 .1 .1 .1 .1 .1 .0) ∙ x .3
+    output-kept _ (x .8) (record-end .ensures) (t .turn .ensures .0) (t .turn .kept .1 .1 .1 .1 .1 .1 .1 .1 .1 .1 .1 .0) ∙ x .3
 
 returns-3 : tie.Need-returns-3 Inv-loop μ-loop
 returns-3 c =
@@ -186,37 +186,37 @@ replay-spec =
     (λ c. search needs)
     (λ c.
     let t = c .before .before .before .before .before .before .before .before .before .before .before in
-    t .turn .kept .1 .1 .1 .1 .1 .1 .0 ∙ t .before .before .before .before .before .before .before .before .before .before .loop .inv .0)
+    t .turn .kept .1 .1 .1 .1 .1 .1 .1 .0 ∙ t .before .before .before .before .before .before .before .before .before .before .loop .inv .0)
     (λ c.
     let t = c .before .before .before .before .before .before .before .before .before .before .before in
-    t .turn .kept .1 .1 .1 .1 .1 .1 .1 .0 ∙ t .before .before .before .before .before .before .before .before .before .before .loop .inv .1)
+    t .turn .kept .1 .1 .1 .1 .1 .1 .1 .1 .0 ∙ t .before .before .before .before .before .before .before .before .before .before .loop .inv .1)
     (λ c.
     let t = c .before .before .before .before .before .before .before .before .before .before .before in
-    t .turn .kept .1 .1 .1 .1 .1 .1 .1 .1 .1 .0 ∙ t .before .before .before .before .before .before .before .before .before .before .loop .inv .2)
+    t .turn .kept .1 .1 .1 .1 .1 .1 .1 .1 .1 .1 .0 ∙ t .before .before .before .before .before .before .before .before .before .before .loop .inv .2)
     same-length-4
     returns
     (λ c. search needs)
     (λ c.
     let t = c .before .before .before .before .before .before .before .before .before .before .before in
-    t .turn .kept .1 .1 .1 .1 .1 .1 .0 ∙ t .before .before .before .before .before .before .before .before .before .before .loop .inv .0)
+    t .turn .kept .1 .1 .1 .1 .1 .1 .1 .0 ∙ t .before .before .before .before .before .before .before .before .before .before .loop .inv .0)
     (λ c.
     let t = c .before .before .before .before .before .before .before .before .before .before .before in
-    t .turn .kept .1 .1 .1 .1 .1 .1 .1 .0 ∙ t .before .before .before .before .before .before .before .before .before .before .loop .inv .1)
+    t .turn .kept .1 .1 .1 .1 .1 .1 .1 .1 .0 ∙ t .before .before .before .before .before .before .before .before .before .before .loop .inv .1)
     (λ c.
     let t = c .before .before .before .before .before .before .before .before .before .before .before in
-    t .turn .kept .1 .1 .1 .1 .1 .1 .1 .1 .1 .0 ∙ t .before .before .before .before .before .before .before .before .before .before .loop .inv .2)
+    t .turn .kept .1 .1 .1 .1 .1 .1 .1 .1 .1 .1 .0 ∙ t .before .before .before .before .before .before .before .before .before .before .loop .inv .2)
     same-length-8
     returns-2
     (λ c. search needs)
     (λ c.
     let t = c .before .before .before .before .before .before .before .before .before .before .before .before in
-    t .turn .kept .1 .1 .1 .1 .1 .1 .0 ∙ t .before .before .before .before .before .before .before .before .before .before .loop .inv .0)
+    t .turn .kept .1 .1 .1 .1 .1 .1 .1 .0 ∙ t .before .before .before .before .before .before .before .before .before .before .loop .inv .0)
     (λ c.
     let t = c .before .before .before .before .before .before .before .before .before .before .before .before in
-    t .turn .kept .1 .1 .1 .1 .1 .1 .1 .0 ∙ t .before .before .before .before .before .before .before .before .before .before .loop .inv .1)
+    t .turn .kept .1 .1 .1 .1 .1 .1 .1 .1 .0 ∙ t .before .before .before .before .before .before .before .before .before .before .loop .inv .1)
     (λ c.
     let t = c .before .before .before .before .before .before .before .before .before .before .before .before in
-    t .turn .kept .1 .1 .1 .1 .1 .1 .1 .1 .1 .0 ∙ t .before .before .before .before .before .before .before .before .before .before .loop .inv .2)
+    t .turn .kept .1 .1 .1 .1 .1 .1 .1 .1 .1 .1 .0 ∙ t .before .before .before .before .before .before .before .before .before .before .loop .inv .2)
     same-length-12
     returns-3
     (λ c. search needs)

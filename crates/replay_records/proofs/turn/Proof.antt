@@ -12,7 +12,7 @@ returns : tie.Need-returns
 returns c =
     let settle = c .before .before .before .settle in
     let pre = c .before .before .before .before .before .before .before .before .before .before .pre in
-    let y = settled-plays _ _ _ _ _ _ _ _ _ _ _ (pre .0) (pre .1) refl refl refl refl (settle .ensures) (c .before .quiet .given .1) in
+    let y = settled-plays _ _ _ _ _ _ _ _ _ _ _ _ (pre .0) (pre .1) refl refl refl refl (settle .ensures) (c .before .quiet .given .1) in
     (y .plays, y .places, λ e. y .accepted)
 
 played-long : (c : tie.After-play) → length (c .play .result .chip .collector .bytes) ≡ 260
@@ -22,7 +22,7 @@ returns-2 : tie.Need-returns-2
 returns-2 c =
     let t = c .before .before .before .before .before .before .before .before .before .before .before .before in
     let s = t .before .before .before .before .before .before .before .before .before in
-    (same-held _ _ _ _ _ _ _ _ _ _ (t .play .ensures) (left-alone _ _ _ _ _ _ _ (s .settle .ensures) (t .before .before .before .before .before .before .before .enum-told .given .1)), played-long t, never)
+    (same-held _ _ _ _ _ _ _ _ _ _ _ (t .play .ensures) (left-alone _ _ _ _ _ _ _ _ (s .settle .ensures) (t .before .before .before .before .before .before .before .enum-told .given .1)), played-long t, never)
 
 pub turn-spec : {M : Type 1} → statement M
 turn-spec =

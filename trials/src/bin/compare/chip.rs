@@ -3,14 +3,16 @@
 //! "Refusal numbers", 02 §1, §2, §4).
 
 use trials::chip::{described, fault_numbers, layout, DIFFERED};
-use trials::door::{self, Told, OUTPUT, ROOM, STATE, UNTOLD};
+use trials::door::{self, Told, ROOM, STATE, UNTOLD};
+use twin::capture::Form;
 use twin::chip::{step, Answer, Chip, Event, Phase};
 use twin::frame::{counted, LONGEST};
 use twin::part::{Area, Part};
 use twin::random::{statuses, Generator};
-use twin::replay::{hex_line, RECORD};
+use twin::replay::hex_line;
 use twin::sums::{Sums, SUMS};
 
+use crate::captures;
 use crate::coverage::Coverage;
 use crate::script;
 use crate::sums;
@@ -434,7 +436,14 @@ const OVER_1: usize = 16;
 const OUTSIDE_PHASE_4: usize = 17;
 
 /// Which call is refused.
-pub const CALLS: [&str; 5] = ["zc_byte", "zc_gap", "zc_power_on", "zc_feed", "zc_replay"];
+pub const CALLS: [&str; 6] = [
+    "zc_byte",
+    "zc_gap",
+    "zc_power_on",
+    "zc_feed",
+    "zc_replay",
+    "zc_replay_new",
+];
 
 impl Trio<'_> {
     /// A call with one to three of the faults, on copies; nothing may change.
@@ -508,9 +517,11 @@ impl Trio<'_> {
         // A stretch or a capture is refused before its first event, and so where there is none, or the first record is bad, or there is no output.
         let bytes = [choice.byte(), choice.byte(), choice.byte()];
         let stretch = &bytes[..choice.below(bytes.len() + 1)];
-        let capture: &[u8] =
-            choice.pick(&[&[][..], &[0; RECORD][..], &[2; RECORD][..], &[0; 3][..]]);
-        let mut output = vec![self.fill; choice.pick(&[0, OUTPUT - 1, OUTPUT])];
+        let form = choice.pick(&Form::BOTH);
+        let (replay, _, least) = captures::call(form);
+        let (gap, bad) = (vec![0; form.record()], vec![2; form.record()]);
+        let capture: &[u8] = choice.pick(&[&[][..], &gap, &bad, &gap[..3]]);
+        let mut output = vec![self.fill; choice.pick(&[0, least - 1, least])];
         let many = choice.chance(50);
         let expected = self.expected(&part, chip, event, (&code, &data, &room), way, faults)?;
 
@@ -527,7 +538,7 @@ impl Trio<'_> {
                 (3, told)
             }
             Event::Gap if many => {
-                let played = door::replay(
+                let played = replay(
                     &described,
                     &mut state,
                     capture,
@@ -543,7 +554,7 @@ impl Trio<'_> {
                     refusal: played.refusal,
                     ..refused(0)
                 };
-                (4, told)
+                (if form == Form::Old { 4 } else { 5 }, told)
             }
             Event::Byte(byte) => (
                 0,

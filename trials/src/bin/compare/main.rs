@@ -1,10 +1,11 @@
-//! The proved chip and the proved dock, through the door, against the twin: the same events and the same calls to both, everything compared after each (01 "How
+//! The proved chip, the proved dock and the proved conversions, through the door, against the twin: the same events and the same calls to both, everything compared after each (01 "How
 //! tightly things are promised": "All others run as program tests against a second implementation"). Ends with 1 at the first difference, or if anything that
 //! must come did not.
 
 mod answers;
 mod captures;
 mod chip;
+mod conversions;
 mod coverage;
 mod directed;
 mod dock;
@@ -18,6 +19,7 @@ use std::env;
 use std::process::ExitCode;
 use std::time::Instant;
 
+use twin::capture::Form;
 use twin::chip::Event;
 use twin::part::Area;
 use twin::random::Generator;
@@ -28,18 +30,22 @@ use coverage::{row, Coverage};
 /// How much is tried.
 struct Size {
     events: u64,
+    /// Of the old form; half as many are of the new form, and a fifth as many are old ones played as new.
     captures: u64,
+    conversions: u64,
     histories: u64,
 }
 
 const LONG: Size = Size {
     events: 50_000_000,
     captures: 20_000,
+    conversions: 3_000_000,
     histories: 200_000,
 };
 const SHARE: Size = Size {
     events: 5_000_000,
     captures: 1_000,
+    conversions: 200_000,
     histories: 10_000,
 };
 
@@ -73,6 +79,7 @@ fn main() -> ExitCode {
 fn compare(size: &Size, coverage: &mut Coverage) -> Result<(), Difference> {
     compare_chips(size, coverage)?;
     compare_captures(size, coverage)?;
+    compare_conversions(size, coverage)?;
     compare_docks(size, coverage)?;
     Ok(())
 }
@@ -106,14 +113,44 @@ fn compare_chips(size: &Size, coverage: &mut Coverage) -> Result<(), Difference>
 
 fn compare_captures(size: &Size, coverage: &mut Coverage) -> Result<(), Difference> {
     let start = Instant::now();
-    let mut records = 0;
-    for seed in 0..size.captures {
-        records += captures::capture(seed, coverage)
-            .map_err(|difference| format!("capture, seed {seed}: {difference}"))?;
+    let counts = [size.captures, size.captures / 2];
+    let mut records = [0; 2];
+    for (which, form) in Form::BOTH.into_iter().enumerate() {
+        for seed in 0..counts[which] {
+            records[which] += captures::capture(form, seed, coverage).map_err(|difference| {
+                format!(
+                    "capture of the {} form, seed {seed}: {difference}",
+                    form.name()
+                )
+            })?;
+        }
+    }
+    let mut both = 0;
+    for seed in 0..size.captures / 5 {
+        both += captures::widened(seed, coverage).map_err(|difference| {
+            format!("old capture played as new, seed {seed}: {difference}")
+        })?;
     }
     println!(
-        "replay: {} captures of {records} records; {:.0} s",
-        size.captures,
+        "replay: {} captures of {} records of the old form, {} of {} of the new, {} of {both} old ones played as new; {:.0} s",
+        counts[0],
+        records[0],
+        counts[1],
+        records[1],
+        size.captures / 5,
+        start.elapsed().as_secs_f64()
+    );
+    Ok(())
+}
+
+fn compare_conversions(size: &Size, coverage: &mut Coverage) -> Result<(), Difference> {
+    let start = Instant::now();
+    let long = size.captures / 5;
+    let directed = conversions::run(size.conversions, long, coverage)
+        .map_err(|difference| format!("conversion, {difference}"))?;
+    println!(
+        "conversion: {} captures ({directed} more directed, {long} long ones of each form), each with all of the output, and back again; {:.0} s",
+        size.conversions,
         start.elapsed().as_secs_f64()
     );
     Ok(())
@@ -257,19 +294,9 @@ fn chip_tables(coverage: &Coverage) -> Vec<String> {
         ("clock".to_string(), numbers(1, 32)),
     ];
     missing.extend(coverage.table("courses by part", &parts));
-    let many = [
-        row("zc_feed", &["calls", "bytes", "calls without a byte"]),
-        row(
-            "captures",
-            &[
-                "whole",
-                "bad record",
-                "in pieces for want of output",
-                "in pieces after a difference",
-            ],
-        ),
-        row("captures by sums", &["right", "wrong"]),
-    ];
+    let many = [row("zc_feed", &["calls", "bytes", "calls without a byte"])];
     missing.extend(coverage.table("many at once", &many));
+    missing.extend(captures::table(coverage));
+    missing.extend(conversions::table(coverage));
     missing
 }
