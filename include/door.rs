@@ -251,26 +251,9 @@ pub fn replay(
     room: &mut [u8],
     output: &mut [u8],
 ) -> Played {
-    let mut told = [UNTOLD; 3];
-    let refusal = unsafe {
-        zc_replay(
-            part,
-            state,
-            capture.as_ptr(),
-            capture.len() as u64,
-            code.as_mut_ptr(),
-            code.len() as u64,
-            data.as_mut_ptr(),
-            data.len() as u64,
-            sums,
-            room.as_mut_ptr(),
-            room.len() as u64,
-            output.as_mut_ptr(),
-            output.len() as u64,
-            &mut told,
-        )
-    };
-    played(refusal, told)
+    replay_by(
+        zc_replay, part, state, capture, code, data, sums, room, output,
+    )
 }
 
 #[inline]
@@ -284,9 +267,51 @@ pub fn replay_new(
     room: &mut [u8],
     output: &mut [u8],
 ) -> Played {
+    replay_by(
+        zc_replay_new,
+        part,
+        state,
+        capture,
+        code,
+        data,
+        sums,
+        room,
+        output,
+    )
+}
+
+type Replay = unsafe extern "C" fn(
+    *const [u8; PART],
+    *mut [u8; STATE],
+    *const u8,
+    u64,
+    *mut u8,
+    u64,
+    *mut u8,
+    u64,
+    *mut [u16; SUMS],
+    *mut u8,
+    u64,
+    *mut u8,
+    u64,
+    *mut [u64; 3],
+) -> u32;
+
+#[inline]
+fn replay_by(
+    call: Replay,
+    part: &Part,
+    state: &mut [u8; STATE],
+    capture: &[u8],
+    code: &mut [u8],
+    data: &mut [u8],
+    sums: &mut [u16; SUMS],
+    room: &mut [u8],
+    output: &mut [u8],
+) -> Played {
     let mut told = [UNTOLD; 3];
     let refusal = unsafe {
-        zc_replay_new(
+        call(
             part,
             state,
             capture.as_ptr(),
@@ -303,11 +328,7 @@ pub fn replay_new(
             &mut told,
         )
     };
-    played(refusal, told)
-}
-
-#[inline]
-fn played(refusal: u32, [records, bytes, frames]: [u64; 3]) -> Played {
+    let [records, bytes, frames] = told;
     Played {
         refusal,
         records,
@@ -318,24 +339,21 @@ fn played(refusal: u32, [records, bytes, frames]: [u64; 3]) -> Played {
 
 #[inline]
 pub fn to_new(capture: &[u8], output: &mut [u8]) -> Converted {
-    let mut told = [UNTOLD; 2];
-    let refusal = unsafe {
-        zc_to_new(
-            capture.as_ptr(),
-            capture.len() as u64,
-            output.as_mut_ptr(),
-            output.len() as u64,
-            &mut told,
-        )
-    };
-    converted(refusal, told)
+    convert_by(zc_to_new, capture, output)
 }
 
 #[inline]
 pub fn to_old(capture: &[u8], output: &mut [u8]) -> Converted {
+    convert_by(zc_to_old, capture, output)
+}
+
+type Convert = unsafe extern "C" fn(*const u8, u64, *mut u8, u64, *mut [u64; 2]) -> u32;
+
+#[inline]
+fn convert_by(call: Convert, capture: &[u8], output: &mut [u8]) -> Converted {
     let mut told = [UNTOLD; 2];
     let refusal = unsafe {
-        zc_to_old(
+        call(
             capture.as_ptr(),
             capture.len() as u64,
             output.as_mut_ptr(),
@@ -343,11 +361,7 @@ pub fn to_old(capture: &[u8], output: &mut [u8]) -> Converted {
             &mut told,
         )
     };
-    converted(refusal, told)
-}
-
-#[inline]
-fn converted(refusal: u32, [bytes, record]: [u64; 2]) -> Converted {
+    let [bytes, record] = told;
     Converted {
         refusal,
         bytes,
