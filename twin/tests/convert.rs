@@ -90,7 +90,8 @@ struct Seen {
 
 const BEFORE: &[u8] = b"as it was";
 
-/// One capture through the program: what it prints, says and writes is what the twin does; where it is refused, the output is not made, or is as it was.
+/// One capture through the program: what it prints, says and writes is what the twin does; where it is refused, the output is not made. A file that is there is not
+/// written over.
 fn compare(from: Form, capture: &[u8], at: &Path, exists: bool, seen: &mut Seen) {
     let (input, output) = (at.join("in"), at.join("out"));
     fs::write(&input, capture).unwrap();
@@ -99,9 +100,17 @@ fn compare(from: Form, capture: &[u8], at: &Path, exists: bool, seen: &mut Seen)
         fs::write(&output, BEFORE).unwrap();
     }
     let words = [way(from), input.to_str().unwrap(), output.to_str().unwrap()];
+    let must = converted(from, capture);
+    if exists && must.is_ok() {
+        let (status, printed, message) = by_program(&words);
+        assert_eq!((status, printed.as_str()), (Some(0), ""));
+        assert_eq!(message, format!("convert: {}: File exists\n", words[2]));
+        assert_eq!(fs::read(&output).unwrap(), BEFORE);
+        fs::remove_file(&output).unwrap();
+    }
     let told = by_program(&words);
     let left = fs::read(&output).ok();
-    match converted(from, capture) {
+    match must {
         Ok(bytes) => {
             let records = capture.len() / from.record();
             assert_eq!(told, (Some(0), format!("END {records}\n"), String::new()));
@@ -258,16 +267,34 @@ fn what_the_program_cannot_do() {
         &["--to-old", at.to_str().unwrap(), &out],
         &["--to-new", &good, &nowhere],
         &["--to-new", &good, at.to_str().unwrap()],
+        &["--to-new", &good, &good],
     ] {
         let (_, printed, message) = by_program(words);
         assert_eq!(printed, "", "{words:?}");
         assert!(message.starts_with("convert: "), "{words:?}: {message}");
         assert_eq!(message.lines().count(), 1, "{words:?}: {message}");
         assert_eq!(within(&at), ["good"], "{words:?}");
+        assert_eq!(fs::read(&good).unwrap(), [0; 16], "{words:?}");
     }
-    let (_, printed, message) = by_program(&["--to-new", &good, "/dev/full"]);
+}
+
+/// What could not be written whole does not stay.
+#[test]
+fn output_that_does_not_fit() {
+    is_built();
+    let at = folder("does-not-fit");
+    fs::write(at.join("in"), vec![0; 80_000]).unwrap();
+    // Files may have 64 times 512 or 1,024 bytes then; without the trap of SIGXFSZ, which is 25, the program would be stopped.
+    let script = "trap '' 25; ulimit -f 64; exec \"$1\" convert --to-new in out";
+    let mut command = Command::new("sh");
+    command
+        .args(["-c", script, "sh"])
+        .arg(top().canonicalize().unwrap().join("bin/run"))
+        .current_dir(&at);
+    let (_, printed, message) = said(command.stdin(Stdio::null()).output().unwrap());
     assert_eq!(printed, "");
-    assert!(message.starts_with("convert: "), "{message}");
+    assert_eq!(message, "convert: out: File too large\n");
+    assert_eq!(within(&at), ["in"]);
 }
 
 /// bin/convert in a folder of its own, with another of its own for its temporary files, which must go.

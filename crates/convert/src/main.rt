@@ -159,25 +159,28 @@ fn write(from: Form, fd: i32, name: &[u8], out: i32, out_name: &[u8]) -> Written
     }
 }
 
-// What is judged fit, from the file's start once more, into OUT, which is opened only now.
+// What is judged fit, from the file's start once more, into OUT, which is made only now. It must be a new file: no other is written over, IN least of all. What could
+// not be written whole goes again.
 fn write_out(from: Form, fd: i32, name: &[u8], out_name: &[u8]) {
     if libc::lseek(fd, 0, libc::SEEK_SET) < 0 {
         fail_at(name);
         return;
     }
-    let out = os::open_overwrite(out_name);
+    let out = os::create(out_name);
     if out < 0 {
         fail_at(out_name);
         return;
     }
     let written = write(from, fd, name, out, out_name);
-    if libc::close(out) < 0 {
-        fail_at(out_name);
+    let is_closed = libc::close(out) == 0;
+    if written.well && is_closed {
+        last_line(b"END ", written.records);
         return;
     }
     if written.well {
-        last_line(b"END ", written.records);
+        fail_at(out_name);
     }
+    os::unlink(out_name);
 }
 
 fn convert(from: Form, fd: i32, name: &[u8], out_name: &[u8]) {
@@ -208,7 +211,7 @@ fn help() {
     );
     io::write_all(
         STDOUT_FILENO,
-        b"IN is a file, and is read twice: where anything is refused, OUT is neither made nor changed.\n",
+        b"IN is a file, and is read twice: where anything is refused, OUT is not made. A file that is there already is not written over.\n",
     );
     io::write_all(
         STDOUT_FILENO,
