@@ -713,6 +713,19 @@ fn stopped_by_a_signal() {
     }
     assert!(finished > 0 && stopped > 0, "{finished}, {stopped}");
 
+    // While it cleans up, OUT being in place.
+    for wait in (0..60).map(|step| step * 40) {
+        fs::remove_file(script.at.join("out")).unwrap();
+        let mut child = piped(&mut script.command(&["--to-new", "old", "out"]));
+        let began = Instant::now();
+        while !script.at.join("out").exists() && began.elapsed() < Duration::from_secs(30) {}
+        thread::sleep(Duration::from_micros(wait));
+        stop(&child);
+        child.wait().unwrap();
+        assert_eq!(script.get("out"), new());
+        script.nothing_left();
+    }
+
     // Standard input that never ends.
     let mut child = piped(&mut script.command(&["--to-new", "-", "out"]));
     let mut input = child.stdin.take().unwrap();
