@@ -34,10 +34,14 @@
  * them, not bytes:
  *     0-63 the code blocks, block b in slot b   64-71 the data blocks, block b in slot ZC_DATA_SUMS + b
  * zc_sums works them out from flash. Call it when a chip is taken up, after zc_fresh as well as with a state and flash that were kept: until then they are
- * whatever the caller put there. From then on they stay right, as long as nothing but the calls changes flash: an erase and a stored page work the sum of their
- * block out afresh, and nothing else writes a sum. The slots of blocks that the part has not are never written.
+ * whatever the caller put there. From then on they stay right, as long as nothing but the calls changes flash: an erase and a good page of 40h, answered 06h
+ * or 1Ch, work the sum of their block out afresh, and nothing else writes a sum. The slots of blocks that the part has not are never written.
  * Wrong sums are no fault of a call: none judges them, and none is refused for them. B0h over one block says the number that is kept, right or wrong; over more
- * blocks it adds up the bytes of flash. A wrong sum stays until its block is erased, a page of it is stored, or zc_sums is called.
+ * blocks it adds up the bytes of flash. A wrong sum stays until zc_sums is called, its block is erased, or a good page of 40h comes for it.
+ *
+ * A page of 40h clears bits and sets none: each byte of flash becomes what it was AND what was sent (document 02, section 6). The answer is 06h 06h where every
+ * byte then is as sent, as over FFh throughout, with the same page again and with more 0 bits. Else it is 06h 1Ch: the mixed bytes stay and the command is over,
+ * without the further 06h where it was the last page.
  *
  * Which fault a bad frame has, and at which byte (document 02, section 4). On the wire 07h is a wrong SUM, but 15h a wrong footer or an unfit LEN. A number tells
  * the faults apart, and a place says which byte, counted from the header of its own frame, which is 0. n is what LEN counts, 00h being 256, so places reach 259:

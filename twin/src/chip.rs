@@ -1,5 +1,5 @@
 //! The software chip: one step over a byte, a gap or power-on (01 "The part" to "Refusal numbers"), with a sum kept for each block (02 §1), 13h's rule as 000
-//! has it (02 §2), and the fault of a bad frame told (02 §4).
+//! has it (02 §2), the fault of a bad frame told (02 §4), and pages written over what flash holds (02 §6).
 
 use crate::frame::{
     counted, Fault, Frame, Reply, COMMAND_HEADER, DATA_HEADER, LAST_FOOTER, LONGEST, MORE_FOOTER,
@@ -782,7 +782,8 @@ fn judge_page(part: &Part, pages: Pages, frame: &Frame) -> Result<(), Fault> {
     }
 }
 
-/// Stored only where all was FFh; else nothing is, and the command is over (01 "Commands"). Hands back the next phase.
+/// "programming only clears bits, so each byte becomes old AND new. The second status is 06h if every byte then equals what was sent, .. else 1Ch, the mixed bytes
+/// stay, and the command ends" (02 §6): nothing follows a 1Ch. Either way the page has touched its block. Hands back the next phase.
 fn store_page(
     part: &Part,
     pages: Pages,
@@ -792,12 +793,15 @@ fn store_page(
     reply: &mut Reply,
 ) -> Phase {
     let held = flash.bytes_mut(range);
-    if !all_erased(held) {
+    for (byte, sent) in held.iter_mut().zip(page) {
+        *byte &= sent;
+    }
+    let as_sent = held == page;
+    flash.keep_sum(part, range.area, range.first);
+    if !as_sent {
         reply.frame(&[ACK, NOT_WRITTEN]);
         return Phase::Ready;
     }
-    held.copy_from_slice(page);
-    flash.keep_sum(part, range.area, range.first);
     reply.frame(&[ACK, ACK]);
     if pages.on_last(part) {
         reply.frame(&[ACK]);

@@ -227,7 +227,7 @@ impl Script {
     }
 
     fn action(&mut self) {
-        match self.choice.below(24) {
+        match self.choice.below(25) {
             0 => self.send(command_frame(&[RESET])),
             1 => self.send(command_frame(&[SIGNATURE])),
             2 => self.send(command_frame(&[SECURITY_GET])),
@@ -242,6 +242,7 @@ impl Script {
             20 => self.odd_command(),
             21 => self.noise(12),
             22 => self.erase_all_and_release(),
+            23 => self.write_over(),
             _ => self.bad_rate(),
         }
     }
@@ -310,8 +311,16 @@ impl Script {
         self.pages_over(VERIFY, start, end);
     }
 
-    /// The command and its pages; sometimes too few or too many, sometimes one of wrong length or content. A 13h goes on after a page that differs (02 §2), so
-    /// in some of them any page may.
+    /// Without an erase before or between.
+    fn write_over(&mut self) {
+        let (start, end) = self.good_range();
+        for command in [PROGRAM, PROGRAM, VERIFY] {
+            self.pages_over(command, start, end);
+        }
+    }
+
+    /// The command and its pages; sometimes too few or too many, sometimes one of wrong length or content. A 13h goes on after a page that differs (02 §2), and a
+    /// 40h writes over what an earlier one has written (02 §6), so in some of them any page may be another than usual.
     fn pages_over(&mut self, command: u8, start: usize, end: usize) {
         self.send(command_frame(&range_body(command, start, end)));
         let size = replay_part().page_size();
@@ -321,10 +330,7 @@ impl Script {
             1 => needed + 1,
             _ => needed,
         };
-        let differing = match command {
-            VERIFY => self.choice.pick(&[0, 0, 10, 40]),
-            _ => 0,
-        };
+        let differing = self.choice.pick(&[0, 0, 10, 40]);
         for index in 0..sent {
             let expected = if index + 1 == needed {
                 LAST_FOOTER
@@ -334,14 +340,28 @@ impl Script {
             let footer = self.footer(expected);
             let mut page = self.page(start + index * size);
             if self.choice.chance(differing) {
-                let at = self.choice.below(page.len());
-                page[at] ^= 1 << self.choice.below(8);
+                self.alter(command, &mut page);
             }
             self.send(data_frame(&page, footer));
         }
         // A bad page ends a command cut short, else all that follows would be skipped.
         if sent < needed && self.choice.chance(60) {
             self.send_whole(data_frame(&[0x00], 0xFF));
+        }
+    }
+
+    /// One bit of the page; for a 40h, which other pages met there before, also fewer 1 bits, more of them, or other bytes throughout.
+    fn alter(&mut self, command: u8, page: &mut [u8]) {
+        let at = self.choice.below(page.len());
+        let way = match command {
+            PROGRAM => self.choice.below(4),
+            _ => 0,
+        };
+        match way {
+            0 => page[at] ^= 1 << self.choice.below(8),
+            1 => page.iter_mut().for_each(|byte| *byte &= self.choice.byte()),
+            2 => page.iter_mut().for_each(|byte| *byte |= self.choice.byte()),
+            _ => page.fill_with(|| self.choice.byte()),
         }
     }
 

@@ -216,6 +216,8 @@ struct Reach {
     written: u64,
     written_data: u64,
     written_many: u64,
+    /// Good pages of 40h over flash that isn't blank (02 §6), by what came of them: the same page 06h, more 0 bits 06h, 1Ch with mixed bytes, 1Ch with flash as it was.
+    written_over: [u64; 4],
     verified: u64,
     /// Pages of 13h, not the last, that differ and get 06h 06h (02 §2).
     differed: u64,
@@ -228,7 +230,19 @@ struct Reach {
 }
 
 impl Reach {
-    fn hear(&mut self, before: &Player, after: &Player, event: Event, reply: &[u8]) {
+    /// The page of flash that was awaited, before it came.
+    fn page(&mut self, old: &[u8], after: &Player, next: usize, second: u8) {
+        if old.iter().all(|byte| *byte == 0xFF) {
+            return;
+        }
+        let changed = usize::from(old != held(after, next));
+        self.written_over[match second {
+            0x06 => changed,
+            _ => 3 - changed,
+        }] += 1;
+    }
+
+    fn hear(&mut self, before: &Player, old: &[u8], after: &Player, event: Event, reply: &[u8]) {
         let (was, is) = (&before.chip, &after.chip);
         if event == Event::Gap && was.count > 0 {
             self.gaps_inside += 1;
@@ -239,6 +253,17 @@ impl Reach {
         };
         if was.count == 259 {
             self.longest_frame += 1;
+        }
+        if let (
+            Phase::Awaiting {
+                command: 0x40,
+                next,
+                ..
+            },
+            [0x02, 0x02, 0x06, second, ..],
+        ) = (was.phase, &first[..])
+        {
+            self.page(old, after, next, *second);
         }
         match was.phase {
             Phase::Awaiting { command: 0xA0, .. } if was.options != is.options => {
@@ -306,14 +331,26 @@ fn random_captures_reach_every_command() {
                     data: Vec::new(),
                     sums: player.sums,
                 };
+                let old = match player.chip.phase {
+                    Phase::Awaiting {
+                        command: 0x40,
+                        next,
+                        ..
+                    } => held(&player, next).to_vec(),
+                    _ => Vec::new(),
+                };
                 let reply = player.hear(event);
                 assert_eq!(split_frames(&reply.bytes).len(), reply.frames);
-                reach.hear(&before, &player, event, &reply.bytes);
+                reach.hear(&before, &old, &player, event, &reply.bytes);
             }
         }
     }
     println!("{reach:?}");
     assert_eq!(reach.commands.len(), 11);
+    assert!(
+        reach.written_over.iter().all(|count| *count > 10),
+        "{reach:?}"
+    );
     for count in [
         reach.options_stored,
         reach.protected,

@@ -391,10 +391,15 @@ fn page_over_written_flash() {
     let mut bench = Bench::awaiting(0x40, 0x100, 0x7FF);
     bench.code[0x1FF] = 0x7F;
     let before = bench.clone();
+    // FAh over 7Fh is 7Ah; the others are stored (02 §6).
+    assert_eq!(mixed(4)[255], 0xFA);
     assert_eq!(bench.say(&page(&mixed(4), 0x17)), pair(0x06, 0x1C));
-    assert_eq!(bench.code, before.code);
+    assert_eq!(bench.code[0x100..0x1FF], mixed(4)[..255]);
+    assert_eq!(bench.code[0x1FF], 0x7A);
+    assert_eq!(bench.code[..0x100], before.code[..0x100]);
+    assert_eq!(bench.code[0x200..], before.code[0x200..]);
     assert_eq!(bench.chip.phase, Phase::Ready);
-    // The last page refused gets no further status reply.
+    // The last page gets no further status reply after 1Ch.
     let mut bench = Bench::awaiting(0x40, 0x700, 0x7FF);
     bench.code[0x700] = 0x00;
     assert_eq!(bench.say(&page(&mixed(4), 0x03)), pair(0x06, 0x1C));

@@ -1,4 +1,4 @@
-//! The kept sums: what works them out, what renews one, what says one, and that nothing else does (02 §1).
+//! The kept sums: what works them out, what renews one, what says one, and that nothing else does (02 §1); tests/write_over.rs has the pages over written flash.
 
 mod common;
 
@@ -261,8 +261,6 @@ fn nothing_else_writes_a_sum() {
     cases.push(ready("01 04 22 00 04 00 D6 17", 0x15));
     // Block 0 holds the page mixed(1) at its start and FFh behind it.
     for (com, bytes, answer) in [
-        (0x40, page(&mixed(2), 0x17), pair(0x06, 0x1C)),
-        (0x40, page(&mixed(1), 0x17), pair(0x06, 0x1C)),
         (0x40, page(&mixed(1), 0x03), pair(0x15, 0x15)),
         (0x40, page(&mixed(1)[..255], 0x17), pair(0x15, 0x15)),
         (0x40, hex("02 01 00 FE 17"), pair(0x07, 0x07)),

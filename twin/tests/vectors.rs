@@ -278,9 +278,13 @@ fn block_0_with_a_ramp() {
         bench.say_hex("01 07 40 00 00 00 FF 03 00 B7 03"),
         status(0x06)
     );
-    assert_eq!(bench.say(&ramp_frame), pair(0x06, 0x1C));
+    // The same page again is 06h (02 §6), and the command goes on to page 1, which the wrong footer ends again.
+    assert_eq!(bench.say(&ramp_frame), pair(0x06, 0x06));
+    assert_eq!(bench.chip.phase, awaiting(0x40, 0x100, 0x3FF, false));
+    assert_eq!(bench.say(&page(&ramp(), 0x03)), pair(0x15, 0x15));
     assert_eq!(bench.chip.phase, Phase::Ready);
     assert_eq!(bench.code[..256], ramp()[..]);
+    assert!(bench.code[256..].iter().all(|byte| *byte == 0xFF));
     assert_eq!(
         bench.say_hex("01 07 13 00 00 00 FF 03 00 E4 03"),
         status(0x06)

@@ -348,10 +348,10 @@ fn a_difference_handed_in_with_40h() {
             }
             assert_eq!(verified(&mut bench, start, pages, 0), 0x06);
         }
-        // A page that is not stored, and bad ones.
+        // Pages that 1Ch answers and that change nothing, since all of them is FFh (02 §6), and bad ones.
         for (next, frame, answer) in [
-            (0x900, page(&mixed(1), 0x17), pair(0x06, 0x1C)),
-            (0xB00, page(&mixed(1), 0x03), pair(0x06, 0x1C)),
+            (0x900, page(&[0xFF; 256], 0x17), pair(0x06, 0x1C)),
+            (0xB00, page(&[0xFF; 256], 0x03), pair(0x06, 0x1C)),
             (0xB00, page(&mixed(1), 0x17), pair(0x15, 0x15)),
             (0x900, hex("02 01 00 FE 17"), pair(0x07, 0x07)),
         ] {

@@ -10,7 +10,7 @@ use Rattle.chip_core.specs.declared.Awaited.{Awaited}
 use Rattle.chip_core.specs.declared.Core.{Core}
 use Rattle.chip_core.specs.declared.Done.{Done}
 use Rattle.chip_core.specs.declared.Phase.the-variants.{Awaiting, Ready}
-use Rattle.chip_flash.specs.Flash.{blank}
+use Rattle.chip_flash.specs.Flash.{lands, programmed}
 use Rattle.chip_sums.specs.Sums.{resummed}
 use Rattle.frame.specs.Frame.{payload}
 use Rattle.frame.specs.Judgement.{fitting, isGood, judgeOf}
@@ -62,16 +62,27 @@ pageAfter w = record { command = w .command; next = w .next + pageSize; last = w
 unfoldable pub nextPage : Awaited → Core → Core
 nextPage w k = if isLastPage w then ready k else entered k (Awaiting (pageAfter w))
 
--- 40h: "the second is 06h and the page is stored if flash there was all FFh; else 1Ch, nothing stored, command over.
--- After the last stored page a further status reply 06h follows."
+-- 40h (document 02, §6): "The second status is 06h if every byte then equals what was sent, so resending the same page succeeds; else 1Ch".
+unfoldable pub pageStatus : List ℕ → List ℕ → ℕ
+pageStatus old new = if lands old new then acknowledge else writeError
+
+-- "After the last stored page a further status reply 06h follows."
 unfoldable pub storedReply : Awaited → Reply
 storedReply w = if isLastPage w then LastStored else Pair acknowledge acknowledge
 
--- The sum of a stored page's block is worked out afresh (document 02, §1).
+-- 1Ch: "the mixed bytes stay, and the command ends."
+unfoldable pub toldWritten : ℕ → Awaited → Core → Done
+toldWritten status w k = if eqb status acknowledge then told (storedReply w) (nextPage w k) else pair acknowledge status (ready k)
+
+-- Whatever the status, the page is what programming makes of it, and the sum of its block is worked out afresh: "The per-block sums of §1 follow."
+abbrev pub pageProgrammed : Place → List ℕ → Flash → Flash
+pageProgrammed at ds m = pageStored at (programmed (pageIn at m) ds) m
+
+unfoldable pub pageWritten : Part → Place → List ℕ → Memory → Memory
+pageWritten p at ds m = resummed p at (withFlash m (pageProgrammed at ds (m .flash)))
+
 unfoldable pub programPage : Part → Core → Awaited → Place → List ℕ → Memory → Effect
-programPage p k w at ds m =
-    if not (blank (pageIn at (m .flash))) then effect (pair acknowledge writeError (ready k)) m
-    else effect (told (storedReply w) (nextPage w k)) (resummed p at (withFlash m (pageStored at ds (m .flash))))
+programPage p k w at ds m = effect (toldWritten (pageStatus (pageIn at (m .flash)) ds) w k) (pageWritten p at ds m)
 
 -- 13h (document 02, §2): "The awaited-data record must remember whether a difference has occurred."
 unfoldable pub compared : Awaited → Bool → Awaited

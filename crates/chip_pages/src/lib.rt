@@ -3,11 +3,10 @@ ghost use mathlib.Core.Path.{_≡_};
 ghost use lib.ListN.{getD};
 ghost use lib.Dec.{eqb};
 ghost use Rattle.words.specs.Words.{_and_};
-ghost use Rattle.chip_flash.specs.Flash.{blank};
 ghost use Rattle.chip_options.specs.Options.{goodOptions};
 ghost use Rattle.part.specs.Part.{placeOf};
 ghost use Rattle.chip_core.specs.Effect.{effect, flash, memory};
-ghost use Rattle.chip_pages.specs.Pages.{isLastPage, footerOf, lengthOf, pageIn, pageStored, nextPage, programPage};
+ghost use Rattle.chip_pages.specs.Pages.{isLastPage, footerOf, lengthOf, pageIn, nextPage, pageStatus, toldWritten, pageProgrammed, programPage};
 ghost use Rattle.chip_pages.specs.Pages.{compared, verifyStatus, verifyPage};
 ghost use Rattle.chip_pages.specs.Pages.{securityData, badData, goodData, dataDoes};
 use chip_core::Awaited;
@@ -84,14 +83,18 @@ fn page_bytes<'a>(place: Place, code: &'a [u8], data: &'a [u8]) -> &'a [u8]
     }
 }
 
-fn is_blank_page<'a>(place: Place, code: &'a [u8], data: &'a [u8]) -> bool
-    ensures { λ r. ⌜ r ≡ blank (pageIn place (flash (now (code .entry)) (now («data» .entry)))) ⌝ }
+fn page_status(old: &[u8], new: &[u8]) -> u8
+    ensures { λ r. ⌜ r ≡ pageStatus (now (old .entry)) (now (new .entry)) ⌝ }
 {
-    chip_flash::is_blank(page_bytes(place, code, data))
+    if chip_flash::lands(old, new) {
+        return 0x06;
+    }
+    0x1C
 }
 
-fn store_page(place: Place, bytes: &[u8], code: &mut [u8], data: &mut [u8])
-    ensures { λ _. ⌜ flash (now (code .exit)) (now («data» .exit)) ≡ pageStored place (now (bytes .entry)) (flash (now (code .entry)) (now («data» .entry))) ⌝ }
+fn write_page(place: Place, bytes: &[u8], code: &mut [u8], data: &mut [u8])
+    ensures { λ _. ⌜ flash (now (code .exit)) (now («data» .exit))
+        ≡ pageProgrammed place (now (bytes .entry)) (flash (now (code .entry)) (now («data» .entry))) ⌝ }
 {
     match place {
         Place::In {
@@ -101,13 +104,36 @@ fn store_page(place: Place, bytes: &[u8], code: &mut [u8], data: &mut [u8])
             page,
         } => match area {
             Area::CodeFlash => {
-                chip_flash::store(code, offset, bytes);
+                chip_flash::program(code, offset, part::page_size(), bytes);
             }
             Area::DataFlash => {
-                chip_flash::store(data, offset, bytes);
+                chip_flash::program(data, offset, part::page_size(), bytes);
             }
         },
         Place::Outside => {}
+    }
+}
+
+fn told_written(status: u8, w: Awaited, core: Core) -> Done
+    ensures { λ r. ⌜ r ≡ toldWritten status w core ⌝ }
+{
+    if status == 0x06 {
+        let after = next_page(w, core);
+        if is_last_page(w) {
+            return Done {
+                reply: Reply::LastStored,
+                core: after,
+            };
+        }
+        return Done {
+            reply: Reply::Pair(0x06, 0x06),
+            core: after,
+        };
+    }
+    let ended = core.entered(Phase::Ready);
+    Done {
+        reply: Reply::Pair(0x06, status),
+        core: ended,
     }
 }
 
@@ -124,26 +150,10 @@ fn program_page(
         ≡ programPage part core w (placeOf part (w .next)) (now (bytes .entry)) (memory (now (code .entry)) (now («data» .entry)) (now (sums .entry))) ⌝ }
 {
     let place = part.place(w.next);
-    if is_blank_page(place, code, data) {
-        store_page(place, bytes, code, data);
-        chip_sums::resum(part, place, code, data, sums);
-        let after = next_page(w, core);
-        if is_last_page(w) {
-            return Done {
-                reply: Reply::LastStored,
-                core: after,
-            };
-        }
-        return Done {
-            reply: Reply::Pair(0x06, 0x06),
-            core: after,
-        };
-    }
-    let after = core.entered(Phase::Ready);
-    Done {
-        reply: Reply::Pair(0x06, 0x1C),
-        core: after,
-    }
+    let status = page_status(page_bytes(place, code, data), bytes);
+    write_page(place, bytes, code, data);
+    chip_sums::resum(part, place, code, data, sums);
+    told_written(status, w, core)
 }
 
 // The record after a page of 13h was compared.

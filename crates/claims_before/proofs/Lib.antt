@@ -3,6 +3,9 @@ pub mod Step
 pub mod AsBefore
 pub mod Said
 pub mod Verify
+pub mod Blank
+pub mod Stored
 pub mod Faults
 pub mod Examples
 pub mod VerifyExamples
+pub mod StoredExamples

@@ -13,7 +13,7 @@ use Rattle.chip_core.specs.declared.Awaited.{Awaited}
 use Rattle.chip_core.specs.declared.Core.{Core}
 use Rattle.chip_core.specs.declared.Done.{Done}
 use Rattle.chip_flash.specs.Flash.{sumOfBytes}
-use Rattle.chip_pages.specs.Pages.{programPage}
+use Rattle.chip_pages.specs.Pages.{pageWritten, programPage}
 use Rattle.chip_reply.specs.Reply.{faultIn}
 use Rattle.chip_reply.specs.declared.Reply.the-variants.{Sum}
 use Rattle.chip_state.specs.declared.Chip.{Chip}
@@ -70,8 +70,8 @@ module _ (p : Part) (k : Core) (f : Flash) (s t : List ℕ) where
       (λ e. same _)
 
   stores : (w : Awaited) (x : Place) (ds : List ℕ) → Like (programPage p k w x ds (lent f s)) (programPageBefore k w x ds (lent f t))
-  unfolding programPage programPageBefore
-  stores w x ds = if-two Like _ (λ u. same _) (λ u. record { reply = refl; core = refl; flash = resummed-flash p _ _ })
+  unfolding programPage programPageBefore pageWritten
+  stores w x ds = record { reply = refl; core = refl; flash = resummed-flash p _ _ }
 
   settled-both : (w : Verdict) (x y : Reaction) (c : Chip) (room : List ℕ) → Both Like x y
       → SameButSums (settled w p x c (lent f s) room) (settled w p y c (lent f t) room)

@@ -115,9 +115,9 @@ whole-heard hs g x k m e =
     let i : hs ≡ g = cc in rw i)
     (λ t. absurd (no-frame g [] (rw t at e)))
 
--- Under any rules a good page of 13h is done by the rule for it.
+-- Under any rules a data frame does its work, and a good page of 13h is done by the rule for it.
 module _ (R : Rules) (p : Part) (k : Core) (hs : List ℕ) (m : Memory) (w : Awaited) (g : List ℕ) where
-  frame-heard : (v : Event) → hearing (k .phase) ≡ HearsData w → takenIn (hearing (k .phase)) hs v ≡ g ∷ []
+  pub frame-heard : (v : Event) → hearing (k .phase) ≡ HearsData w → takenIn (hearing (k .phase)) hs v ≡ g ∷ []
       → reactToUnder R v p k hs m ≡ reaction [] (dataDoesUnder R p k w g m)
   unfolding reactToUnder byteInUnder frameDoesUnder takenIn takenAs collectsOn
   frame-heard (Byte b) h e = rw h (whole-heard (hear Data hs b) g (λ f. dataDoesUnder R p k w f m) k m (rw h at e))

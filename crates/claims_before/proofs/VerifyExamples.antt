@@ -40,7 +40,7 @@ use Rattle.part.specs.Refusal.{firstOf}
 use Rattle.words.specs.Words.{_and_, _from_to_, _or_, if_then_else_}
 
 -- The pages are bytes, so the chip at their footers stands.
-below-all : {m b : ℕ} (n : ℕ) → b < m → Below m (replicate n b)
+pub below-all : {m b : ℕ} (n : ℕ) → b < m → Below m (replicate n b)
 below-all zero h = none
 below-all (suc n) h = more h (below-all n h)
 

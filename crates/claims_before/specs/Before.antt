@@ -1,5 +1,5 @@
--- The chip before document 02, §1: the rules that it replaced, as they were. No sum is read or written here; the sums that are lent pass through.
--- What §1 did not replace is used by its name.
+-- The chip before document 02, §1: the rules that it replaced, without the sums. None is read or written here; those that are lent pass through.
+-- What §1 did not replace is the chip's own, used by its name: so is how a page of 40h is written, which is §6's matter (specs/Stored).
 use mathlib.Core.Bool.{not}
 use mathlib.Core.List.{List}
 use Prim.Native.Nat.{_%_, ℕ}
@@ -7,13 +7,13 @@ use lib.Dec.{eqb}
 use Rattle.chip.specs.Run.{Spoken}
 use Rattle.chip.specs.Step.{Outcome}
 use Rattle.chip.specs.declared.Event.{Event}
-use Rattle.chip_core.specs.Effect.{Effect, Flash, Memory, acknowledge, effect, parameterError, protectError, says, told, withFlash, writeError}
+use Rattle.chip_core.specs.Effect.{Effect, Flash, Memory, acknowledge, effect, parameterError, protectError, says, told, withFlash}
 use Rattle.chip_core.specs.declared.Awaited.{Awaited}
 use Rattle.chip_core.specs.declared.Core.{Core}
 use Rattle.chip_core.specs.declared.Done.{Done}
-use Rattle.chip_flash.specs.Flash.{blank, sumOfBytes}
+use Rattle.chip_flash.specs.Flash.{sumOfBytes}
 use Rattle.chip_options.specs.Options.{bootAllowed, eraseAllowed}
-use Rattle.chip_pages.specs.Pages.{nextPage, pageIn, pageStored, pair, ready, storedReply, verifyPage}
+use Rattle.chip_pages.specs.Pages.{pageIn, pageProgrammed, pageStatus, toldWritten, verifyPage}
 use Rattle.chip_reply.specs.declared.Reply.the-variants.{Sum}
 use Rattle.chip_sums.specs.Sums.{rangeBytes}
 use Rattle.chip_work.specs.Work.{erasedIn, forbidden, isBoot}
@@ -39,11 +39,10 @@ blockEraseBefore p k (In a offset block page) m =
     else if forbidden (eraseAllowed p (k .options .flags)) (isBoot a block) (bootAllowed p (k .options .flags)) then effect (says protectError k) m
     else effect (says acknowledge k) (withFlash m (erasedIn a offset (blockSize p a) (m .flash)))
 
--- 40h: a page is stored.
+-- 40h: a page is written; its block's sum is not.
 unfoldable pub programPageBefore : Core → Awaited → Place → List ℕ → Memory → Effect
 programPageBefore k w at ds m =
-    if not (blank (pageIn at (m .flash))) then effect (pair acknowledge writeError (ready k)) m
-    else effect (told (storedReply w) (nextPage w k)) (withFlash m (pageStored at ds (m .flash)))
+    effect (toldWritten (pageStatus (pageIn at (m .flash)) ds) w k) (withFlash m (pageProgrammed at ds (m .flash)))
 
 -- The rules of the chip before §1, which replaced neither 13h's nor how a bad frame is answered.
 abbrev pub rulesBeforeSums : Rules

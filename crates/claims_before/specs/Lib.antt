@@ -4,6 +4,8 @@ pub mod Asked
 pub mod AsBefore
 pub mod Said
 pub mod Verify
+pub mod Stored
 pub mod Faults
 pub mod Examples
 pub mod VerifyExamples
+pub mod StoredExamples

@@ -17,19 +17,20 @@ use Rattle.chip_core.specs.Effect.{Effect, Memory, bytesIn, effect, told}
 use Rattle.chip_core.specs.Hearing.{hearing}
 use Rattle.chip_core.specs.declared.Awaited.{Awaited}
 use Rattle.chip_core.specs.declared.Core.{Core}
+use Rattle.chip_core.specs.declared.Done.{Done}
 use Rattle.chip_core.specs.declared.Hearing.{Hearing}
 use Rattle.chip_core.specs.declared.Hearing.the-variants.{HearsCommands, HearsData, HearsNothing}
 use Rattle.chip_core.specs.declared.Phase.{Phase}
 use Rattle.chip_core.specs.declared.Phase.the-variants.{Awaiting, ModeByte, Ready, Setup}
-use Rattle.chip_flash.specs.Flash.{eraseOf, erased}
-use Rattle.chip_pages.specs.Pages.{badData, compared, dataDoes, goodData, nextPage, pageStored, programPage, verifyPage}
+use Rattle.chip_flash.specs.Flash.{eraseOf, erased, programmed}
+use Rattle.chip_pages.proofs.Laws.{page-short, told-either}
+use Rattle.chip_pages.specs.Pages.{badData, compared, dataDoes, goodData, nextPage, pageIn, pageStored, pageWritten, programPage, verifyPage}
 use Rattle.chip_reply.specs.declared.Reply.{Reply}
 use Rattle.chip_state.specs.Refusals.{goodAwaited, goodPhase, goodState}
 use Rattle.chip_state.proofs.Laws.{accepts}
 use Rattle.chip_work.specs.Work.{blankCheck, blockErase, erasedIn, programming, rateSet, verify}
 use Rattle.claims_confined.proofs.Outside.{block-inside, put-outside}
 use Rattle.claims_confined.specs.Confined.{Confined, JobCommand, JobConfined, OutsideSame, Within, andOne, atMode, atPages, atReady, atSetup}
-use Rattle.claims_cut.proofs.Cut.{page-long}
 use Rattle.claims_dock.proofs.Written.{framed-read, short}
 use Rattle.claims_fed.specs.Awaits.{AwaitsCommand, aCommand, goodFor, inReady, inSetup}
 use Rattle.claims_fed.specs.Fed.{does, doesIn}
@@ -173,19 +174,27 @@ module _ (j : Job) (k : Core) (m : Memory) (d : described (j .part) ≡ true) (n
         let e : (w .last - first (t .area) + 1) % pageSize ≡ 0 = block-page p (t .area) (w .last - first (t .area) + 1) (g .end) in
         omega (arith, e, g .page, g .order, g .here .low, g .there .low)
 
-    stored : (x : Place) → placeOf p (w .next) ≡ x → (ds : List ℕ) → length ds ≡ 256 → OutsideSame j (m .flash) (pageStored x ds (m .flash))
+    stored : (x : Place) → placeOf p (w .next) ≡ x → (ds : List ℕ) → length ds ≤ 256 → OutsideSame j (m .flash) (pageStored x ds (m .flash))
     unfolding pageStored
     stored Outside e ds l = λ a i o. refl
     stored (In a offset block page) e ds l = put-outside j a (w .next) offset ds (m .flash) (place-lies p (w .next) a offset block page e .is) low (omega (arith, page-ends))
 
+    written : (x : Place) → placeOf p (w .next) ≡ x → (ds : List ℕ) → Keeps j k m (programPage p k w x ds m)
+    unfolding programPage pageWritten
+    written x e ds =
+        told-either (λ (d : Awaited → Core → Done). Keeps j k m (effect (d w k) (pageWritten p x ds m))) (pageIn x (m .flash)) ds
+        (λ t. record { outside = kept; options = same-options w; within = goes-on w other low high }) (λ t. record { outside = kept; options = refl; within = atReady })
+      where
+        kept : OutsideSame j (m .flash) (pageWritten p x ds m .flash)
+        kept = rw (resummed-flash p) (stored x e (programmed (pageIn x (m .flash)) ds) (page-short x ds (m .flash)))
+
     data-does : (f : List ℕ) → Keeps j k m (dataDoes p k w f m)
-    unfolding dataDoes goodData badData programPage verifyPage compared
+    unfolding dataDoes goodData badData verifyPage compared
     data-does f =
         if-all (Keeps j k m) _ (λ t. if-all (λ x. Keeps j k m (effect x m)) _ (λ u. moved _ _ refl atReady) (λ u. moved _ _ refl atReady))
         (λ t. if-all (Keeps j k m) _ (λ u. absurd (other (eqb-true _ _ u)))
         (λ u. if-all (Keeps j k m) _
-        (λ v. if-all (Keeps j k m) _ (λ x. moved _ _ refl atReady)
-        (λ x. record { outside = rw (resummed-flash p) (stored _ refl (payload f) (page-long w f u (not-false _ t))); options = same-options w; within = goes-on w other low high }))
+        (λ v. written _ refl (payload f))
         (λ v. moved _ _ (same-options _) (goes-on _ other low high))))
 
   -- A frame in its phase.

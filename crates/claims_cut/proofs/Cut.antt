@@ -8,7 +8,8 @@ use native.Mathlib.Nat.{mul-le-mul-right, suc-mul}
 use native.Mathlib.Numerals.{add-one}
 use native.Mathlib.Omega.{arith}
 use lib.Dec.{eqb}
-use lib.ListN.{length, length-replicate, replicate}
+use lib.ListN.{drop, length, length-drop, length-replicate, replicate, take}
+use lib.Seq.{length-take-le}
 use borrow.Author.Tests.{eqb-true, not-false}
 use Rattle.chip.specs.Step.{Reaction, byteIn, frameDoes, heardByte, reactTo}
 use Rattle.chip_state.specs.Refusals.{goodAwaited, goodPhase, goodState, handedWith}
@@ -25,7 +26,7 @@ use Rattle.chip_work.specs.Work.{blockErase, erasedIn}
 use Rattle.chip_commands.specs.Commands.{commandDoes, readingDoes, work}
 use Rattle.chip_core.specs.Hearing.{hearing}
 use Rattle.chip_core.specs.Effect.{Effect, Memory, bytesIn, effect}
-use Rattle.chip_pages.specs.Pages.{dataDoes, footerOf, goodData, lengthOf, pageIn, pageStored, programPage}
+use Rattle.chip_pages.specs.Pages.{dataDoes, footerOf, goodData, lengthOf, pageIn, pageStored, pageWritten, programPage}
 use Rattle.commands.specs.declared.Command.{Command}
 use Rattle.commands.specs.declared.Command.the-variants.{BlankCheck, BlockErase, Checksum, Programming, RateSet, Reset, Verify}
 use Rattle.commands.specs.declared.Command.the-variants.{SecurityGet, SecurityRelease, SecuritySet, SignatureGet}
@@ -38,7 +39,8 @@ use Rattle.chip_core.specs.declared.Core.{Core}
 use Rattle.chip_core.specs.declared.Done.{Done}
 use Rattle.chip_core.specs.declared.Phase.{Phase}
 use Rattle.chip_core.specs.declared.Phase.the-variants.{Awaiting, ModeByte, Ready, Setup}
-use Rattle.chip_flash.specs.Flash.{eraseOf, erased}
+use Rattle.chip_flash.proofs.Laws.{programmed-long}
+use Rattle.chip_flash.specs.Flash.{eraseOf, erased, programmed}
 use Rattle.frame.specs.Collector.{heard}
 use Rattle.frame.specs.Judgement.{fitting, isGood, judgeOf}
 use Rattle.frame.specs.declared.judgement.Judgement.{Judgement}
@@ -60,7 +62,7 @@ stays-so : {p : Part} (m : Memory) (d : Done) → Does p m (effect d m)
 stays-so m d = record { change = nothing refl }
 
 -- A block that begins in its area ends in it.
-block-inside : (p : Part) (at : ℕ) (a : Area) (offset block page : ℕ) → Spot p at a offset block page → offset % blockSize p a ≡ 0
+pub block-inside : (p : Part) (at : ℕ) (a : Area) (offset block page : ℕ) → Spot p at a offset block page → offset % blockSize p a ≡ 0
     → offset + blockSize p a ≤ size p a
 block-inside p at a offset block page s z =
     let n = blockSize p a in
@@ -68,6 +70,19 @@ block-inside p at a offset block page s z =
     let l : (block + 1) * n ≤ blocks p a * n = mul-le-mul-right n (omega (arith, s .block-below)) in
     let k : (block + 1) * n ≡ block * n + n = rw add-one (suc-mul block n) in
     omega arith
+
+-- A page that lies in its area has 256 bytes, programmed too.
+pub programmed-page : (offset : ℕ) (bs ds : List ℕ) → offset + 256 ≤ length bs → length (programmed (take pageSize (drop offset bs)) ds) ≡ 256
+programmed-page offset bs ds h =
+    programmed-long (take pageSize (drop offset bs)) ds ∙ length-take-le 256 (drop offset bs) (rw length-drop (omega arith))
+
+-- A page that is awaited lies in its area.
+pub page-inside : (p : Part) (w : Awaited) (s : Pages p w) → (w .next - first (s .area)) + 256 ≤ size p (s .area)
+page-inside p w s =
+    let g = s .walk in
+    let a = s .area in
+    let e : (w .last - first a + 1) % pageSize ≡ 0 = block-page p a (w .last - first a + 1) (g .end) in
+    omega (arith, e, g .page, g .order, g .here .low, g .there .low, g .there .high)
 
 -- A good page has 256 bytes.
 fitting-long : (n : ℕ) (bs : List ℕ) (j : Judgement) → isGood (fitting n bs j) ≡ true → length bs ≡ n + 4
@@ -124,29 +139,22 @@ module _ (p : Part) (k : Core) (m : Memory) (long : (a : Area) → length (bytes
   unfolding commandDoes
   command-does f = if-all (Does p m) _ (λ t. stays-so m _) (λ t. if-all (Does p m) _ (λ u. stays-so m _) (λ u. reading-does _))
 
-  -- The page is stored where all was FFh, or nothing is.
+  -- The page is programmed, whatever its status is.
   programs : (w : Awaited) (a : Area) (offset block page : ℕ) (ds : List ℕ) → offset % pageSize ≡ 0 → offset + 256 ≤ size p a → length ds ≡ 256
       → Does p m (programPage p k w (In a offset block page) ds m)
-  unfolding programPage pageIn pageStored
+  unfolding programPage pageWritten pageIn pageStored
   programs w a offset block page ds z i n =
-      if-all (Does p m) _ (λ t. stays-so m _)
-      (λ t. record { change = onePage a offset ds z n (not-false _ t) (rw (resummed-flash p) (put-becomes a offset ds (m .flash) (omega (arith, long a)))) })
+      let old = take pageSize (drop offset (bytesIn a (m .flash))) in
+      let l : length (programmed old ds) ≡ 256 = programmed-page offset (bytesIn a (m .flash)) ds (omega (arith, long a)) in
+      record { change = onePage a offset ds z n (rw (resummed-flash p) (put-becomes a offset (programmed old ds) (m .flash) (omega (arith, long a)))) }
 
   module _ (part : described p ≡ true) (w : Awaited) (awaited : goodAwaited p w ≡ true) where
-    -- A page that is awaited lies in its area.
-    page-inside : (s : Pages p w) → (w .next - first (s .area)) + 256 ≤ size p (s .area)
-    page-inside s =
-        let g = s .walk in
-        let a = s .area in
-        let e : (w .last - first a + 1) % pageSize ≡ 0 = block-page p a (w .last - first a + 1) (g .end) in
-        omega (arith, e, g .page, g .order, g .here .low, g .there .low, g .there .high)
-
     page-does : eqb (w .command) 0xA0 ≡ false → (ds : List ℕ) → length ds ≡ 256 → Does p m (programPage p k w (placeOf p (w .next)) ds m)
     unfolding placeIn
     page-does n ds e =
         let s = good-walk p w awaited n in
         rw (lies-place p (s .area) (w .next) part (s .walk .here))
-        (programs w (s .area) (w .next - first (s .area)) _ _ ds (s .walk .page) (page-inside s) e)
+        (programs w (s .area) (w .next - first (s .area)) _ _ ds (s .walk .page) (page-inside p w s) e)
 
     data-does : (f : List ℕ) → Does p m (dataDoes p k w f m)
     unfolding dataDoes goodData

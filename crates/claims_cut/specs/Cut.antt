@@ -1,5 +1,4 @@
 -- What a single event can do to flash: which bytes are in doubt when the cable is cut in the middle of an update.
-use mathlib.Core.Bool.{true}
 use mathlib.Core.List.{List}
 use mathlib.Core.Path.{_≡_}
 use Prim.Native.Nat.{_%_, _+_, _<_, _≤_, ℕ}
@@ -10,7 +9,7 @@ use Rattle.chip.specs.declared.Event.{Event}
 use Rattle.chip.specs.declared.Event.the-variants.{PowerOn}
 use Rattle.claims_good.specs.Good.{Proper, Stands}
 use Rattle.chip_core.specs.Effect.{Flash, Memory, bytesIn}
-use Rattle.chip_flash.specs.Flash.{blank, erased}
+use Rattle.chip_flash.specs.Flash.{erased, programmed}
 use Rattle.part.specs.Part.{blockSize, pageSize}
 use Rattle.part.specs.declared.Area.{Area}
 use Rattle.part.specs.declared.Area.the-variants.{CodeFlash, DataFlash}
@@ -28,12 +27,13 @@ pub record Becomes (a : Area) (at : ℕ) (ds : List ℕ) (m n : Flash) : Type 0 
   pub past : (i : ℕ) → at + length ds ≤ i → getD (bytesIn a n) i 0 ≡ getD (bytesIn a m) i 0
   pub other : bytesIn (otherArea a) n ≡ bytesIn (otherArea a) m
 
--- Nothing, of the kept sums neither; or one whole block, from its first byte, is FFh now; or one whole page, from its first byte, holds 256 bytes where all were FFh.
+-- Nothing, of the kept sums neither; or one whole block, from its first byte, is FFh now; or one whole page, from its first byte, is what programming some
+-- 256 bytes makes of it, each byte old AND new (document 02, §6).
 pub data Change (p : Part) (m n : Memory) : Type 0 where
   nothing : n ≡ m → Change p m n
   oneBlock : (a : Area) (at : ℕ) → at % blockSize p a ≡ 0 → Becomes a at (replicate (blockSize p a) erased) (m .flash) (n .flash) → Change p m n
-  onePage : (a : Area) (at : ℕ) (ds : List ℕ) → at % pageSize ≡ 0 → length ds ≡ pageSize → blank (take pageSize (drop at (bytesIn a (m .flash)))) ≡ true
-      → Becomes a at ds (m .flash) (n .flash) → Change p m n
+  onePage : (a : Area) (at : ℕ) (ds : List ℕ) → at % pageSize ≡ 0 → length ds ≡ pageSize
+      → Becomes a at (programmed (take pageSize (drop at (bytesIn a (m .flash)))) ds) (m .flash) (n .flash) → Change p m n
 
 -- No event does more.
 abbrev pub OneEvent : Type 0

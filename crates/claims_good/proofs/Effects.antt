@@ -7,6 +7,8 @@ use Prim.Native.Nat.{ℕ}
 use lib.Dec.{eqb}
 use lib.ListN.{length}
 use borrow.Author.Tests.{leb-true, not-false}
+use Rattle.chip_flash.specs.Flash.{programmed}
+use Rattle.chip_pages.proofs.Laws.{told-either}
 use Rattle.chip_state.specs.Refusals.{goodAwaited, goodPhase}
 use Rattle.claims_good.proofs.Awaited.{next-awaited, pagesOf, range-awaited, security-awaited}
 use Rattle.claims_good.proofs.Core.{GoodCore, enters, made-ready}
@@ -15,7 +17,7 @@ use Rattle.chip_commands.specs.Commands.{commandDoes, readingDoes, work}
 use Rattle.chip_core.specs.Effect.{Effect, Flash, Memory, bytesIn, effect, entered, withBytes, withFlash}
 use Rattle.chip_sums.proofs.Laws.{resummed-flash}
 use Rattle.chip_sums.specs.Sums.{resummed}
-use Rattle.chip_pages.specs.Pages.{badData, compared, dataDoes, goodData, nextPage, pageIn, pageStored, programPage, securityData, verifyPage}
+use Rattle.chip_pages.specs.Pages.{badData, compared, dataDoes, goodData, nextPage, pageIn, pageStored, pageWritten, programPage, securityData, verifyPage}
 use Rattle.commands.specs.declared.Command.{Command}
 use Rattle.commands.specs.declared.Command.the-variants.{BlankCheck, BlockErase, Checksum, Programming, RateSet, Reset, SecurityGet, SecurityRelease, SecuritySet, SignatureGet, Verify}
 use Rattle.commands.specs.declared.Reading.{Reading}
@@ -151,8 +153,12 @@ module _ (p : Part) (k : Core) (part : described p ≡ true) (good : GoodCore p 
     put-page (In a offset block page) ds m g = with-bytes a m _ g (put-long (bytesIn a (m .flash)) offset ds refl)
 
     programs : eqb (w .command) 0xA0 ≡ false → (at : Place) (ds : List ℕ) (m : Memory) → Keeps p m (programPage p k w at ds m)
-    unfolding programPage
-    programs n at ds m = if-all (Keeps p m) _ (λ t. stays-so m (made-ready good)) (λ t. sum-keeps at (put-page at ds m (goes-on w awaited n)))
+    unfolding programPage pageWritten
+    programs n at ds m =
+        let old = pageIn at (m .flash) in
+        sum-keeps at
+        (put-page at (programmed old ds) m
+        (told-either (λ (d : Awaited → Core → Done). GoodCore p (d w k .core)) old ds (λ t. goes-on w awaited n) (λ t. made-ready good)))
 
     compares : eqb (w .command) 0xA0 ≡ false → (at : Place) (ds : List ℕ) (m : Flash) → GoodDone p (verifyPage k w at ds m)
     unfolding verifyPage compared goodAwaited

@@ -31,9 +31,9 @@ use Rattle.chip_core.specs.Hearing.{hearing}
 use Rattle.chip_core.specs.Effect.{Memory}
 use Rattle.chip_core.specs.declared.Phase.{Phase}
 use Rattle.chip_core.specs.declared.Phase.the-variants.{Awaiting, Ready}
-use Rattle.chip_pages.specs.Pages.{badData, dataDoes, footerOf, goodData, isLastPage, lengthOf, nextPage, pageIn, pageStored, programPage, storedReply}
+use Rattle.chip_pages.specs.Pages.{badData, dataDoes, footerOf, goodData, isLastPage, lengthOf, nextPage, pageIn, pageStatus, pageStored, pageWritten, programPage, storedReply, toldWritten}
 use Rattle.chip_sums.specs.Sums.{resummed}
-use Rattle.chip_flash.specs.Flash.{blank}
+use Rattle.chip_flash.specs.Flash.{blank, lands, programmed}
 use Rattle.frame.proofs.Laws.Sum.{Below, more, none}
 use Rattle.frame.specs.Collector.{fresh, hear, heard, holding}
 use Rattle.frame.specs.Frame.{complete, counted, framed, full, isFrame, payload}
@@ -188,10 +188,11 @@ page-changed =
 
 -- So the one changed byte keeps the page out: unchanged it is stored at 0500h, changed it is not, and it is blamed.
 pub page-stored : getD (runBy stepOf thePart (map Byte pageFrame) writingChip .memory .flash .codeFlash) 0x0500 0 ≡ 0xAA
-unfolding runBy pageFrame dataDoes goodData payload programPage pageIn pageStored resummed blank allAre putOf putAt nextPage storedReply badData fitting footerOf
-    lengthOf isLastPage goodAwaited goodPlaces stepOf settled verdictOf firstOf described _from_to_ _and_ _or_ if_then_else_ goodState goodCollected goodBegun
-    goodCore goodOptions fixedBits goodPhase lastBlock freshOptions fresh heard holding hear complete full counted isFrame reactTo byteIn hearing heardByte
-    frameDoes commandDoes judgeOf summed sumOf lessAll less placeOf liesIn placeIn blockOf pageOf blockSize saidOf framesOf framed payloads
+unfolding runBy pageFrame dataDoes goodData payload pageStatus pageWritten toldWritten lands programmed same programPage pageIn pageStored resummed blank
+    allAre putOf putAt nextPage storedReply badData fitting footerOf lengthOf isLastPage goodAwaited goodPlaces stepOf settled verdictOf firstOf described
+    _from_to_ _and_ _or_ if_then_else_ goodState goodCollected goodBegun goodCore goodOptions fixedBits goodPhase lastBlock freshOptions fresh heard holding
+    hear complete full counted isFrame reactTo byteIn hearing heardByte frameDoes commandDoes judgeOf summed sumOf lessAll less placeOf liesIn placeIn blockOf
+    pageOf blockSize saidOf framesOf framed payloads
 page-stored = refl
 
 pub page-changed-is-bad : IsBad stepOf thePart writingChip (set pageFrame 259 0x03) (WrongFooter 259)

@@ -8,8 +8,10 @@ use Rattle.chip_flash.proofs.is_blank.Reads as is-blank
 use Rattle.chip_flash.proofs.is_blank.Kinds as is-blank-kinds
 use Rattle.chip_flash.proofs.erase.Reads as erase
 use Rattle.chip_flash.proofs.erase.Kinds as erase-kinds
-use Rattle.chip_flash.proofs.store.Reads as store
-use Rattle.chip_flash.proofs.store.Kinds as store-kinds
+use Rattle.chip_flash.proofs.lands.Reads as lands
+use Rattle.chip_flash.proofs.lands.Kinds as lands-kinds
+use Rattle.chip_flash.proofs.program.Reads as program
+use Rattle.chip_flash.proofs.program.Kinds as program-kinds
 use Rattle.chip_flash.proofs.sum.Reads as sum
 use Rattle.chip_flash.proofs.sum.Kinds as sum-kinds
 
@@ -19,8 +21,11 @@ is-blank-once κs a r s x y p q = p ∙ sym q
 pub erase-once : Once erase-kinds.ps erase-kinds.r erase.Post (λ κs r x. left r (now (x .0)))
 erase-once κs a r s x y p q = p ∙ sym q
 
-pub store-once : Once store-kinds.ps store-kinds.r store.Post (λ κs r x. left r (now (x .0)))
-store-once κs a r s x y p q = p ∙ sym q
+pub lands-once : Once lands-kinds.ps lands-kinds.r lands.Post (λ κs r x. r)
+lands-once κs a r s x y p q = p ∙ sym q
+
+pub program-once : Once program-kinds.ps program-kinds.r program.Post (λ κs r x. now (x .0))
+program-once κs a r s x y p q = p ∙ sym q
 
 pub sum-once : Once sum-kinds.ps sum-kinds.r sum.Post (λ κs r x. r)
 sum-once κs a r s x y p q = p ∙ sym q

@@ -15,8 +15,8 @@ use Rattle.chip_commands.specs.Commands.{allowedIn, commandDoes, readingDoes, w
 use Rattle.commands.specs.Commands.{comOf, commandTable, fitted, informationOf, payloadOf, readCommand, readIn}
 use Rattle.chip_work.specs.Work.{blankCheck, blockErase, checksum, erasedIn, forbidden, programming, rateSet, securityRelease, verify}
 use Rattle.chip_sums.specs.Sums.{allSummed, blockSum, flashVerdict, rangeBytes, resummed, slot, summedBy, summedTo, workedOut}
-use Rattle.chip_pages.specs.Pages.{badData, compared, dataDoes, footerOf, goodData, isLastPage, lengthOf, nextPage, pageIn, pageStored, programPage, securityData, storedReply, verifyPage, verifyStatus}
-use Rattle.chip_flash.specs.Flash.{blank, eraseOf, sumOfBytes}
+use Rattle.chip_pages.specs.Pages.{badData, compared, dataDoes, footerOf, goodData, isLastPage, lengthOf, nextPage, pageIn, pageStatus, pageStored, pageWritten, programPage, securityData, storedReply, toldWritten, verifyPage, verifyStatus}
+use Rattle.chip_flash.specs.Flash.{blank, eraseOf, lands, programmed, sumOfBytes}
 use Rattle.dock_flow.specs.Flow.{afterAnswer, afterHeard, afterSetup, afterStatus, afterWork, blockFrom, inBlock, next, retried, saysNotBlank, setupFrom}
 use Rattle.dock_flow.specs.Frames.{firstOfBlock, frameAt, handOf, handed, lastOfBlock, lastPage, pageFooter, queryWith, storedForm, workFrame}
 use Rattle.frame.specs.Collector.{fresh, hear, heard, holding}
@@ -48,14 +48,15 @@ old-sums = refl
 rehearsal : remainsOf rehearsed (replicate 2048 0x42 ++ rehearsalImage ++ replicate 4096 0x42) oldData ≡ remains (finishedAfter 27) (readyAt 0x03)
 unfolding byteIn frameDoes heardByte modeByte reactTo settled stepOf allowedIn commandDoes readingDoes work hearing blank eraseOf sumOfBytes fixedBits
     freshOptions goodOptions isFresh lastBlock optionBytes optionsIn raises released rises security badData dataDoes footerOf goodData isLastPage lengthOf
-    nextPage pageIn pageStored programPage securityData storedReply compared verifyStatus verifyPage framesOf payloads saidOf goodAwaited goodBegun goodCollected goodCore goodPhase
-    goodPlaces goodState verdictOf blankCheck blockErase checksum erasedIn forbidden programming allSummed blockSum rangeBytes resummed slot summedTo rateSet securityRelease verify cable exchange
-    speaks holds isSummed remainsOf mixed rehearsalImage rehearsed theChip comOf commandTable fitted informationOf payloadOf readCommand readIn askOf asked beginOf freshDock
-    hearOf standing starting turning deciding judgeAnswer judgeFrames matching rateMatches readAnswer shape signatureMatches statuses afterAnswer
-    afterHeard afterSetup afterStatus afterWork blockFrom inBlock next retried saysNotBlank setupFrom firstOfBlock frameAt handOf handed lastOfBlock lastPage
-    pageFooter queryWith storedForm workFrame areaIn blocksIn bound isOver setup badJob badState callVerdict due goodBlock goodDock goodEnding goodFailure
-    goodNamedBlock goodNamedPage goodPage goodStage goodWork isBad outOfTurn shortRoom spent fresh hear heard holding complete counted framed full isFrame
-    payload frames framing fitting judgeOf summed less lessAll sumOf judgeReply unfitReply allAre putAt putOf same lowFirst numberAt blockOf blockSize described endsBlock
+    nextPage pageIn pageStored pageStatus pageWritten toldWritten lands programmed programPage securityData storedReply compared verifyStatus verifyPage
+    framesOf payloads saidOf goodAwaited goodBegun goodCollected goodCore goodPhase goodPlaces goodState verdictOf blankCheck blockErase checksum erasedIn
+    forbidden programming allSummed blockSum rangeBytes resummed slot summedTo rateSet securityRelease verify cable exchange speaks holds isSummed remainsOf
+    mixed rehearsalImage rehearsed theChip comOf commandTable fitted informationOf payloadOf readCommand readIn askOf asked beginOf freshDock hearOf standing
+    starting turning deciding judgeAnswer judgeFrames matching rateMatches readAnswer shape signatureMatches statuses afterAnswer afterHeard afterSetup
+    afterStatus afterWork blockFrom inBlock next retried saysNotBlank setupFrom firstOfBlock frameAt handOf handed lastOfBlock lastPage pageFooter queryWith
+    storedForm workFrame areaIn blocksIn bound isOver setup badJob badState callVerdict due goodBlock goodDock goodEnding goodFailure goodNamedBlock
+    goodNamedPage goodPage goodStage goodWork isBad outOfTurn shortRoom spent fresh hear heard holding complete counted framed full isFrame payload frames
+    framing fitting judgeOf summed less lessAll sumOf judgeReply unfitReply allAre putAt putOf same lowFirst numberAt blockOf blockSize described endsBlock
     lastOf liesIn pageOf placeIn placeOf rangeOf startsBlock stretch wholeBlocks acceptsRate modeOf firstOf signature _and_ _from_to_ _or_ if_then_else_
 rehearsal = refl
 
@@ -79,14 +80,15 @@ rehearsal-sums = ap (λ (x : Remains). x .sums) rehearsal
 data-rehearsal : remainsOf rehearsedData oldCode theDataImage ≡ remains (finishedAfter 15) (readyAt 0x00)
 unfolding byteIn frameDoes heardByte modeByte reactTo settled stepOf allowedIn commandDoes readingDoes work hearing blank eraseOf sumOfBytes fixedBits
     freshOptions goodOptions isFresh lastBlock optionBytes optionsIn raises released rises security badData dataDoes footerOf goodData isLastPage lengthOf
-    nextPage pageIn pageStored programPage securityData storedReply compared verifyStatus verifyPage framesOf payloads saidOf goodAwaited goodBegun goodCollected goodCore goodPhase
-    goodPlaces goodState verdictOf blankCheck blockErase checksum erasedIn forbidden programming allSummed blockSum rangeBytes resummed slot summedTo rateSet securityRelease verify cable exchange
-    speaks holds isSummed remainsOf mixed rehearsedData theChip theDataImage comOf commandTable fitted informationOf payloadOf readCommand readIn askOf asked beginOf freshDock
-    hearOf standing starting turning deciding judgeAnswer judgeFrames matching rateMatches readAnswer shape signatureMatches statuses afterAnswer
-    afterHeard afterSetup afterStatus afterWork blockFrom inBlock next retried saysNotBlank setupFrom firstOfBlock frameAt handOf handed lastOfBlock lastPage
-    pageFooter queryWith storedForm workFrame areaIn blocksIn bound isOver setup badJob badState callVerdict due goodBlock goodDock goodEnding goodFailure
-    goodNamedBlock goodNamedPage goodPage goodStage goodWork isBad outOfTurn shortRoom spent fresh hear heard holding complete counted framed full isFrame
-    payload frames framing fitting judgeOf summed less lessAll sumOf judgeReply unfitReply allAre putAt putOf same lowFirst numberAt blockOf blockSize described endsBlock
+    nextPage pageIn pageStored pageStatus pageWritten toldWritten lands programmed programPage securityData storedReply compared verifyStatus verifyPage
+    framesOf payloads saidOf goodAwaited goodBegun goodCollected goodCore goodPhase goodPlaces goodState verdictOf blankCheck blockErase checksum erasedIn
+    forbidden programming allSummed blockSum rangeBytes resummed slot summedTo rateSet securityRelease verify cable exchange speaks holds isSummed remainsOf
+    mixed rehearsedData theChip theDataImage comOf commandTable fitted informationOf payloadOf readCommand readIn askOf asked beginOf freshDock hearOf
+    standing starting turning deciding judgeAnswer judgeFrames matching rateMatches readAnswer shape signatureMatches statuses afterAnswer afterHeard
+    afterSetup afterStatus afterWork blockFrom inBlock next retried saysNotBlank setupFrom firstOfBlock frameAt handOf handed lastOfBlock lastPage pageFooter
+    queryWith storedForm workFrame areaIn blocksIn bound isOver setup badJob badState callVerdict due goodBlock goodDock goodEnding goodFailure goodNamedBlock
+    goodNamedPage goodPage goodStage goodWork isBad outOfTurn shortRoom spent fresh hear heard holding complete counted framed full isFrame payload frames
+    framing fitting judgeOf summed less lessAll sumOf judgeReply unfitReply allAre putAt putOf same lowFirst numberAt blockOf blockSize described endsBlock
     lastOf liesIn pageOf placeIn placeOf rangeOf startsBlock stretch wholeBlocks acceptsRate modeOf firstOf signature _and_ _from_to_ _or_ if_then_else_
 data-rehearsal = refl
 

@@ -26,8 +26,8 @@ use Rattle.replay_records.specs.Records.{nextBy, replayOf, replayedFrom, whileW
 use Rattle.replay_play.specs.Play.{answering, endedBy, eventsOf, goesOn, playBy, playOf, playWith, played, playedInto}
 use Rattle.chip_reply.specs.Reply.{framesOf, payloads, saidOf}
 use Rattle.words.specs.Words.{_and_, _from_to_, _or_, if_then_else_}
-use Rattle.chip_flash.specs.Flash.{blank, eraseOf, sumOfBytes}
-use Rattle.chip_pages.specs.Pages.{badData, compared, dataDoes, footerOf, goodData, isLastPage, lengthOf, nextPage, pageIn, pageStored, programPage, securityData, storedReply, verifyPage, verifyStatus}
+use Rattle.chip_flash.specs.Flash.{blank, eraseOf, lands, programmed, sumOfBytes}
+use Rattle.chip_pages.specs.Pages.{badData, compared, dataDoes, footerOf, goodData, isLastPage, lengthOf, nextPage, pageIn, pageStatus, pageStored, pageWritten, programPage, securityData, storedReply, toldWritten, verifyPage, verifyStatus}
 use Rattle.frame.specs.Framing.{frames, framing}
 use Rattle.part.specs.Signature.{signature}
 use Rattle.chip_core.specs.Hearing.{hearing}
@@ -44,13 +44,13 @@ record Computed : Type 0 where
 computed : Computed
 unfolding byteIn frameDoes freshChip heardByte modeByte reactTo settled stepOf allowedIn commandDoes readingDoes work hearing blank eraseOf sumOfBytes
     fixedBits freshOptions goodOptions isFresh lastBlock optionBytes optionsIn raises released rises security badData dataDoes footerOf goodData isLastPage
-    lengthOf nextPage pageIn pageStored programPage securityData storedReply compared verifyStatus verifyPage framesOf payloads saidOf goodAwaited goodBegun goodCollected goodCore
-    goodPhase goodPlaces goodState verdictOf blankCheck blockErase checksum erasedIn forbidden programming rateSet securityRelease verify digitsIn
-    lastLine linesIn printed commandTable fitted readCommand readIn fresh hear heard holding complete counted framed full isFrame payload frames framing
-    fitting judgeOf summed less lessAll sumOf allAre putAt putOf same lowFirst numberAt blockOf blockSize described endsBlock lastOf liesIn pageOf placeIn
-    placeOf rangeOf startsBlock stretch wholeBlocks acceptsRate modeOf firstOf signature goodCount goodRecord recordOf recordsIn recordsOf seatOf spareOf unused digitOf
-    lineOf separator answering endedBy eventsOf goesOn nextBy playBy playOf playWith played playedInto replayOf replayedFrom whileWhole _and_ _from_to_ _or_
-    if_then_else_
+    lengthOf nextPage pageIn pageStored pageStatus pageWritten toldWritten lands programmed programPage securityData storedReply compared verifyStatus
+    verifyPage framesOf payloads saidOf goodAwaited goodBegun goodCollected goodCore goodPhase goodPlaces goodState verdictOf blankCheck blockErase checksum
+    erasedIn forbidden programming rateSet securityRelease verify digitsIn lastLine linesIn printed commandTable fitted readCommand readIn fresh hear heard
+    holding complete counted framed full isFrame payload frames framing fitting judgeOf summed less lessAll sumOf allAre putAt putOf same lowFirst numberAt
+    blockOf blockSize described endsBlock lastOf liesIn pageOf placeIn placeOf rangeOf startsBlock stretch wholeBlocks acceptsRate modeOf firstOf signature
+    goodCount goodRecord recordOf recordsIn recordsOf seatOf spareOf unused digitOf lineOf separator answering endedBy eventsOf goesOn nextBy playBy playOf
+    playWith played playedInto replayOf replayedFrom whileWhole _and_ _from_to_ _or_ if_then_else_
 computed = record { whole = refl; empty = refl; short = refl; stopped = refl; seats = refl; other = refl }
 
 pub whole-case : printed Old wholeCase ≡ wholePrinted

@@ -14,7 +14,8 @@ use Rattle.chip_core.specs.declared.Core.{Core}
 use Rattle.chip_core.specs.declared.Done.{Done}
 use Rattle.chip_core.specs.declared.Phase.{Phase}
 use Rattle.chip_core.specs.declared.Phase.the-variants.{Awaiting, ModeByte, Ready, Setup}
-use Rattle.chip_pages.specs.Pages.{badData, dataDoes, goodData, programPage, securityData, storedReply, verifyPage}
+use Rattle.chip_pages.proofs.Laws.{told-either}
+use Rattle.chip_pages.specs.Pages.{badData, dataDoes, goodData, pageIn, programPage, securityData, storedReply, verifyPage}
 use Rattle.chip_reply.specs.Reply.{faultIn}
 use Rattle.chip_reply.specs.declared.Reply.{Reply}
 use Rattle.chip_reply.specs.declared.Reply.the-variants.{Status}
@@ -106,7 +107,7 @@ stored-plain w = if-all Plain _ (λ t. plainly refl) (λ t. plainly refl)
 
 pub page-plain : (p : Part) (k : Core) (w : Awaited) (x : Place) (ds : List ℕ) (m : Memory) → Plain (programPage p k w x ds m .reply)
 unfolding programPage faultIn
-page-plain p k w x ds m = if-all (λ (y : Effect). Plain (y .reply)) _ (λ t. plainly refl) (λ t. stored-plain w)
+page-plain p k w x ds m = told-either (λ (d : Awaited → Core → Done). Plain (d w k .reply)) (pageIn x (m .flash)) ds (λ t. stored-plain w) (λ t. plainly refl)
 
 pub compare-plain : (k : Core) (w : Awaited) (x : Place) (ds : List ℕ) (m : Flash) → Plain (verifyPage k w x ds m .reply)
 unfolding verifyPage faultIn

@@ -16,13 +16,15 @@ use Rattle.chip_core.specs.Effect.{Effect, Memory, effect, says, told}
 use Rattle.chip_core.specs.Hearing.{hearing}
 use Rattle.chip_core.specs.declared.Awaited.{Awaited}
 use Rattle.chip_core.specs.declared.Core.{Core}
+use Rattle.chip_core.specs.declared.Done.{Done}
 use Rattle.chip_core.specs.declared.Hearing.{Hearing}
 use Rattle.chip_core.specs.declared.Hearing.the-variants.{HearsCommands, HearsData, HearsNothing}
 use Rattle.chip_core.specs.declared.Phase.{Phase}
 use Rattle.chip_core.specs.declared.Phase.the-variants.{Awaiting, ModeByte, Ready, Setup}
 use Rattle.chip_options.specs.Options.{optionsIn, raises, released, rises}
 use Rattle.chip_options.specs.declared.Options.{Options}
-use Rattle.chip_pages.specs.Pages.{badData, dataDoes, goodData, nextPage, programPage, securityData, verifyPage}
+use Rattle.chip_pages.proofs.Laws.{told-either}
+use Rattle.chip_pages.specs.Pages.{badData, dataDoes, goodData, nextPage, pageIn, pageWritten, programPage, securityData, verifyPage}
 use Rattle.chip_reply.specs.Reply.{faultIn, framesOf, payloads}
 use Rattle.chip_reply.specs.declared.Reply.{Reply}
 use Rattle.chip_reply.specs.declared.Reply.the-variants.{Status}
@@ -41,6 +43,7 @@ use Rattle.commands.specs.declared.Command.the-variants.{BlankCheck, BlockErase
 use Rattle.commands.specs.declared.Reading.{Reading}
 use Rattle.commands.specs.declared.Reading.the-variants.{Meant, UnfitLen, Unknown}
 use Rattle.frame.specs.Frame.{payload}
+use Rattle.part.specs.Part.{placeOf}
 use Rattle.part.specs.declared.Part.{Part}
 use Rattle.part.specs.declared.Place.{Place}
 use Rattle.part.specs.declared.Place.the-variants.{In, Outside}
@@ -149,7 +152,9 @@ module _ (p : Part) (k : Core) (m : Memory) (f : List ℕ) where
       if-all (Sets p k (Awaiting w) f) _ (λ t. if-all (λ d. Sets p k (Awaiting w) f (effect d m)) _ (λ u. leaves-them refl) (λ u. leaves-them refl))
       (λ t. if-all (Sets p k (Awaiting w) f) _ (λ u. secures w (eqb-true _ _ u))
       (λ u. if-all (Sets p k (Awaiting w) f) _
-      (λ v. if-all (Sets p k (Awaiting w) f) _ (λ x. leaves-them refl) (λ x. leaves-them (goes-on w)))
+      (λ v.
+      told-either (λ (d : Awaited → Core → Done). Sets p k (Awaiting w) f (effect (d w k) (pageWritten p (placeOf p (w .next)) (payload f) m)))
+      (pageIn (placeOf p (w .next)) (m .flash)) (payload f) (λ x. leaves-them (goes-on w)) (λ x. leaves-them refl))
       (λ v. leaves-them (goes-on _))))
 
   frame-does : (ph : Phase) → k .phase ≡ ph → Sets p k ph f (frameDoes (hearing ph) p k f m)

@@ -17,13 +17,15 @@ use Rattle.chip_core.specs.Effect.{Effect, Memory, acknowledge, effect, notBlan
 use Rattle.chip_core.specs.Hearing.{hearing}
 use Rattle.chip_core.specs.declared.Awaited.{Awaited}
 use Rattle.chip_core.specs.declared.Core.{Core}
+use Rattle.chip_core.specs.declared.Done.{Done}
 use Rattle.chip_core.specs.declared.Hearing.{Hearing}
 use Rattle.chip_core.specs.declared.Hearing.the-variants.{HearsCommands, HearsData, HearsNothing}
 use Rattle.chip_core.specs.declared.Phase.{Phase}
 use Rattle.chip_core.specs.declared.Phase.the-variants.{Awaiting, ModeByte, Ready, Setup}
 use Rattle.chip_options.specs.Options.{isFresh, released}
 use Rattle.chip_options.specs.declared.Options.{Options}
-use Rattle.chip_pages.specs.Pages.{badData, dataDoes, goodData, nextPage, programPage, securityData, storedReply, verifyPage}
+use Rattle.chip_pages.proofs.Laws.{told-either}
+use Rattle.chip_pages.specs.Pages.{badData, dataDoes, goodData, nextPage, pageIn, pageWritten, programPage, securityData, storedReply, verifyPage}
 use Rattle.chip_reply.specs.Reply.{faultIn, framesOf, payloads}
 use Rattle.chip_reply.specs.declared.Reply.{Reply}
 use Rattle.chip_reply.specs.declared.Reply.the-variants.{BadFrame, BadPage, LastStored, Pair, Rate, Security, Signature, Silence, Status, Sum}
@@ -44,6 +46,7 @@ use Rattle.commands.specs.declared.Reading.the-variants.{Meant, UnfitLen, Unkno
 use Rattle.frame.specs.Collector.{hear, heard}
 use Rattle.frame.specs.Frame.{complete, payload}
 use Rattle.frame.specs.declared.Header.the-variants.{Command, Data}
+use Rattle.part.specs.Part.{placeOf}
 use Rattle.part.specs.declared.Part.{Part}
 use Rattle.part.specs.declared.Place.{Place}
 use Rattle.part.specs.declared.Place.the-variants.{In, Outside}
@@ -203,15 +206,21 @@ module _ (p : Part) (L : Type 0) (f : List ℕ) (k : Core) (m : Memory) (s e : �
   unfolding storedReply reads
   stored-plain w = if-all (λ r. reads r ≡ false) _ (λ t. refl) (λ t. refl)
 
+  written : (w : Awaited) (at : Place) (ds : List ℕ) → Beside p L (programPage p k w at ds m) (programPage p (withWindow s e k) w at ds m)
+  unfolding programPage reads
+  written w at ds =
+      told-either (λ (d : Awaited → Core → Done). Beside p L (effect (d w k) (pageWritten p at ds m)) (effect (d w (withWindow s e k)) (pageWritten p at ds m)))
+      (pageIn at (m .flash)) ds (λ t. next-page w _ _ (stored-plain w)) (λ t. so _ _ _ refl)
+
   data-does : (w : Awaited) → Beside p L (dataDoes p k w f m) (dataDoes p (withWindow s e k) w f m)
-  unfolding dataDoes goodData badData securityData programPage verifyPage reads
+  unfolding dataDoes goodData badData securityData verifyPage reads
   data-does w =
       if-two (Beside p L) _ (λ t. if-two (λ x y. Beside p L (effect x m) (effect y m)) _ (λ u. so _ _ m refl) (λ u. so _ _ m refl))
       (λ t. if-two (Beside p L) _
       (λ u. if-two (λ x y. Beside p L (effect x m) (effect y m)) _ (λ v. so _ _ m refl)
       (λ v. if-two (λ x y. Beside p L (effect x m) (effect y m)) _ (λ x. so _ _ m refl) (λ x. anew _ _ refl)))
       (λ u. if-two (Beside p L) _
-      (λ v. if-two (Beside p L) _ (λ x. so _ _ m refl) (λ x. next-page w _ _ (stored-plain w)))
+      (λ v. written w (placeOf p (w .next)) (payload f))
       (λ v. next-page _ _ m refl)))
 
 -- Both commands are allowed in phase 3 alone.

@@ -65,7 +65,7 @@ FaultIsBlamed =
     (p : Part) (k : Core) (m : Memory) (f : List ℕ) → AwaitsFrame (k .phase) → isGood (faultFor (k .phase) f) ≡ false
     → BadDoes (k .phase) p k m (faultFor (k .phase) f) (doesIn p f k m)
 
--- A refused parameter (05h), protection (10h), a blank check (1Bh), a page that is not stored (1Ch) and one that differs (0Fh) name none: no work does.
+-- A refused parameter (05h), protection (10h), a blank check (1Bh), a page that is not what was sent (1Ch) and one that differs (0Fh) name none: no work does.
 pub record WorkNamesNone : Type 0 where
   pub ofCommand : (c : Command) (p : Part) (k : Core) (m : Memory) → faultIn (work c p k m .reply) ≡ Good
   pub ofData : (p : Part) (k : Core) (w : Awaited) (ds : List ℕ) (m : Memory) → faultIn (goodData p k w ds m .reply) ≡ Good

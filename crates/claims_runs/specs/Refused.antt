@@ -1,6 +1,7 @@
--- "A refused command changes nothing.": document 01, "Frames", of every frame and every status but 06h.
+-- "A refused command changes nothing.": document 01, "Frames", of every frame and every status but 06h, and but 1Ch: that is no refusal any more, since the page that it
+-- is said of was written, and "the mixed bytes stay" (document 02, §6; claims_pages/specs/Written).
 use mathlib.Core.Bool.{Bool, not, true}
-use mathlib.Core.List.{List, []}
+use mathlib.Core.List.{List, [], _∷_}
 use mathlib.Core.Path.{_≡_}
 use Prim.Native.Nat.{ℕ}
 use lib.Dec.{eqb}
@@ -16,17 +17,20 @@ use Rattle.chip_core.specs.declared.Phase.the-variants.{Awaiting, ModeByte, Rea
 use Rattle.claims_good.proofs.Rooms.{utteranceOf}
 use Rattle.claims_good.specs.Good.{Stands, Utterance, uttered}
 use Rattle.commands.specs.declared.Command.{Command}
-use Rattle.lent.specs.Lent.{allAre}
+use Rattle.lent.specs.Lent.{allAre, same}
 use Rattle.part.specs.declared.Part.{Part}
-use Rattle.words.specs.Words.{if_then_else_}
+use Rattle.words.specs.Words.{_and_, if_then_else_}
 
 -- The statuses that are said: the first reply frame begins with one, and the answer to a page, of two bytes, holds two.
 unfoldable pub statusesSaid : List ℕ → List ℕ
 statusesSaid bs = take (if eqb (getD bs 1 0) 0x02 then 2 else 1) (drop 2 bs)
 
--- A status that is said is not 06h; where nothing is said there is none.
-unfoldable pub refuses : Utterance → Bool
-refuses u = not (allAre 0x06 (statusesSaid (u .bytes)))
+-- A status among these is not 06h, and they are not the two of a page that was written; where nothing is said there is none.
+unfoldable pub refusing : List ℕ → Bool
+refusing ss = not (allAre 0x06 ss) and not (same ss (0x06 ∷ 0x1C ∷ []))
+
+abbrev pub refuses : Utterance → Bool
+refuses u = refusing (statusesSaid (u .bytes))
 
 -- "A bad page puts its status in both and ends the command."; so does every refusal of a data frame. Else the phase is as before.
 abbrev pub phaseOver : Phase → Phase

@@ -10,7 +10,7 @@ use Rattle.chip_commands.specs.Commands.{allowedIn, commandDoes, readingDoes, w
 use Rattle.commands.specs.Commands.{commandTable, fitted, readCommand, readIn}
 use Rattle.chip_work.specs.Work.{blankCheck, blockErase, checksum, erasedIn, forbidden, programming, rateSet, securityRelease, verify}
 use Rattle.chip_sums.specs.Sums.{allSummed, blockSum, flashVerdict, kept, rangeBytes, slot, summedBy, summedTo, workedOut}
-use Rattle.chip_flash.specs.Flash.{blank, eraseOf, sumOfBytes}
+use Rattle.chip_flash.specs.Flash.{blank, eraseOf, lands, programmed, sumOfBytes}
 use Rattle.frame.specs.Collector.{fresh, hear, heard, holding}
 use Rattle.frame.specs.Frame.{complete, counted, framed, full, isFrame, payload}
 use Rattle.frame.specs.Judgement.{fitting, judgeOf, summed}
@@ -22,7 +22,7 @@ use Rattle.part.specs.Part.{blockOf, blockSize, described, endsBlock, lastOf, l
 use Rattle.part.specs.Refusal.{firstOf}
 use Rattle.chip_reply.specs.Reply.{framesOf, payloads, saidOf}
 use Rattle.words.specs.Words.{_and_, _from_to_, _or_, if_then_else_}
-use Rattle.chip_pages.specs.Pages.{badData, compared, dataDoes, footerOf, goodData, isLastPage, lengthOf, nextPage, pageIn, pageStored, programPage, securityData, storedReply, verifyPage, verifyStatus}
+use Rattle.chip_pages.specs.Pages.{badData, compared, dataDoes, footerOf, goodData, isLastPage, lengthOf, nextPage, pageIn, pageStatus, pageStored, pageWritten, programPage, securityData, storedReply, toldWritten, verifyPage, verifyStatus}
 use Rattle.frame.specs.Framing.{frames, framing}
 use Rattle.part.specs.Rate.{acceptsRate, modeOf}
 use Rattle.part.specs.Signature.{signature}
@@ -31,21 +31,23 @@ use Rattle.chip_core.specs.Hearing.{hearing}
 pub stars : map (λ (x : Example). x .gives) table ≡ map (λ (x : Example). x .printed) table
 unfolding answers heardBack byteIn frameDoes heardByte modeByte reactTo settled stepOf allowedIn commandDoes readingDoes work hearing blank eraseOf sumOfBytes
     fixedBits freshOptions goodOptions isFresh lastBlock optionBytes optionsIn raises released rises security badData dataDoes footerOf goodData isLastPage
-    lengthOf nextPage pageIn pageStored programPage securityData storedReply compared verifyStatus verifyPage framesOf payloads saidOf goodAwaited goodBegun goodCollected goodCore
-    goodPhase goodPlaces goodState verdictOf blankCheck blockErase checksum erasedIn forbidden programming rangeBytes rateSet securityRelease verify replyBy
-    table commandTable fitted readCommand readIn fresh hear heard holding complete counted framed full isFrame payload frames framing fitting judgeOf summed
-    less lessAll sumOf allAre putAt putOf same lowFirst numberAt blockOf blockSize described endsBlock lastOf liesIn pageOf placeIn placeOf rangeOf
-    startsBlock stretch wholeBlocks acceptsRate modeOf firstOf signature _and_ _from_to_ _or_ if_then_else_ kept slot
+    lengthOf nextPage pageIn pageStored pageStatus pageWritten toldWritten lands programmed programPage securityData storedReply compared verifyStatus
+    verifyPage framesOf payloads saidOf goodAwaited goodBegun goodCollected goodCore goodPhase goodPlaces goodState verdictOf blankCheck blockErase checksum
+    erasedIn forbidden programming rangeBytes rateSet securityRelease verify replyBy table commandTable fitted readCommand readIn fresh hear heard holding
+    complete counted framed full isFrame payload frames framing fitting judgeOf summed less lessAll sumOf allAre putAt putOf same lowFirst numberAt blockOf
+    blockSize described endsBlock lastOf liesIn pageOf placeIn placeOf rangeOf startsBlock stretch wholeBlocks acceptsRate modeOf firstOf signature _and_
+    _from_to_ _or_ if_then_else_ kept slot
 stars = refl
 
 pub in-order : map (λ (x : Example). x .gives) order ≡ map (λ (x : Example). x .printed) order
 unfolding answers heardBack byteIn frameDoes heardByte modeByte reactTo settled stepOf allowedIn commandDoes readingDoes work hearing blank eraseOf sumOfBytes
     fixedBits goodOptions isFresh lastBlock optionBytes optionsIn raises released rises security badData dataDoes footerOf goodData isLastPage lengthOf
-    nextPage pageIn pageStored programPage securityData storedReply compared verifyStatus verifyPage framesOf payloads saidOf goodAwaited goodBegun goodCollected goodCore goodPhase
-    goodPlaces goodState verdictOf blankCheck blockErase checksum erasedIn forbidden programming rangeBytes rateSet securityRelease verify order replyBy
-    commandTable fitted readCommand readIn fresh hear heard holding complete counted framed full isFrame payload frames framing fitting judgeOf summed less
-    lessAll sumOf allAre putAt putOf same lowFirst numberAt blockOf blockSize described endsBlock lastOf liesIn pageOf placeIn placeOf rangeOf startsBlock
-    stretch wholeBlocks acceptsRate modeOf firstOf signature _and_ _from_to_ _or_ if_then_else_
+    nextPage pageIn pageStored pageStatus pageWritten toldWritten lands programmed programPage securityData storedReply compared verifyStatus verifyPage
+    framesOf payloads saidOf goodAwaited goodBegun goodCollected goodCore goodPhase goodPlaces goodState verdictOf blankCheck blockErase checksum erasedIn
+    forbidden programming rangeBytes rateSet securityRelease verify order replyBy commandTable fitted readCommand readIn fresh hear heard holding complete
+    counted framed full isFrame payload frames framing fitting judgeOf summed less lessAll sumOf allAre putAt putOf same lowFirst numberAt blockOf blockSize
+    described endsBlock lastOf liesIn pageOf placeIn placeOf rangeOf startsBlock stretch wholeBlocks acceptsRate modeOf firstOf signature _and_ _from_to_ _or_
+    if_then_else_
 in-order = refl
 
 -- The sums of fresh flash are those of the examples.

@@ -4,16 +4,17 @@ use mathlib.Core.Bool.{true}
 use mathlib.Core.List.{List, [], _∷_}
 use mathlib.Core.Logic.{_≢_}
 use mathlib.Core.Path.{_∙_, _≡_, ap, refl, sym}
-use Prim.Native.Nat.{_*_, _+_, _<_, _≤_, ℕ}
+use Prim.Native.Nat.{_*_, _+_, _<_, _≤_, min, ℕ}
 use native.Mathlib.Decide.{decLt, ℕ-discrete}
-use native.Mathlib.Nat.{mul-le-mul-right, suc-mul}
+use native.Mathlib.Nat.{min-le-left, mul-le-mul-right, suc-mul}
 use native.Mathlib.Numerals.{add-one}
 use native.Mathlib.Omega.{arith}
 use lib.ListN.{drop, getD, length, length-drop, length-replicate, length-take, replicate, take}
 use lib.Seq.{ext-getD, getD-drop, getD-take}
 use Rattle.chip.specs.Run.{onward, run}
 use Rattle.chip_core.specs.Effect.{Flash, Memory, bytesIn}
-use Rattle.chip_flash.specs.Flash.{erased, sumOfBytes}
+use Rattle.chip_flash.proofs.Laws.{programmed-long}
+use Rattle.chip_flash.specs.Flash.{erased, programmed, sumOfBytes}
 use Rattle.chip_state.proofs.Laws.{accepts}
 use Rattle.chip_sums.proofs.Laws.{block-bytes}
 use Rattle.chip_sums.specs.Sums.{Right, blockSum, kept, slot, slots}
@@ -25,7 +26,7 @@ use Rattle.claims_sums.proofs.Touched.{only-touched, stands-long}
 use Rattle.claims_sums.proofs.Worked.{fit-accepted, worked-out-right}
 use Rattle.claims_sums.specs.Touched.{AtMostOne, HappenedIn, OthersStay, RunRight, StaysRight, TakenUpRight, Touched, InOneBlock, summedAfresh, touched, untouched}
 use Rattle.claims_sums.specs.Worked.{Fits, NoBlocks}
-use Rattle.part.specs.Part.{blockSize, blocks, described}
+use Rattle.part.specs.Part.{blockSize, blocks, described, pageSize}
 use Rattle.part.specs.declared.Area.{Area}
 use Rattle.part.specs.declared.Area.the-variants.{CodeFlash, DataFlash}
 use Rattle.part.specs.declared.Part.{Part}
@@ -68,6 +69,14 @@ module _ (p : Part) (m n : Flash) (long : (a : Area) → length (bytesIn a n) �
   sum-elsewhere DataFlash at ds block b w CodeFlash d h = sum-same p CodeFlash d m n (rw (b .other))
   sum-elsewhere DataFlash at ds block b w DataFlash d h = sum-same p DataFlash d m n (bytes-elsewhere DataFlash at ds block d b w (h refl))
 
+-- A page is programmed within its block.
+page-in-block : {p : Part} {a : Area} {block : ℕ} (bs : List ℕ) (at : ℕ) (ds : List ℕ) → length ds ≡ pageSize → InOneBlock p a block at (length ds)
+    → InOneBlock p a block at (length (programmed (take pageSize (drop at bs)) ds))
+page-in-block bs at ds l w =
+    let n : length (programmed (take pageSize (drop at bs)) ds) ≡ min pageSize (length (drop at bs)) =
+    programmed-long (take pageSize (drop at bs)) ds ∙ length-take pageSize (drop at bs) in
+    record { from-first = w .from-first; to-last = omega (arith, l, n, min-le-left pageSize (length (drop at bs)), w .to-last) }
+
 change-elsewhere : {p : Part} {m n : Memory} (change : Change p m n) (a : Area) (block : ℕ) → HappenedIn a block change
     → ((b : Area) → length (bytesIn b (n .flash)) ≡ length (bytesIn b (m .flash))) → (c : Area) (d : ℕ) → (c ≡ a → d ≢ block)
     → blockSum p c d (n .flash) ≡ blockSum p c d (m .flash)
@@ -76,8 +85,8 @@ change-elsewhere (nothing e) a block t long c d h = absurd t
 change-elsewhere {p} {m} {n} (oneBlock b at z becomes) a block t long c d h =
     let l : length (replicate (blockSize p b) erased) ≡ blockSize p b = length-replicate {A = ℕ} (blockSize p b) erased in
     sum-elsewhere p (m .flash) (n .flash) long b at _ block becomes (rw l (rw (t .0) (t .1))) c d (λ e. h (e ∙ t .0))
-change-elsewhere {p} {m} {n} (onePage b at ds z l f becomes) a block t long c d h =
-    sum-elsewhere p (m .flash) (n .flash) long b at ds block becomes (rw (t .0) (t .1)) c d (λ e. h (e ∙ t .0))
+change-elsewhere {p} {m} {n} (onePage b at ds z l becomes) a block t long c d h =
+    sum-elsewhere p (m .flash) (n .flash) long b at _ block becomes (page-in-block (bytesIn b (m .flash)) at ds l (rw (t .0) (t .1))) c d (λ e. h (e ∙ t .0))
 
 touched-right : {p : Part} {m n : Memory} → described p ≡ true → ((b : Area) → length (bytesIn b (n .flash)) ≡ length (bytesIn b (m .flash)))
     → Right p m → Touched p m n → Right p n

@@ -10,7 +10,7 @@ use Rattle.chip.specs.declared.Answer.the-variants.{Replied}
 use Rattle.chip.specs.declared.Event.{Event}
 use Rattle.chip.specs.declared.Event.the-variants.{Byte, Gap, PowerOn}
 use Rattle.chip_commands.specs.Commands.{commandDoes, readingDoes, work}
-use Rattle.chip_core.specs.Effect.{Effect, Memory, effect}
+use Rattle.chip_core.specs.Effect.{Effect, Memory, acknowledge, effect, writeError}
 use Rattle.chip_core.specs.Hearing.{hearing}
 use Rattle.chip_core.specs.declared.Awaited.{Awaited}
 use Rattle.chip_core.specs.declared.Core.{Core}
@@ -24,7 +24,7 @@ use Rattle.chip_reply.specs.declared.Reply.{Reply}
 use Rattle.chip_reply.specs.declared.Reply.the-variants.{BadFrame, BadPage, LastStored, Pair, Rate, Security, Signature, Silence, Status, Sum}
 use Rattle.claims_good.proofs.Rooms.{leaves, reactionOf, says-reaction, utteranceOf}
 use Rattle.claims_good.specs.Good.{Utterance}
-use Rattle.claims_sums.proofs.Untouched.{only-stored, refused-erase}
+use Rattle.claims_sums.proofs.Untouched.{only-written, refused-erase}
 use Rattle.claims_sums.specs.Untouched.{SilentLeaves}
 use Rattle.commands.specs.declared.Command.{Command}
 use Rattle.commands.specs.declared.Command.the-variants.{BlankCheck, BlockErase, Checksum, Programming, RateSet, Reset, Verify}
@@ -45,6 +45,9 @@ left-so m d = record { same = λ e. refl }
 stored-said : (w : Awaited) → storedReply w ≡ Silence → ⊥
 unfolding storedReply
 stored-said w = if-all (λ (r : Reply). r ≡ Silence → ⊥) _ (λ t e. let z : _≡_ {A = ℕ} 0 1 = cc in omega arith) (λ t e. let z : _≡_ {A = ℕ} 0 1 = cc in omega arith)
+
+mixed-said : Pair acknowledge writeError ≡ Silence → ⊥
+mixed-said e = let z : _≡_ {A = ℕ} 0 1 = cc in omega arith
 
 module _ (p : Part) (k : Core) (m : Memory) where
   works : (c : Command) → Quiet m (work c p k m)
@@ -72,7 +75,7 @@ module _ (p : Part) (k : Core) (m : Memory) where
   command-does f = if-all (Quiet m) _ (λ t. left-so m _) (λ t. if-all (Quiet m) _ (λ u. left-so m _) (λ u. reading-does _))
 
   data-does : (w : Awaited) (f : List ℕ) → Quiet m (dataDoes p k w f m)
-  data-does w f = record { same = λ e. only-stored p k w f m (λ q. stored-said w (sym q ∙ e)) }
+  data-does w f = record { same = λ e. only-written p k w f m (λ q. stored-said w (sym q ∙ e)) (λ q. mixed-said (sym q ∙ e)) }
 
   heard-does : (hs : List ℕ) (x : Effect) → Quiet m x → Quiet m (heardByte hs x k m .does)
   unfolding heardByte

@@ -8,7 +8,7 @@ use native.Mathlib.Nat.{mul-le-mul-right, suc-mul}
 use native.Mathlib.Numerals.{add-one}
 use native.Mathlib.Omega.{arith}
 use lib.Dec.{eqb}
-use lib.ListN.{length, length-replicate, length-set, replicate}
+use lib.ListN.{drop, length, length-replicate, length-set, replicate, take}
 use lib.Seq.{getD-set-other, getD-set-same}
 use borrow.Author.Tests.{eqb-true, lt-ltb, not-false}
 use Rattle.chip.specs.Step.{Outcome, Reaction, byteIn, frameDoes, heardByte, reactTo}
@@ -22,13 +22,13 @@ use Rattle.chip_core.specs.declared.Core.{Core}
 use Rattle.chip_core.specs.declared.Done.{Done}
 use Rattle.chip_core.specs.declared.Phase.{Phase}
 use Rattle.chip_core.specs.declared.Phase.the-variants.{Awaiting, ModeByte, Ready, Setup}
-use Rattle.chip_flash.specs.Flash.{eraseOf, erased}
-use Rattle.chip_pages.specs.Pages.{dataDoes, goodData, pageIn, pageStored, programPage}
+use Rattle.chip_flash.specs.Flash.{eraseOf, erased, programmed}
+use Rattle.chip_pages.specs.Pages.{dataDoes, goodData, pageIn, pageStored, pageWritten, programPage}
 use Rattle.chip_state.proofs.Laws.{accepts}
 use Rattle.chip_state.specs.Refusals.{goodAwaited, goodPhase, goodState}
 use Rattle.chip_sums.specs.Sums.{blockSum, kept, putSum, resummed, slot, slots}
 use Rattle.chip_work.specs.Work.{blockErase, erasedIn}
-use Rattle.claims_cut.proofs.Cut.{page-long}
+use Rattle.claims_cut.proofs.Cut.{page-long, programmed-page}
 use Rattle.claims_cut.proofs.Put.{put-becomes}
 use Rattle.claims_cut.specs.Cut.{Change, oneBlock, onePage}
 use Rattle.claims_good.proofs.Awaited.{good-walk}
@@ -149,18 +149,18 @@ module _ (p : Part) (k : Core) (m : Memory) (part : described p ≡ true) (long 
 
   programs : (w : Awaited) (at : ℕ) (a : Area) (offset block page : ℕ) (ds : List ℕ) → Spot p at a offset block page → offset % pageSize ≡ 0
       → length ds ≡ 256 → Does p m (programPage p k w (In a offset block page) ds m)
-  unfolding programPage pageIn pageStored HappenedIn
+  unfolding programPage pageWritten pageIn pageStored HappenedIn
   programs w at a offset block page ds s z n =
-      if-all (Does p m) _ (λ t. stays-so m _)
-      (λ t.
+      let old = take pageSize (drop offset (bytesIn a (m .flash))) in
       let i : InOneBlock p a block offset 256 = page-within s z in
-      let j : InOneBlock p a block offset (length ds) = rw n i in
+      let h : offset + 256 ≤ length (bytesIn a (m .flash)) = omega (arith, long a, within-area i (s .block-below)) in
+      let l : length (programmed old ds) ≡ 256 = programmed-page offset (bytesIn a (m .flash)) ds h in
       record {
         does =
             renews a offset block page _ (s .block-below)
-            (onePage a offset ds z n (not-false _ t) (put-becomes a offset ds (m .flash) (omega (arith, long a, within-area j (s .block-below)))))
-            (refl, j);
-      })
+            (onePage a offset ds z n (put-becomes a offset (programmed old ds) (m .flash) (omega arith)))
+            (refl, rw n i);
+      }
 
   module _ (w : Awaited) (awaited : goodAwaited p w ≡ true) where
     page-does : eqb (w .command) 0xA0 ≡ false → (ds : List ℕ) → length ds ≡ 256 → Does p m (programPage p k w (placeOf p (w .next)) ds m)

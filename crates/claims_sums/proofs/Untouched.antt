@@ -7,16 +7,17 @@ use Prim.Native.Nat.{ℕ}
 use borrow.Author.Tests.{eqb-true}
 use Rattle.chip.specs.Step.{Outcome, Reaction, reactTo, settled, stepOf}
 use Rattle.chip_commands.specs.Commands.{work}
-use Rattle.chip_core.specs.Effect.{Effect, Memory, acknowledge, effect}
+use Rattle.chip_core.specs.Effect.{Effect, Memory, acknowledge, effect, writeError}
 use Rattle.chip_core.specs.declared.Awaited.{Awaited}
 use Rattle.chip_core.specs.declared.Core.{Core}
 use Rattle.chip_core.specs.declared.Done.{Done}
-use Rattle.chip_pages.specs.Pages.{dataDoes, goodData, programPage, storedReply}
+use Rattle.chip_pages.proofs.Laws.{told-either}
+use Rattle.chip_pages.specs.Pages.{dataDoes, goodData, pageIn, pageWritten, programPage, storedReply}
 use Rattle.chip_reply.specs.declared.Reply.{Reply}
-use Rattle.chip_reply.specs.declared.Reply.the-variants.{Status}
+use Rattle.chip_reply.specs.declared.Reply.the-variants.{Pair, Status}
 use Rattle.chip_work.specs.Work.{blockErase}
 use Rattle.claims_good.specs.Good.{verdictIn}
-use Rattle.claims_sums.specs.Untouched.{GapLeaves, OnlyErasing, OnlyProgramming, OnlyStored, PowerOnLeaves, RefusedCallLeaves, RefusedErase}
+use Rattle.claims_sums.specs.Untouched.{GapLeaves, OnlyErasing, OnlyProgramming, OnlyWritten, PowerOnLeaves, RefusedCallLeaves, RefusedErase}
 use Rattle.commands.specs.declared.Command.the-variants.{BlankCheck, BlockErase, Checksum, Programming, RateSet, Reset, Verify}
 use Rattle.commands.specs.declared.Command.the-variants.{SecurityGet, SecurityRelease, SecuritySet, SignatureGet}
 use Rattle.part.specs.Part.{placeOf}
@@ -58,19 +59,28 @@ pub refused-erase : RefusedErase
 unfolding work
 refused-erase start p k m n = erase-unless p k (placeOf p start) m .same n
 
-page-unless : (p : Part) (k : Core) (w : Awaited) (x : Place) (ds : List ℕ) (m : Memory) → Unless (storedReply w) m (programPage p k w x ds m)
+-- Memory is as it was, or the reply is one of a page that was written.
+record Unwritten (w : Awaited) (m : Memory) (x : Effect) : Type 0 where
+  same : x .reply ≢ storedReply w → x .reply ≢ Pair acknowledge writeError → x .memory ≡ m
+
+not-written : {w : Awaited} (m : Memory) (d : Done) → Unwritten w m (effect d m)
+not-written m d = record { same = λ n q. refl }
+
+page-unwritten : (p : Part) (k : Core) (w : Awaited) (x : Place) (ds : List ℕ) (m : Memory) → Unwritten w m (programPage p k w x ds m)
 unfolding programPage
-page-unless p k w x ds m = if-all (Unless (storedReply w) m) _ (λ t. left-so m _) (λ t. record { same = λ n. absurd (n refl) })
+page-unwritten p k w x ds m =
+    told-either (λ (d : Awaited → Core → Done). Unwritten w m (effect (d w k) (pageWritten p x ds m))) (pageIn x (m .flash)) ds (λ t. record { same = λ n q. absurd (n refl) })
+    (λ t. record { same = λ n q. absurd (q refl) })
 
-data-unless : (p : Part) (k : Core) (w : Awaited) (f : List ℕ) (m : Memory) → Unless (storedReply w) m (dataDoes p k w f m)
+data-unwritten : (p : Part) (k : Core) (w : Awaited) (f : List ℕ) (m : Memory) → Unwritten w m (dataDoes p k w f m)
 unfolding dataDoes goodData
-data-unless p k w f m =
-    if-all (Unless (storedReply w) m) _ (λ t. left-so m _)
-    (λ t. if-all (Unless (storedReply w) m) _ (λ u. left-so m _)
-    (λ u. if-all (Unless (storedReply w) m) _ (λ v. page-unless p k w _ _ m) (λ v. left-so m _)))
+data-unwritten p k w f m =
+    if-all (Unwritten w m) _ (λ t. not-written m _)
+    (λ t. if-all (Unwritten w m) _ (λ u. not-written m _)
+    (λ u. if-all (Unwritten w m) _ (λ v. page-unwritten p k w _ _ m) (λ v. not-written m _)))
 
-pub only-stored : OnlyStored
-only-stored p k w f m n = data-unless p k w f m .same n
+pub only-written : OnlyWritten
+only-written p k w f m n q = data-unwritten p k w f m .same n q
 
 record Same (m : Memory) (x : Effect) : Type 0 where
   same : x .memory ≡ m

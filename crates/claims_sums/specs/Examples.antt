@@ -8,13 +8,15 @@ use Rattle.chip.specs.Run.{before, run}
 use Rattle.chip.specs.Step.{Outcome}
 use Rattle.chip.specs.declared.Event.{Event}
 use Rattle.chip.specs.declared.Event.the-variants.{Byte, Gap, PowerOn}
-use Rattle.chip_core.specs.Effect.{flash}
+use Rattle.chip_core.specs.Effect.{Effect, Memory, flash, memory}
 use Rattle.chip_core.specs.declared.Awaited.{Awaited}
 use Rattle.chip_pages.specs.Pages.{dataDoes}
+use Rattle.chip_reply.specs.declared.Reply.the-variants.{Pair}
 use Rattle.chip_sums.specs.Sums.{slot, summing, workedOut}
 use Rattle.claims_stars.specs.Table.{eraseForbidden, freshSums, readyChip, thePart}
 use Rattle.frame.specs.Frame.{dataFrame}
 use Rattle.frame.specs.declared.Footer.the-variants.{More}
+use Rattle.lent.specs.Lent.{putAt}
 use Rattle.part.specs.declared.Area.the-variants.{CodeFlash, DataFlash}
 use Rattle.part.specs.declared.Part.{Part}
 use Rattle.part.specs.declared.refusal.Refusal.the-variants.{BadPart, CodeLength, DataLength}
@@ -54,6 +56,13 @@ pageInBlockTwo = record { command = 0x40; next = 0x0900; last = 0x0BFF; differed
 abbrev pub sumsWithPage : List ℕ
 sumsWithPage = dataDoes thePart (readyChip .chip .core) pageInBlockTwo (dataFrame (replicate 256 0xAA) More) (withSpoiled readyChip .memory) .memory .sums
 
+-- The same page where 0900h to 09FFh hold 55h: AAh AND 55h is 00h, so it is answered 1Ch, and the sum follows: 0000h less 768 times FFh.
+abbrev pub withOldPage : Memory
+withOldPage = memory (putAt (readyChip .memory .flash .codeFlash) 0x0900 (replicate 256 0x55)) (readyChip .memory .flash .dataFlash) spoiledSums
+
+abbrev pub pageOver : Effect
+pageOver = dataDoes thePart (readyChip .chip .core) pageInBlockTwo (dataFrame (replicate 256 0xAA) More) withOldPage
+
 pub record Spoiled : Type 0 where
   pub other-block : sumsAfter readyChip eraseThree ≡ spoiledSums
   pub bad-frame : sumsAfter readyChip badErase ≡ spoiledSums
@@ -61,6 +70,8 @@ pub record Spoiled : Type 0 where
   pub gap-and-power-on : sumsAfter readyChip (Gap ∷ PowerOn ∷ []) ≡ spoiledSums
   pub own-block : sumsAfter readyChip eraseTwo ≡ set spoiledSums 2 0x0400
   pub page : sumsWithPage ≡ set spoiledSums 2 0x5900
+  pub mixed-status : pageOver .reply ≡ Pair 0x06 0x1C
+  pub mixed-page : pageOver .memory .sums ≡ set spoiledSums 2 0x0300
   pub taken-up : workedOut thePart (readyChip .memory .flash) spoiledSums ≡ summing Accepted (set spoiledSums 2 0x0400)
 
 -- "Order for the chip: 1, 2, 3, ..": the call that works all sums out refuses by the first that holds, and leaves every slot.

@@ -26,9 +26,9 @@ pub record InOneBlock (p : Part) (a : Area) (block at count : ℕ) : Type 0 wher
 unfoldable pub HappenedIn : Area → ℕ → {p : Part} {m n : Memory} → Change p m n → Type 0
 HappenedIn a block (nothing same) = ⊥
 HappenedIn a block {p} (oneBlock c at starts becomes) = (c ≡ a) × InOneBlock p a block at (blockSize p a)
-HappenedIn a block {p} (onePage c at ds starts long blank becomes) = (c ≡ a) × InOneBlock p a block at (length ds)
+HappenedIn a block {p} (onePage c at ds starts long becomes) = (c ≡ a) × InOneBlock p a block at (length ds)
 
--- A block of the part was erased, or one of its pages stored. Its sum is worked out afresh; every other slot is as it was.
+-- A block of the part was erased, or one of its pages programmed. Its sum is worked out afresh; every other slot is as it was.
 pub record Touched (p : Part) (m n : Memory) : Type 0 where
   pub area : Area
   pub block : ℕ

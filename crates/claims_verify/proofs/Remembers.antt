@@ -21,6 +21,7 @@ use Rattle.chip_core.specs.declared.Hearing.{Hearing}
 use Rattle.chip_core.specs.declared.Hearing.the-variants.{HearsCommands, HearsData, HearsNothing}
 use Rattle.chip_core.specs.declared.Phase.{Phase}
 use Rattle.chip_core.specs.declared.Phase.the-variants.{Awaiting, ModeByte, Ready, Setup}
+use Rattle.chip_pages.proofs.Laws.{told-either}
 use Rattle.chip_pages.specs.Pages.{badData, compared, dataDoes, goodData, nextPage, pageAfter, pageIn, programPage, securityData, verifyPage}
 use Rattle.chip_state.specs.Refusals.{goodAwaited}
 use Rattle.chip_work.specs.Work.{blankCheck, blockErase, checksum, programming, rateSet, securityRelease, verify}
@@ -146,12 +147,17 @@ module _ (p : Part) (k : Core) (w : Awaited) (g : List ℕ) (m : Memory) (good :
   unfolding nextPage
   next-page u h = if-both (λ (c : Core). Continues p w g m (c .phase)) _ (over refl) h
 
+  written : w .command ≡ 0x40 → (at : Place) (ds : List ℕ) → Does-continue (programPage p k w at ds m)
+  unfolding programPage
+  written c at ds =
+      told-either (λ (d : Awaited → Core → Done). Done-continues (d w k)) (pageIn at (m .flash)) ds (λ t. next-page w (stores c refl)) (λ t. over refl)
+
   data-continues : Does-continue (dataDoes p k w g m)
-  unfolding dataDoes goodData badData programPage verifyPage goodFor
+  unfolding dataDoes goodData badData verifyPage goodFor
   data-continues =
       if-all Does-continue _ (λ t. if-both Done-continues _ (over refl) (over refl))
       (λ t. if-all Does-continue _ (λ u. secures)
-      (λ u. if-all Does-continue _ (λ x. if-both Does-continue _ (over refl) (next-page w (stores (eqb-true _ _ x) refl)))
+      (λ u. if-all Does-continue _ (λ x. written (eqb-true _ _ x) (placeOf p (w .next)) (payload g))
       (λ x. next-page _ (compares (other-command (w .command) (good-walk p w good u .command) x) (not-false _ t) refl))))
 
 -- An event that completes no frame leaves data awaited as it was.

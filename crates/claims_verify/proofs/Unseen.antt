@@ -15,9 +15,11 @@ use Rattle.chip_core.specs.Effect.{Effect, Memory, acknowledge, effect, entered
 use Rattle.chip_core.specs.Hearing.{hearing}
 use Rattle.chip_core.specs.declared.Awaited.{Awaited}
 use Rattle.chip_core.specs.declared.Core.{Core}
+use Rattle.chip_core.specs.declared.Done.{Done}
 use Rattle.chip_core.specs.declared.Phase.{Phase}
 use Rattle.chip_core.specs.declared.Phase.the-variants.{Awaiting, ModeByte, Ready, Setup}
-use Rattle.chip_pages.specs.Pages.{badData, dataDoes, footerOf, goodData, isLastPage, lengthOf, nextPage, pageAfter, programPage, ready, securityData, storedReply}
+use Rattle.chip_pages.proofs.Laws.{told-either}
+use Rattle.chip_pages.specs.Pages.{badData, dataDoes, footerOf, goodData, isLastPage, lengthOf, nextPage, pageAfter, pageIn, pageWritten, programPage, ready, securityData, storedReply}
 use Rattle.chip_reply.specs.declared.Reply.{Reply}
 use Rattle.chip_reply.specs.declared.Reply.the-variants.{LastStored, Pair}
 use Rattle.chip_state.specs.Refusals.{goodAwaited, goodCollected, goodCore, goodPhase, goodState, verdictOf}
@@ -29,10 +31,11 @@ use Rattle.claims_verify.proofs.Remembers.{other-command, same-awaited}
 use Rattle.claims_verify.proofs.Told.{good-awaited}
 use Rattle.claims_verify.specs.Remembers.{NeverLookedAt, NoNewRefusal, NotLookedAt, remembering, withDifference}
 use Rattle.frame.specs.Collector.{hear, heard}
-use Rattle.frame.specs.Frame.{complete}
+use Rattle.frame.specs.Frame.{complete, payload}
 use Rattle.frame.specs.declared.Header.the-variants.{Data}
-use Rattle.part.specs.Part.{pageSize}
+use Rattle.part.specs.Part.{pageSize, placeOf}
 use Rattle.part.specs.declared.Part.{Part}
+use Rattle.part.specs.declared.Place.{Place}
 use Rattle.part.specs.declared.refusal.Verdict.the-variants.{Accepted}
 use Rattle.words.specs.Words.{if_then_else_}
 
@@ -82,12 +85,19 @@ module _ (p : Part) (k : Core) (d : Bool) (w : Awaited) (c : w .command ≢ 0x13
       go true = equal refl
       go false = apart (pageAfter w) refl c refl
 
+  written-like : (at : Place) (ds : List ℕ) → Like d (programPage p (recallingCore d w k) (recalling d w) at ds m) (programPage p k w at ds m)
+  unfolding programPage
+  written-like at ds =
+      told-either
+      (λ (e : Awaited → Core → Done). Like d (effect (e (recalling d w) (recallingCore d w k)) (pageWritten p at ds m)) (effect (e w k) (pageWritten p at ds m)))
+      (pageIn at (m .flash)) ds (λ t. stores-like _) (λ t. equal refl)
+
   data-like : (f : List ℕ) → goodAwaited p w ≡ true → Like d (dataDoes p (recallingCore d w k) (recalling d w) f m) (dataDoes p k w f m)
-  unfolding dataDoes goodData badData securityData programPage lengthOf footerOf isLastPage
+  unfolding dataDoes goodData badData securityData lengthOf footerOf isLastPage
   data-like f good =
       like-if _ (λ t. equal refl)
       (λ t. like-if _ (λ u. equal refl)
-      (λ u. like-if _ (λ x. like-if _ (λ y. equal refl) (λ y. stores-like _))
+      (λ u. like-if _ (λ x. written-like (placeOf p (w .next)) (payload f))
       (λ x. absurd (c (other-command (w .command) (good-walk p w good u .command) x)))))
 
 -- The same of reactions, from a record k that awaits w.

@@ -32,18 +32,18 @@ use Rattle.chip_commands.specs.Commands.{allowedIn, commandDoes, readingDoes, w
 use Rattle.commands.specs.Commands.{commandTable, fitted, readCommand, readIn}
 use Rattle.chip_work.specs.Work.{blockErase, forbidden, programming}
 use Rattle.chip_core.specs.Hearing.{hearing}
-use Rattle.chip_pages.specs.Pages.{badData, dataDoes, footerOf, goodData, isLastPage, lengthOf, nextPage, pageIn, pageStored, programPage, storedReply}
+use Rattle.chip_pages.specs.Pages.{badData, dataDoes, footerOf, goodData, isLastPage, lengthOf, nextPage, pageIn, pageStatus, pageStored, pageWritten, programPage, storedReply, toldWritten}
 use Rattle.chip_core.specs.Effect.{Memory}
 use Rattle.chip_core.specs.declared.Awaited.{Awaited}
 use Rattle.chip_core.specs.declared.Core.{Core}
 use Rattle.chip_core.specs.declared.Phase.the-variants.{Awaiting, Ready}
 use Rattle.chip_sums.specs.Sums.{resummed}
-use Rattle.chip_flash.specs.Flash.{blank}
+use Rattle.chip_flash.specs.Flash.{blank, lands, programmed}
 use Rattle.frame.specs.Collector.{fresh, hear, heard, holding}
 use Rattle.frame.specs.Frame.{complete, counted, framed, full, isFrame, payload}
 use Rattle.frame.specs.Judgement.{fitting, judgeOf, summed}
 use Rattle.frame.specs.Sum.{less, lessAll, sumOf}
-use Rattle.lent.specs.Lent.{allAre, putAt, putOf}
+use Rattle.lent.specs.Lent.{allAre, putAt, putOf, same}
 use Rattle.chip_options.specs.Options.{fixedBits, freshOptions, goodOptions, lastBlock}
 use Rattle.part.specs.Part.{blockOf, blockSize, described, endsBlock, liesIn, pageOf, placeIn, placeOf, rangeOf, startsBlock, stretch, wholeBlocks}
 use Rattle.part.specs.Refusal.{firstOf}
@@ -145,12 +145,11 @@ record Computed : Type 0 where
 
 computed : Computed
 unfolding firstStatus orElse saysBy runBy byteIn frameDoes heardByte reactTo settled stepOf allowedIn commandDoes readingDoes work hearing blank fixedBits
-    freshOptions goodOptions lastBlock badData dataDoes footerOf goodData isLastPage lengthOf
-    nextPage pageIn pageStored programPage resummed storedReply framesOf payloads saidOf goodAwaited goodBegun goodCollected goodCore goodPhase
-    goodPlaces goodState verdictOf blockErase forbidden programming
-    commandTable fitted readCommand readIn fresh hear heard holding complete counted framed full isFrame payload fitting judgeOf summed less
-    lessAll sumOf allAre putAt putOf lowFirst numberAt blockOf blockSize described endsBlock liesIn pageOf placeIn placeOf rangeOf startsBlock
-    stretch wholeBlocks firstOf _and_ _from_to_ _or_ if_then_else_
+    freshOptions goodOptions lastBlock badData dataDoes footerOf goodData isLastPage lengthOf nextPage pageIn pageStored pageStatus pageWritten toldWritten
+    lands programmed same programPage resummed storedReply framesOf payloads saidOf goodAwaited goodBegun goodCollected goodCore goodPhase goodPlaces
+    goodState verdictOf blockErase forbidden programming commandTable fitted readCommand readIn fresh hear heard holding complete counted framed full isFrame
+    payload fitting judgeOf summed less lessAll sumOf allAre putAt putOf lowFirst numberAt blockOf blockSize described endsBlock liesIn pageOf placeIn placeOf
+    rangeOf startsBlock stretch wholeBlocks firstOf _and_ _from_to_ _or_ if_then_else_
 computed = record { reset-says = refl; erase-says = refl; first-page = refl; second-page = refl }
 
 pub says-15h-differs : Says15hDiffers

@@ -11,6 +11,7 @@ use lib.Dec.{eqb}
 use lib.ListN.{drop, drop-of-length-le, getD, length, length-append, length-drop, length-take, replicate, set, take}
 use lib.Seq.{append-snoc, drop-append-add, drop-cons, drop-drop, drop-length, length-take-le, set-append-seam, take-all, take-append-seam, take-length, take-nil}
 use borrow.Author.Tests.{eq-eqb, eqb-true, le-leb, lt-leb}
+use native.Mathlib.Nat.{add-zero}
 use Rattle.lent.specs.Lent.{Left, allAre, left, putAt, putOf, same}
 use Rattle.lent.specs.declared.Room.{Room}
 use Rattle.lent.specs.declared.Room.the-variants.{Enough, Short}
@@ -35,6 +36,15 @@ put-long {a} {d} l at s e = go (decLe (at + length s) (length l))
         ap (λ (x : Left). length (x .bytes)) (e ∙ put-lands l at s h)
         ∙ rw (length-append, length-append, length-drop, length-take-le at l (omega arith)) (omega arith)
     go (no h) = ap (λ (x : Left). length (x .bytes)) (e ∙ sym (put-short l at s (omega arith)))
+
+-- Nothing put at the end or past it.
+pub put-nothing : (l : List ℕ) (at : ℕ) → length l ≤ at → l ≡ putOf l at [] .bytes
+unfolding putAt
+put-nothing l at h = go (decLe (at + 0) (length l))
+  where
+    go : Dec (at + 0 ≤ length l) → l ≡ putOf l at [] .bytes
+    go (yes k) = rw (put-lands l at [] k, add-zero, take-all at l h, drop-of-length-le l h, append-nil, append-nil)
+    go (no k) = ap (λ (x : Left). x .bytes) (put-short l at [] (omega arith))
 
 -- A part of n bytes from at on, lent and changed to t, comes back in this form.
 pub part-put : (l : List ℕ) (at n : ℕ) (t : List ℕ) → at + n ≤ length l → length t ≡ n → left Enough (take at l ++ (t ++ drop n (drop at l))) ≡ putOf l at t

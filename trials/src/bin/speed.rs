@@ -1,6 +1,7 @@
 //! The proved chip, dock and conversions against the twin, in one process and on the same bytes: ratios of the least of several runs each. Replay is also set
-//! beside a control, which works the SUM of what it has collected out anew at every byte (02 §3), and the new form of its records beside the old (02 §5). After
-//! every turn all have said the same bytes and hold the same flash, kept sums and state.
+//! beside a control, which works the SUM of what it has collected out anew at every byte (02 §3), and the new form of its records beside the old (02 §5). Pages are
+//! stored over blank flash, sent again, and written over what makes them 1Ch (02 §6). After every turn all have said the same bytes and hold the same flash, kept
+//! sums and state.
 
 use std::hint::black_box;
 use std::iter;
@@ -13,7 +14,7 @@ use trials::traffic::{
     capture, carried_bytes, in_new_form, of_two_seats, opening, page, page_frames, traffic,
 };
 use twin::capture::{convert, judge_record, Form, CARRIED, PLAYED_SEAT};
-use twin::chip::{step, Answer, Chip, Event, ACK, ERASED, NACK, PROGRAM, RESET};
+use twin::chip::{step, Answer, Chip, Event, ACK, ERASED, NACK, NOT_WRITTEN, PROGRAM, RESET};
 use twin::dock;
 use twin::frame::{sum, LAST_FOOTER, MORE_FOOTER};
 use twin::part::{Area, Part};
@@ -252,22 +253,25 @@ fn door_feed(fed: &[u8]) -> Said {
     from_door(door, said)
 }
 
-/// The pages, stored again and again: the caller has erased the flash each time, so that no 22h is timed.
-fn door_pages(pages: &[u8]) -> Said {
+/// What lies in code flash before the pages of each round, put there by the caller, so that no 22h is timed.
+type Lay<'a> = &'a dyn Fn(&mut [u8]);
+
+/// The pages, written again and again.
+fn door_pages(lay: Lay, pages: &[u8]) -> Said {
     let (mut door, mut said) = (Door::fresh(&replay_part()), Vec::new());
     feed(&mut door, &opening(), &mut said);
     for _ in 0..STORES {
-        door.code.fill(ERASED);
+        lay(&mut door.code);
         feed(&mut door, pages, &mut said);
     }
     from_door(door, said)
 }
 
-fn twin_pages(pages: &[u8]) -> Said {
+fn twin_pages(lay: Lay, pages: &[u8]) -> Said {
     let (mut player, mut said) = (Player::fresh(), Vec::new());
     twin_hears(&mut player, &opening(), &mut said);
     for _ in 0..STORES {
-        player.code.fill(ERASED);
+        lay(&mut player.code);
         twin_hears(&mut player, pages, &mut said);
     }
     from_twin(player, said)
@@ -675,6 +679,57 @@ fn form_rows() {
     row("new to old (zc_to_old)", units, each, &new, RUNS);
 }
 
+/// So many pages over code flash that is laid so. Each round is answered with what is due, and nothing else is said after the 9Ah's answer.
+fn page_row(name: &str, lay: Lay, pages: usize, sent: &[u8], due: &[u8]) {
+    let rate = data_frame(&[ACK, replay_part().clock as u8, 0x00], LAST_FOOTER);
+    let expected = [rate, due.repeat(STORES)].concat();
+    assert!(
+        door_pages(lay, sent).bytes == expected,
+        "{name}: another answer"
+    );
+    let each: [Run; 2] = [&|sent| door_pages(lay, sent), &|sent| twin_pages(lay, sent)];
+    row(name, (STORES * pages, "page"), each, sent, RUNS);
+}
+
+/// All code flash written with the pages: each is answered 06h 06h, and the last has its further 06h.
+fn stored_row(name: &str, lay: Lay) {
+    let pages_of_all = replay_part().size(Area::Code) / replay_part().page_size();
+    let status = |statuses: &[u8]| data_frame(statuses, LAST_FOOTER);
+    let (one, pair) = (status(&[ACK]), status(&[ACK, ACK]).repeat(pages_of_all));
+    let due = [&one[..], &pair, &one].concat();
+    page_row(name, lay, pages_of_all, &pages(), &due);
+}
+
+/// Pages over pages: the first page of each block, with a 40h of its own, 1Ch with mixed bytes; and the same pages again, 06h. The 1Ch comes first, since it is the
+/// answer also where 40h asks for blank flash, as document 01 had it; there the other row ends the program.
+fn write_over_rows() {
+    let part = replay_part();
+    let (blocks, size) = (part.blocks(Area::Code), part.block_size(Area::Code));
+    let answers = [&[ACK][..], &[ACK, NOT_WRITTEN]].map(|said| data_frame(said, LAST_FOOTER));
+    let sent: Vec<u8> = (0..blocks)
+        .flat_map(|block| {
+            let range = range_body(PROGRAM, block * size, part.end(Area::Code) - 1);
+            let first = data_frame(&page(0, block, 0), MORE_FOOTER);
+            [command_frame(&range), first].concat()
+        })
+        .collect();
+    // Each of the pages has 1 bits where 5Ah has none.
+    page_row(
+        "a 40h and a page answered 1Ch (zc_feed)",
+        &|code| code.fill(0x5A),
+        blocks,
+        &sent,
+        &answers.concat().repeat(blocks),
+    );
+    let per_block = part.pages_of_block(Area::Code);
+    let held: Vec<u8> = (0..blocks * per_block)
+        .flat_map(|at| page(0, at / per_block, at % per_block))
+        .collect();
+    stored_row("the same page again (zc_feed)", &|code| {
+        code.copy_from_slice(&held)
+    });
+}
+
 fn main() {
     let bytes = traffic(10);
     let n = bytes.len();
@@ -712,16 +767,9 @@ fn main() {
     for (name, unit, each) in rows {
         row(name, (n, unit), each, &bytes, RUNS);
     }
-    row(
-        "a page stored (zc_feed), twin a byte at a time",
-        (
-            STORES * replay_part().size(Area::Code) / replay_part().page_size(),
-            "page",
-        ),
-        [&door_pages, &twin_pages],
-        &pages(),
-        RUNS,
-    );
+    stored_row("a page stored (zc_feed), twin a byte at a time", &|code| {
+        code.fill(ERASED)
+    });
     let few = replay_rows();
     form_rows();
     let large = capture(page_frames(), CARRIED, 1_000_000);
@@ -745,4 +793,5 @@ fn main() {
         &[],
         RUNS,
     );
+    write_over_rows();
 }

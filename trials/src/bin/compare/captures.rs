@@ -5,8 +5,8 @@
 use trials::chip::{described, layout, DIFFERED};
 use trials::door::{self, Played, BAD_RECORD, OUTPUT, OUTPUT_FULL, OUTPUT_NEW, ROOM, STATE, SUMS};
 use twin::capture::{judge_record, Form, PLAYED_SEAT};
-use twin::chip::{step, Answer};
-use twin::random::{random_capture, Generator};
+use twin::chip::{step, Answer, ACK, NOT_WRITTEN};
+use twin::random::{random_capture, statuses, Generator};
 use twin::replay::{events, hex_line, Player};
 use twin::sums::Sums;
 
@@ -161,6 +161,9 @@ impl Twin {
                     ..
                 } = answer
                 {
+                    if more > 0 && statuses(&self.room[..bytes]) == [ACK, NOT_WRITTEN] {
+                        coverage.count(&format!("{name}, page answered 1Ch"));
+                    }
                     said.extend_from_slice(&self.room[..bytes]);
                     frames += more as u64;
                 }
@@ -296,6 +299,7 @@ pub fn table(coverage: &Coverage) -> Vec<String> {
         "output full",
         "output full before any record",
         "output full after a difference",
+        "page answered 1Ch",
     ];
     let rows = [
         row("zc_replay", &ends),

@@ -1,11 +1,11 @@
 //! The chip: the twin, the proved chip by single events and the proved chip by stretches (zc_feed), given the same; after every event the answer, the fault told
 //! and its place, the whole room, the 294 bytes of state with the options among them, all code and data flash and the 72 kept sums are compared (01 "Frames" to
-//! "Refusal numbers", 02 §1, §2, §4).
+//! "Refusal numbers", 02 §1, §2, §4, §6).
 
 use trials::chip::{described, fault_numbers, layout, DIFFERED};
 use trials::door::{self, Told, ROOM, STATE, UNTOLD};
 use twin::capture::Form;
-use twin::chip::{step, Answer, Chip, Event, Phase};
+use twin::chip::{step, Answer, Chip, Event, Phase, PROGRAM};
 use twin::frame::{counted, LONGEST};
 use twin::part::{Area, Part};
 use twin::random::{statuses, Generator};
@@ -39,6 +39,8 @@ pub struct Trio<'a> {
     pub coverage: &'a mut Coverage,
     pub events: u64,
     pub calls_refused: u64,
+    /// Whether the last event was answered 1Ch.
+    pub after_1c: bool,
     phases: [u64; 6],
     fill: u8,
 }
@@ -85,6 +87,7 @@ impl<'a> Trio<'a> {
             coverage,
             events: 0,
             calls_refused: 0,
+            after_1c: false,
             phases: [0; 6],
             fill: 0xA5,
         };
@@ -97,6 +100,7 @@ impl<'a> Trio<'a> {
         self.stepped.state = layout(&chip);
         self.fed.state = self.stepped.state;
         self.twin.state = chip;
+        self.after_1c = false;
     }
 
     /// Another flash on all sides; the sums stay as they are.
@@ -206,6 +210,16 @@ impl<'a> Trio<'a> {
         let before = self.stepped.state;
         let phase = self.twin.state.phase;
         let wrong = self.may_answer(event).then(|| self.wrong_sums());
+        let old = match phase {
+            Phase::Awaiting {
+                command: PROGRAM,
+                next,
+                ..
+            } if wrong.is_some() => {
+                script::held(&self.part, next, &self.twin.code, &self.twin.data).to_vec()
+            }
+            _ => Vec::new(),
+        };
         let mut room_twin = [self.fill; LONG_ROOM];
         let mut room_proved = room_twin;
         let answer = step(
@@ -268,7 +282,9 @@ impl<'a> Trio<'a> {
         if let Some(wrong) = wrong {
             let Trio { part, coverage, .. } = self;
             sums::count(coverage, part, &wrong, event, phase, &before, &said);
+            self.count_page(phase, &old, &wrong, &before, &said);
         }
+        self.count_next(event, &said);
         self.count_difference(event, phase, &before, &said);
         Ok((told, room_proved))
     }

@@ -1,6 +1,6 @@
 //! Directed events: every COM with every fault of a frame in every phase, every pair of edge addresses, every page, one byte amiss in every place of a page,
 //! every flag byte and every window edge for A0h, protection by every flag byte that the chip accepts, every block's kept sum, every set of faults of a refused
-//! call (01 "Frames", "Phases", "Commands", "Refusal numbers", 02 §1), what 13h tells late (02 §2), and every fault at every place (02 §4).
+//! call (01 "Frames", "Phases", "Commands", "Refusal numbers", 02 §1), what 13h tells late (02 §2), every fault at every place (02 §4), and pages over pages (02 §6).
 
 use twin::chip::{
     Chip, Event, Phase, BLANK_CHECK, BLOCK_ERASE, CHECKSUM, ERASED, PROGRAM, SECURITY_RELEASE,
@@ -16,6 +16,7 @@ use crate::coverage::Coverage;
 use crate::faults;
 use crate::late;
 use crate::script;
+use crate::write_over;
 
 fn parts() -> [Part; 3] {
     [(8, 0, 1), (16, 4, 32), (64, 8, 20)].map(|(code_blocks, data_blocks, clock)| Part {
@@ -44,6 +45,7 @@ pub fn run(coverage: &mut Coverage) -> Result<(u64, u64), Difference> {
         every_refusal(&mut trio, &mut choice)?;
         late::run(&mut trio, &mut choice)?;
         faults::run(&mut trio)?;
+        write_over::run(&mut trio, &mut choice)?;
         let (events, refused) = trio.finish();
         counts = (counts.0 + events, counts.1 + refused);
     }
@@ -57,7 +59,7 @@ pub fn standing(trio: &Trio, phase: Phase) -> Chip {
 }
 
 /// Phase 4 with no difference met.
-fn awaiting(command: u8, next: usize, last: usize) -> Phase {
+pub fn awaiting(command: u8, next: usize, last: usize) -> Phase {
     Phase::Awaiting {
         command,
         next,

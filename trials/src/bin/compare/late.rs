@@ -32,7 +32,7 @@ pub fn run(trio: &mut Trio, choice: &mut Generator) -> Result<(), Difference> {
 }
 
 /// Another flash on all sides, so many percent of its blocks not blank.
-fn flash(trio: &mut Trio, choice: &mut Generator, filled: usize) {
+pub fn flash(trio: &mut Trio, choice: &mut Generator, filled: usize) {
     let part = trio.part.clone();
     trio.hand_in_flash(
         script::flash(choice, filled, &part, Area::Code),
@@ -51,14 +51,14 @@ fn differed(command: u8, next: usize, last: usize) -> Phase {
 }
 
 /// The range of a 13h or a 40h.
-struct Pages {
-    start: usize,
-    count: usize,
-    size: usize,
+pub struct Pages {
+    pub start: usize,
+    pub count: usize,
+    pub size: usize,
 }
 
 impl Pages {
-    fn of_last_block(part: &Part, area: Area) -> Pages {
+    pub fn of_last_block(part: &Part, area: Area) -> Pages {
         Pages {
             start: part.end(area) - part.block_size(area),
             count: part.pages_of_block(area),
@@ -66,20 +66,20 @@ impl Pages {
         }
     }
 
-    fn next(&self, number: usize) -> usize {
+    pub fn next(&self, number: usize) -> usize {
         self.start + number * self.size
     }
 
-    fn last(&self) -> usize {
+    pub fn last(&self) -> usize {
         self.next(self.count) - 1
     }
 
-    fn command(&self, command: u8) -> Vec<u8> {
+    pub fn command(&self, command: u8) -> Vec<u8> {
         command_frame(&range_body(command, self.start, self.last()))
     }
 
     /// The frame of a page: what flash holds there, or all of it but one bit.
-    fn frame(&self, trio: &Trio, number: usize, differs: bool) -> Vec<u8> {
+    pub fn frame(&self, trio: &Trio, number: usize, differs: bool) -> Vec<u8> {
         let next = self.next(number);
         let mut page = script::held(&trio.part, next, &trio.twin.code, &trio.twin.data).to_vec();
         if differs {
@@ -89,7 +89,7 @@ impl Pages {
     }
 
     /// 13h and its first pages, so many; those that differ by their bits.
-    fn begin(&self, trio: &mut Trio, pages: usize, differing: usize) -> Result<(), Difference> {
+    pub fn begin(&self, trio: &mut Trio, pages: usize, differing: usize) -> Result<(), Difference> {
         trio.bytes(&self.command(VERIFY), 32)?;
         for number in 0..pages {
             let frame = self.frame(trio, number, differing >> number & 1 == 1);
@@ -120,7 +120,7 @@ fn two_blocks(trio: &mut Trio, choice: &mut Generator, area: Area) -> Result<(),
 }
 
 /// What completes no frame where a data frame is awaited; where it holds 02h, a gap cuts it off.
-const QUIET: [(&[u8], bool); 5] = [
+pub const QUIET: [(&[u8], bool); 5] = [
     (&[], true),
     (&[0x00, 0x0F, 0x17, 0x03], false),
     (&[0x01, 0x01, 0x00, 0xFF, 0x03], true),
@@ -128,7 +128,7 @@ const QUIET: [(&[u8], bool); 5] = [
     (&[0x55, 0x02, 0x01, 0x00, 0xFF], true),
 ];
 
-fn quiet(trio: &mut Trio, (bytes, gap): (&[u8], bool)) -> Result<(), Difference> {
+pub fn quiet(trio: &mut Trio, (bytes, gap): (&[u8], bool)) -> Result<(), Difference> {
     trio.bytes(bytes, 32)?;
     if gap {
         trio.pause(Event::Gap, 32)?;
@@ -178,7 +178,7 @@ fn power_on(trio: &mut Trio, range: &Pages) -> Result<(), Difference> {
     range.verify(trio, 0)
 }
 
-/// A difference that is handed in at each page: with 13h, whose other pages are equal; with 40h, as long as pages are stored; and a bad page with each.
+/// A difference that is handed in at each page: with 13h, whose other pages are equal; with 40h, as long as no page is answered 1Ch; and a bad page with each.
 fn handed_in(trio: &mut Trio, range: &Pages) -> Result<(), Difference> {
     for command in [VERIFY, PROGRAM] {
         for first in 0..range.count {

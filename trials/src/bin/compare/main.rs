@@ -14,6 +14,7 @@ mod late;
 mod script;
 mod sums;
 mod verify;
+mod write_over;
 
 use std::env;
 use std::process::ExitCode;
@@ -287,6 +288,7 @@ fn chip_tables(coverage: &Coverage) -> Vec<String> {
     missing.extend(sums::table(coverage));
     missing.extend(verify::table(coverage));
     missing.extend(faults::table(coverage));
+    missing.extend(write_over::table(coverage));
     let numbers = |low: u32, high: u32| (low..=high).map(|number| number.to_string()).collect();
     let parts = [
         ("code blocks".to_string(), numbers(8, 64)),

@@ -280,6 +280,12 @@ pub fn footer(part: &Part, next: usize, last: usize) -> u8 {
     }
 }
 
+fn one_bit_other(choice: &mut Generator, held: &[u8]) -> Vec<u8> {
+    let mut page = held.to_vec();
+    page[choice.below(held.len())] ^= 1 << choice.below(8);
+    page
+}
+
 fn page(
     choice: &mut Generator,
     part: &Part,
@@ -297,6 +303,9 @@ fn page(
         1 => vec![ERASED; size],
         2 => held.to_vec(),
         _ if command == VERIFY => held.to_vec(),
+        // More 0 bits than flash has, and all of its bits but one.
+        3 | 4 => held.iter().map(|byte| byte & choice.byte()).collect(),
+        5 => one_bit_other(choice, held),
         _ => (0..size).map(|_| choice.byte()).collect(),
     };
     if command == VERIFY && choice.chance(10) {

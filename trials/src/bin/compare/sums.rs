@@ -4,8 +4,7 @@
 use trials::chip::described;
 use trials::door::{self, STATE};
 use twin::chip::{
-    Event, Phase, ACK, BLANK_CHECK, BLOCK_ERASE, CHECKSUM, NOT_WRITTEN, PROGRAM, SECURITY_RELEASE,
-    VERIFY,
+    Event, Phase, ACK, BLANK_CHECK, BLOCK_ERASE, CHECKSUM, PROGRAM, SECURITY_RELEASE, VERIFY,
 };
 use twin::part::{Area, Part};
 use twin::random::Generator;
@@ -13,6 +12,7 @@ use twin::sums::{slot_of, sum_of, work_out, Sums, SUMS};
 
 use crate::chip::{Difference, Trio};
 use crate::coverage::{row, Coverage};
+use crate::write_over::{with_sums, OUTCOMES};
 
 impl Trio<'_> {
     /// All sums worked out on the flash as it lies: the same on all sides, and right; slots of blocks that the part has not are as they were.
@@ -112,7 +112,16 @@ pub fn spoiled(choice: &mut Generator, sums: &Sums) -> Sums {
     spoiled
 }
 
-/// What an event that was answered, a gap or power-on said, renewed or left alone, by which sums were wrong before it.
+/// The area of an address, and the slot of its block's sum.
+pub fn own_sum(part: &Part, address: usize) -> Option<(Area, usize)> {
+    part.place(address).map(|place| {
+        let block = place.offset / part.block_size(place.area);
+        (place.area, slot_of(place.area, block))
+    })
+}
+
+/// What an event that was answered, a gap or power-on said, renewed or left alone, by which sums were wrong before it; a good page of 40h is counted with how it
+/// came out.
 pub fn count(
     coverage: &mut Coverage,
     part: &Part,
@@ -136,10 +145,7 @@ pub fn count(
         Phase::Awaiting { next, .. } => next,
         _ => address(36),
     };
-    let own = part.place(start).map(|place| {
-        let block = place.offset / part.block_size(place.area);
-        (place.area, slot_of(place.area, block))
-    });
+    let own = own_sum(part, start);
     let own_wrong = own.is_some_and(|(_, at)| wrong[at]);
     match (event, phase) {
         (Event::Gap, _) => left("gap", any),
@@ -150,8 +156,7 @@ pub fn count(
                 command: PROGRAM, ..
             },
         ) => match said {
-            [ACK, ACK, ..] => renewed(coverage, "page stored", own, wrong),
-            [ACK, NOT_WRITTEN] => left("page answered 1Ch", own_wrong),
+            [ACK, ..] => (),
             _ => left("bad page", own_wrong),
         },
         (
@@ -162,7 +167,11 @@ pub fn count(
         ) => left("page of 13h", own_wrong),
         (_, Phase::Awaiting { .. }) => left("data of A0h", any),
         _ => match (before[35], said) {
-            (BLOCK_ERASE, [ACK]) => renewed(coverage, "22h that erases", own, wrong),
+            (BLOCK_ERASE, [ACK]) => {
+                if let Some(own) = own {
+                    renewed(coverage, "22h that erases", own, wrong);
+                }
+            }
             (BLOCK_ERASE, _) => left("22h refused", own_wrong),
             (PROGRAM, [ACK]) => left("40h", own_wrong),
             (BLANK_CHECK, [ACK, ..]) => left("32h", own_wrong),
@@ -187,10 +196,13 @@ pub fn count(
     }
 }
 
-fn renewed(coverage: &mut Coverage, name: &str, own: Option<(Area, usize)>, wrong: &[bool; SUMS]) {
-    let Some((area, own)) = own else {
-        return;
-    };
+/// The sum of a block was worked out afresh.
+pub fn renewed(
+    coverage: &mut Coverage,
+    name: &str,
+    (area, own): (Area, usize),
+    wrong: &[bool; SUMS],
+) {
     let how = if wrong[own] { "wrong" } else { "right" };
     coverage.count(&format!("{name}, {} {how}", area_text(area)));
     if (0..SUMS).any(|at| at != own && wrong[at]) {
@@ -198,7 +210,7 @@ fn renewed(coverage: &mut Coverage, name: &str, own: Option<(Area, usize)>, wron
     }
 }
 
-fn area_text(area: Area) -> &'static str {
+pub fn area_text(area: Area) -> &'static str {
     match area {
         Area::Code => "code",
         Area::Data => "data",
@@ -209,11 +221,13 @@ fn area_text(area: Area) -> &'static str {
 pub fn table(coverage: &Coverage) -> Vec<String> {
     let each = ["code right", "code wrong", "data right", "data wrong"];
     let touched = [&each[..], &["others wrong"]].concat();
-    let rows = [
+    let mut rows = vec![
         row("B0h over one", &each),
         row("B0h over more", &each),
         row("22h that erases", &touched),
-        row("page stored", &touched),
+    ];
+    rows.extend(OUTCOMES.map(|outcome| row(&with_sums(outcome), &touched)));
+    rows.extend([
         row(
             "left alone while wrong",
             &[
@@ -221,7 +235,6 @@ pub fn table(coverage: &Coverage) -> Vec<String> {
                 "power-on",
                 "22h refused",
                 "40h",
-                "page answered 1Ch",
                 "bad page",
                 "page of 13h",
                 "32h",
@@ -234,6 +247,6 @@ pub fn table(coverage: &Coverage) -> Vec<String> {
         row("zc_sums", &["worked out", "1", "2", "3"]),
         // 3 is the last of the order: with another fault it never shows.
         row("zc_sums with more faults", &["1", "2"]),
-    ];
+    ]);
     coverage.table("kept sums", &rows)
 }

@@ -1,0 +1,5 @@
+pub mod Sent
+pub mod Bytes
+pub mod Written
+pub mod Cleared
+pub mod Examples
