@@ -1,8 +1,8 @@
 -- The chip beside the chip under other rules: one walk through what calls the rules, for every request that replaces some of them. Then the proof of `OwnRules`.
 -- Assumes nothing.
-use mathlib.Core.Bool.{false, false≢true, true}
+use mathlib.Core.Bool.{false, true}
 use mathlib.Core.List.{List, [], _∷_}
-use mathlib.Core.Path.{_∙_, _≡_, ap, refl, sym}
+use mathlib.Core.Path.{_∙_, _≡_, ap, refl}
 use Prim.Native.Nat.{ℕ}
 use lib.Dec.{eqb}
 use lib.ListN.{getD}
@@ -28,7 +28,7 @@ use Rattle.chip_work.specs.Work.{blockErase, checksum}
 use Rattle.claims_before.specs.Rules.{OwnRules, Rules, badDataUnder, byteInUnder, commandDoesUnder, dataDoesUnder, frameDoesUnder, goodDataUnder, reactToUnder, readingDoesUnder, stepUnder, workUnder}
 use Rattle.claims_frame.specs.Collecting.{collectsOn, take-up}
 use Rattle.claims_runs.proofs.Faults.{Plain, check-plain, plainly, program-plain, rate-plain, release-plain, security-plain, status-plain, verify-plain}
-use Rattle.claims_runs.proofs.Window.{if-two}
+use Rattle.claims_runs.proofs.Window.{if-two, only-ready}
 use Rattle.claims_runs.specs.Taken.{takenAs, takenIn}
 use Rattle.commands.proofs.Laws.{com-read}
 use Rattle.commands.specs.Commands.{comOf, readCommand}
@@ -49,13 +49,10 @@ use Rattle.part.specs.declared.Place.{Place}
 use Rattle.words.specs.Words.{if_then_else_}
 
 -- B0h is allowed in phase 3 alone.
-only-ready : (g : List ℕ) (start end : ℕ) → readCommand (payload g) ≡ Meant (Checksum start end) → (ph : Phase) → allowedIn ph (getD (payload g) 0 0) ≡ true
+sum-ready : (g : List ℕ) (start end : ℕ) → readCommand (payload g) ≡ Meant (Checksum start end) → (ph : Phase) → allowedIn ph (getD (payload g) 0 0) ≡ true
     → ph ≡ Ready
-unfolding allowedIn comOf
-only-ready g start end r ModeByte t = absurd (false≢true t)
-only-ready g start end r Setup t = absurd (false≢true (ap (λ (c : ℕ). eqb c 0x9A) (sym (com-read (payload g) _ r)) ∙ t))
-only-ready g start end r Ready t = refl
-only-ready g start end r (Awaiting w) t = absurd (false≢true t)
+unfolding comOf
+sum-ready g start end r ph t = only-ready _ (ap (λ (c : ℕ). eqb c 0x9A) (com-read (payload g) _ r)) ph t
 
 -- Data frames are heard in phase 4 alone.
 only-awaiting : (w : Awaited) (ph : Phase) → hearing ph ≡ HearsData w → ph ≡ Awaiting w
@@ -109,7 +106,7 @@ module _ {R : Rules} {Rel : Effect → Effect → Type 0} {p : Part} {k : Core} 
     works u x (BlankCheck start end d01) e = l .same _ (check-plain p k _ d01 f)
     works u x (Programming start end) e = l .same _ (program-plain p k _ start end)
     works u x (Verify start end) e = l .same _ (verify-plain k _ start end)
-    works u x (Checksum start end) e = l .sums g start end (only-ready g start end e (k .phase) x) q u e
+    works u x (Checksum start end) e = l .sums g start end (sum-ready g start end e (k .phase) x) q u e
     works u x SignatureGet e = l .same _ (plainly refl)
     works u x SecurityGet e = l .same _ (plainly refl)
     works u x SecuritySet e = l .same _ (status-plain _)

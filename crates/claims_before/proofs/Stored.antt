@@ -15,9 +15,10 @@ use Rattle.chip_core.specs.Effect.{Effect, Memory, acknowledge, effect, flash, 
 use Rattle.chip_core.specs.Hearing.{hearing}
 use Rattle.chip_core.specs.declared.Awaited.{Awaited}
 use Rattle.chip_core.specs.declared.Core.{Core}
+use Rattle.chip_core.specs.declared.Done.{Done}
 use Rattle.chip_core.specs.declared.Phase.the-variants.{Awaiting}
 use Rattle.chip_flash.specs.Flash.{blank, lands, programmed}
-use Rattle.chip_pages.specs.Pages.{footerOf, isLastPage, lengthOf, nextPage, pageIn, pageStatus, pageWritten, pair, programPage, ready, storedReply, toldWritten}
+use Rattle.chip_pages.specs.Pages.{footerOf, isLastPage, lengthOf, nextPage, pageIn, pageWritten, pair, programPage, ready, storedReply}
 use Rattle.chip_reply.specs.Reply.{faultIn, framesOf, payloads, saidOf}
 use Rattle.chip_state.specs.declared.Chip.{Chip}
 use Rattle.claims_before.proofs.Blank.{sent-over-blank}
@@ -29,6 +30,8 @@ use Rattle.claims_fed.specs.Awaits.{goodFor}
 use Rattle.claims_fed.specs.Fed.{saysFrame}
 use Rattle.claims_good.proofs.Stays.{stays}
 use Rattle.claims_good.specs.Good.{Stands, Utterance, andEvent, noEvent, uttered}
+use Rattle.claims_pages.proofs.Bytes.{status-is-told}
+use Rattle.claims_pages.proofs.Written.{mixed-told, stored-told}
 use Rattle.claims_pages.specs.Sent.{PageSent, oldPage}
 use Rattle.claims_pages.specs.Written.{saysStored}
 use Rattle.claims_runs.specs.Options.{atEnd, notHere}
@@ -62,16 +65,12 @@ memory-equal m n = go (bytes-equal (m .flash .codeFlash) (n .flash .codeFlash)) 
 -- The two rules, by whether the page there is blank and whether what is sent lands.
 module _ (p : Part) (k : Core) (w : Awaited) (at : Place) (ds : List ℕ) (m : Memory) where
   page-lands : programmed (pageIn at (m .flash)) ds ≡ ds → programPage p k w at ds m ≡ effect (told (storedReply w) (nextPage w k)) (pageWritten p at ds m)
-  unfolding programPage pageStatus lands toldWritten if_then_else_
-  page-lands e = rw (e, same-self ds)
+  unfolding programPage
+  page-lands e = ap (λ (d : Done). effect d (pageWritten p at ds m)) (stored-told w k (status-is-told (pageIn at (m .flash)) ds .landed e))
 
   page-mixed : programmed (pageIn at (m .flash)) ds ≢ ds → programPage p k w at ds m ≡ effect (pair acknowledge writeError (ready k)) (pageWritten p at ds m)
-  unfolding programPage pageStatus lands toldWritten if_then_else_
-  page-mixed n = go (same (programmed (pageIn at (m .flash)) ds) ds) refl
-    where
-      go : (t : Bool) → same (programmed (pageIn at (m .flash)) ds) ds ≡ t → programPage p k w at ds m ≡ effect (pair acknowledge writeError (ready k)) (pageWritten p at ds m)
-      go true t = absurd (n (same-is _ _ t))
-      go false t = rw t
+  unfolding programPage
+  page-mixed n = ap (λ (d : Done). effect d (pageWritten p at ds m)) (mixed-told w k (status-is-told (pageIn at (m .flash)) ds .mixed n))
 
   blank-before : blank (pageIn at (m .flash)) ≡ true → programmed (pageIn at (m .flash)) ds ≡ ds
       → programPageBlank p k w at ds m ≡ effect (told (storedReply w) (nextPage w k)) (pageWritten p at ds m)

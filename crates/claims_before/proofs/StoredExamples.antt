@@ -21,7 +21,6 @@ use Rattle.chip_reply.specs.Reply.{framesOf, payloads, saidOf}
 use Rattle.chip_state.specs.Refusals.{goodAwaited, goodBegun, goodCollected, goodCore, goodPhase, goodPlaces, goodState, verdictOf}
 use Rattle.chip_sums.specs.Sums.{blockSum, rangeBytes, resummed, slot}
 use Rattle.claims_before.proofs.Stored.{mixed-now, taken-now}
-use Rattle.claims_before.proofs.VerifyExamples.{below-all}
 use Rattle.claims_before.specs.Stored.{mixed, taken}
 use Rattle.claims_before.specs.StoredExamples.{MixedMet, ResentMet, StoredSaid, UnchangedMet, frameAll, writingAll, overwritingChip, writtenOnce}
 use Rattle.claims_fed.proofs.Frames.{bytes-proper}
@@ -35,6 +34,7 @@ use Rattle.claims_pages.specs.Sent.{PageSent, oldPage}
 use Rattle.claims_pages.specs.Written.{saysStored}
 use Rattle.claims_runs.specs.Taken.{takenAs, takenIn}
 use Rattle.claims_stars.specs.Table.{thePart}
+use Rattle.claims_verify.proofs.Examples.{below-all}
 use Rattle.frame.proofs.Laws.Sum.{Below, below-append, below-take, more, none}
 use Rattle.frame.specs.Collector.{fresh, hear, heard, holding}
 use Rattle.frame.specs.Frame.{complete, counted, framed, full, isFrame, payload}

@@ -3,7 +3,7 @@
 use mathlib.Core.Bool.{false, true}
 use mathlib.Core.List.{List}
 use mathlib.Core.Path.{_≡_, ap, refl}
-use Prim.Native.Nat.{_<_, suc, zero, ℕ}
+use Prim.Native.Nat.{ℕ}
 use native.Mathlib.Omega.{arith}
 use lib.ListN.{length-replicate, replicate}
 use Rattle.chip.specs.Run.{run}
@@ -27,6 +27,7 @@ use Rattle.claims_good.proofs.Stays.{run-stands}
 use Rattle.claims_good.specs.Good.{Stands, Utterance}
 use Rattle.claims_runs.specs.Taken.{takenAs, takenIn}
 use Rattle.claims_stars.specs.Table.{thePart}
+use Rattle.claims_verify.proofs.Examples.{below-all}
 use Rattle.claims_verify.specs.Compared.{PageCompared}
 use Rattle.claims_verify.specs.Examples.{chipAwaiting}
 use Rattle.frame.proofs.Laws.Sum.{Below, below-append, below-take, more, none}
@@ -40,10 +41,6 @@ use Rattle.part.specs.Refusal.{firstOf}
 use Rattle.words.specs.Words.{_and_, _from_to_, _or_, if_then_else_}
 
 -- The pages are bytes, so the chip at their footers stands.
-pub below-all : {m b : ℕ} (n : ℕ) → b < m → Below m (replicate n b)
-below-all zero h = none
-below-all (suc n) h = more h (below-all n h)
-
 at-footer-stands : (w : Awaited) (page : List ℕ) → goodAwaited thePart w ≡ true → Below 256 page → Stands thePart (atFooter w page)
 unfolding goodPhase blockSize
 at-footer-stands w page g b =

@@ -1,6 +1,6 @@
 -- The proof of `BitsOnlyClear`.
 -- Assumes nothing.
-use mathlib.Core.Bool.{false, false≢true, true}
+use mathlib.Core.Bool.{true}
 use mathlib.Core.List.{List, [], _∷_}
 use mathlib.Core.Path.{_∙_, _≡_, ap, refl, sym}
 use Prim.Native.Nat.{_%_, _+_, _-_, _<_, _≤_, ℕ}
@@ -41,6 +41,7 @@ use Rattle.claims_pages.specs.Bytes.{bitOf}
 use Rattle.claims_pages.specs.Cleared.{AsksErase, BitsOnlyClear}
 use Rattle.claims_pages.specs.Sent.{PageSent, oldPage}
 use Rattle.claims_runs.proofs.Taken.{Went, frameDone, onlyHeard, quietCore, went}
+use Rattle.claims_runs.proofs.Window.{only-ready}
 use Rattle.claims_runs.specs.Options.{Never, atEnd, notHere}
 use Rattle.claims_runs.specs.Taken.{takenBy}
 use Rattle.claims_sums.proofs.Touched.{stands-long}
@@ -126,14 +127,6 @@ page-falls a i p o v w ds s q d = go (where-is a (b .area) (b .offset) i _ (o .m
         → Falls a i (o .memory .flash) (onward p o v .memory .flash)
     go (beside e) = falls-equal e
     go (among e h k) = rw (← e) (record { each = λ n. rw (byte-is h (omega (arith, long))) (bit-less n (getD bs i 0) (getD ds (i - b .offset) 0)) })
-
--- Every command but 9Ah is allowed in phase 3 alone.
-only-ready : (c : ℕ) → eqb c 0x9A ≡ false → (ph : Phase) → allowedIn ph c ≡ true → ph ≡ Ready
-unfolding allowedIn
-only-ready c n ModeByte t = absurd (false≢true t)
-only-ready c n Setup t = absurd (false≢true (sym n ∙ t))
-only-ready c n Ready t = refl
-only-ready c n (Awaiting w) t = absurd (false≢true t)
 
 -- A command frame.
 record FallsSo (a : Area) (i : ℕ) (m : Memory) (x : Effect) : Type 0 where

@@ -3,7 +3,7 @@
 use mathlib.Core.List.{List}
 use mathlib.Core.Logic.{_≢_}
 use mathlib.Core.Path.{_∙_, _≡_, ap, refl, sym}
-use Prim.Native.Nat.{_<_, suc, zero, ℕ}
+use Prim.Native.Nat.{ℕ}
 use native.Mathlib.Omega.{arith}
 use lib.ListN.{getD, length-replicate, replicate}
 use Rattle.chip.specs.Run.{run}
@@ -32,8 +32,9 @@ use Rattle.claims_pages.specs.Examples.{BytesOver, NoiseLeaves, NoiseMet
 use Rattle.claims_pages.specs.Sent.{PageSent, oldPage}
 use Rattle.claims_runs.specs.Taken.{takenAs, takenIn}
 use Rattle.claims_stars.specs.Table.{thePart}
+use Rattle.claims_verify.proofs.Examples.{below-all}
 use Rattle.claims_verify.proofs.Told.{framed-below}
-use Rattle.frame.proofs.Laws.Sum.{Below, below-take, more, none}
+use Rattle.frame.proofs.Laws.Sum.{Below, below-take}
 use Rattle.frame.specs.Collector.{fresh, hear, heard, holding}
 use Rattle.frame.specs.Frame.{complete, counted, framed, full, isFrame, payload}
 use Rattle.frame.specs.Judgement.{fitting, judgeOf, summed}
@@ -75,10 +76,6 @@ pages-over =
     }
 
 -- The chip at the page's footer stands, and hears a page of 40h there.
-below-all : {m b : ℕ} (n : ℕ) → b < m → Below m (replicate n b)
-below-all zero h = none
-below-all (suc n) h = more h (below-all n h)
-
 frame-below : Below 256 crossedFrame
 unfolding crossedFrame
 frame-below = framed-below Data (replicate 256 0xAA) More (below-all 256 (omega arith))

@@ -91,11 +91,11 @@ stored-said p w k n = go (isLastPage w) refl
     go true e = rw e
     go false e = rw e
 
-stored-told : (w : Awaited) (k : Core) {status : ℕ} → status ≡ 0x06 → toldWritten status w k ≡ told (storedReply w) (nextPage w k)
+pub stored-told : (w : Awaited) (k : Core) {status : ℕ} → status ≡ 0x06 → toldWritten status w k ≡ told (storedReply w) (nextPage w k)
 unfolding toldWritten if_then_else_
 stored-told w k e = rw e
 
-mixed-told : (w : Awaited) (k : Core) {status : ℕ} → status ≡ 0x1C → toldWritten status w k ≡ pair 0x06 0x1C (ready k)
+pub mixed-told : (w : Awaited) (k : Core) {status : ℕ} → status ≡ 0x1C → toldWritten status w k ≡ pair 0x06 0x1C (ready k)
 unfolding toldWritten if_then_else_
 mixed-told w k e = rw e
 

@@ -223,18 +223,23 @@ module _ (p : Part) (L : Type 0) (f : List ℕ) (k : Core) (m : Memory) (s e : �
       (λ v. written w (placeOf p (w .next)) (payload f))
       (λ v. next-page _ _ m refl)))
 
--- Both commands are allowed in phase 3 alone.
+-- Every command but 9Ah is allowed in phase 3 alone.
+pub only-ready : (c : ℕ) → eqb c 0x9A ≡ false → (ph : Phase) → allowedIn ph c ≡ true → ph ≡ Ready
+unfolding allowedIn
+only-ready c n ModeByte t = absurd (false≢true t)
+only-ready c n Setup t = absurd (false≢true (sym n ∙ t))
+only-ready c n Ready t = refl
+only-ready c n (Awaiting w) t = absurd (false≢true t)
+
+-- So are both of these.
 record Opens (f : List ℕ) (k : Core) : Type 0 where
   ready : k .phase ≡ Ready
   at-window : Looks f
 
 allowed : (f : List ℕ) (ph : Phase) → allowedIn ph (getD (payload f) 0 0) ≡ true → Looks f → ph ≡ Ready
-unfolding allowedIn comOf
-allowed f ModeByte t l = absurd (false≢true t)
-allowed f Setup t (atReport r) = absurd (false≢true (ap (λ (c : ℕ). eqb c 0x9A) (sym (com-read (payload f) _ r)) ∙ t))
-allowed f Setup t (atFresh start end r) = absurd (false≢true (ap (λ (c : ℕ). eqb c 0x9A) (sym (com-read (payload f) _ r)) ∙ t))
-allowed f Ready t l = refl
-allowed f (Awaiting w) t l = absurd (false≢true t)
+unfolding comOf
+allowed f ph t (atReport r) = only-ready _ (ap (λ (c : ℕ). eqb c 0x9A) (com-read (payload f) _ r)) ph t
+allowed f ph t (atFresh start end r) = only-ready _ (ap (λ (c : ℕ). eqb c 0x9A) (com-read (payload f) _ r)) ph t
 
 command-does : (p : Part) (f : List ℕ) (k : Core) (m : Memory) (s e : ℕ) → Beside p (Opens f k) (commandDoes p k f m) (commandDoes p (withWindow s e k) f m)
 unfolding commandDoes reads

@@ -3,7 +3,7 @@
 use mathlib.Core.Bool.{Bool, false, not, true}
 use mathlib.Core.List.{List, [], _++_, _∷_, map}
 use mathlib.Core.Path.{_∙_, _≡_, ap, refl, subst}
-use Prim.Native.Nat.{_-_, suc, zero, ℕ}
+use Prim.Native.Nat.{_-_, _<_, suc, zero, ℕ}
 use native.Mathlib.Omega.{arith}
 use lib.ListN.{length, length-replicate, replicate}
 use Rattle.chip.specs.Run.{Spoken, answers, bytesSaid, heardBack}
@@ -55,17 +55,17 @@ unfolding replyBy utterances
 replies o bs e = said-all (answers thePart (map Byte bs) o) ∙ ap allSaid e
 
 -- The pages, and the chip.
-below-all : (n : ℕ) → Below 256 (replicate n 0xFF)
-below-all zero = none
-below-all (suc n) = more {b = 0xFF} (omega arith) (below-all n)
+pub below-all : {m b : ℕ} (n : ℕ) → b < m → Below m (replicate n b)
+below-all zero h = none
+below-all (suc n) h = more h (below-all n h)
 
 equal-page : Page equalPage
 unfolding equalPage
-equal-page = record { long = length-replicate {A = ℕ} 256 0xFF; bytes = below-all 256 }
+equal-page = record { long = length-replicate {A = ℕ} 256 0xFF; bytes = below-all 256 (omega arith) }
 
 different-page : Page differentPage
 unfolding differentPage
-different-page = record { long = ap suc (length-replicate {A = ℕ} 255 0xFF); bytes = more {b = 0x00} (omega arith) (below-all 255) }
+different-page = record { long = ap suc (length-replicate {A = ℕ} 255 0xFF); bytes = more {b = 0x00} (omega arith) (below-all {b = 0xFF} 255 (omega arith)) }
 
 equal-pages : AllPages allEqual
 equal-pages = andPage equal-page (andPage equal-page (andPage equal-page (andPage equal-page noPage)))
@@ -202,7 +202,7 @@ sum-damaged =
       command = refl;
       frame = refl;
       header = refl;
-      bytes = more {b = 0x02} (omega arith) (more {b = 0x00} (omega arith) (below-append (below-all 256) (more {b = 0x01} (omega arith) (more {b = 0x17} (omega arith) none))));
+      bytes = more {b = 0x02} (omega arith) (more {b = 0x00} (omega arith) (below-append (below-all {b = 0xFF} 256 (omega arith)) (more {b = 0x01} (omega arith) (more {b = 0x17} (omega arith) none))));
       bad = refl;
     }
 
