@@ -1,4 +1,6 @@
 // The software chip: document 01, "Frames" ("Collecting"), "Phases" and "Refusal numbers". What it is, and one step that takes a byte, a gap or power-on.
+#![tactic(auto)]
+
 pub mod events;
 
 use chip_state::Chip;

@@ -1,4 +1,6 @@
 // The command frames of document 01, in the judging order of "Frames": footer and SUM, the command allowed in the phase, LEN, then the work of the command.
+#![tactic(auto)]
+
 ghost use Rattle.std.specs.Prelude.{◌≡◌};
 ghost use Rattle.chip_core.specs.Effect.{effect, memory};
 ghost use Rattle.chip_commands.specs.Commands.{allowed_in, work, reading_does, command_does};

@@ -1,4 +1,6 @@
 // The chip's record, without what it has collected, and what a complete frame does to it: document 01, "Phases" and "Commands". Commands and pages stand on it.
+#![tactic(auto)]
+
 ghost use Rattle.std.specs.Prelude.{◌≡◌};
 ghost use Rattle.chip_core.specs.Effect.{awaiting, entered, says};
 ghost use Rattle.chip_core.specs.Hearing.{hearing};

@@ -1,5 +1,7 @@
 // The calls for C and Rust. Each takes a part as 19 bytes and a chip's state as lent bytes in one layout, and answers a refusal number, 0 where it was not refused; what
 // else it tells goes into lent numbers. Document 01, "Refusal numbers".
+#![tactic(auto)]
+
 ghost use Rattle.std.specs.Prelude.{◌≡◌, ◌<◌, ℕ, get_or, length};
 ghost use Rattle.chip_layout.specs.Layout.{state_size};
 ghost use Rattle.chip.specs.declared.Event.TheVariants.{Byte, Gap, PowerOn};

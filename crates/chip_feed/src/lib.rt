@@ -1,4 +1,6 @@
 // A stretch of bytes for the chip: the fold of its step up to the first reply. Bytes that are only added to what is collected are taken at once.
+#![tactic(auto)]
+
 ghost use Rattle.std.specs.Prelude.{◌≡◌, ◌<◌, ◌≤◌};
 ghost use Rattle.chip.specs.Run.{before};
 ghost use Rattle.chip_core.specs.Effect.{memory};

@@ -1,5 +1,7 @@
 // Work on lent flash bytes: are they blank, set some to FFh, program some, their 16-bit sum. Each is total, and every byte outside the
 // named stretch stays. What the bytes mean stands in the chip.
+#![tactic(auto)]
+
 ghost use Rattle.std.specs.Prelude.{◌≡◌, min, length, replicate};
 ghost use Rattle.lent.specs.Lent.{left};
 ghost use Rattle.chip_flash.specs.Flash.{blank, erased, erase_of, lands, programmed, program_of, sum_of_bytes};

@@ -1,4 +1,6 @@
 // What the chip does with a mode byte and with a complete frame, by its phase: document 01, "Phases".
+#![tactic(auto)]
+
 ghost use Rattle.std.specs.Prelude.{◌≡◌};
 ghost use Rattle.chip_core.specs.Effect.{effect, memory};
 ghost use Rattle.chip_core.specs.Hearing.{hearing};

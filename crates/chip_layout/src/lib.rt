@@ -1,5 +1,7 @@
 // How a chip's state crosses the door as bytes: one layout, read and written here alone. What bars a call on such bytes stands in `admission`,
 // and what is written without reading the whole state in `in_place`.
+#![tactic(auto)]
+
 ghost use Rattle.std.specs.Prelude.{◌≡◌, ◌+◌, ◌≤◌, drop, length, take};
 ghost use Rattle.numbers.specs.Numbers.{number_at};
 ghost use Rattle.lent.specs.Lent.{all_are};

@@ -1,4 +1,6 @@
 // The lasting options: flags, last boot block and window, what they allow, and which are good. Document 01, "The part" and "Commands".
+#![tactic(auto)]
+
 ghost use Rattle.std.specs.Prelude.{◌≡◌};
 ghost use Rattle.chip_options.specs.Options.{boot_allowed, erase_allowed, write_allowed, fixed_bits, last_block, fresh_options, good_options};
 ghost use Rattle.chip_options.specs.Options.{is_fresh, rises, raises, released, options_in, security};

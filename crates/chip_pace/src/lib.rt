@@ -1,4 +1,6 @@
 // The chip's step alone, a byte at a time and by value, for `trials/run speed` to measure without the door. No program needs it for anything else.
+#![tactic(auto)]
+
 ghost use Rattle.std.specs.Prelude.{map, ◌≡◌};
 ghost use Rattle.chip.specs.Run.{before, run};
 ghost use Rattle.chip.specs.Step.{outcome};

@@ -1,4 +1,6 @@
 // The data frames of phase 4: pages of 40h and 13h, and the data of A0h. Document 01, "Commands".
+#![tactic(auto)]
+
 ghost use Rattle.std.specs.Prelude.{◌≡◌, get_or, eqb};
 ghost use Rattle.words.specs.Words.{◌and◌};
 ghost use Rattle.chip_options.specs.Options.{good_options};

@@ -1,4 +1,6 @@
 // The replies of the chip: a value, its payloads, and the one place where they become bytes in the reply room.
+#![tactic(auto)]
+
 ghost use Rattle.std.specs.Prelude.{◌≡◌, [], ◌∷◌, ◌+◌, ◌≤◌, length};
 ghost use Rattle.chip_reply.specs.Reply.{fault_in, said, said_of, send_of};
 

@@ -1,4 +1,6 @@
 // The chip's state, and which calls are refused: document 01, "Refusal numbers" (chip).
+#![tactic(auto)]
+
 ghost use Rattle.std.specs.Prelude.{◌≡◌, ◌<◌, ◌+◌, ◌%◌, eqb};
 ghost use Rattle.words.specs.Words.{◌or◌};
 ghost use Rattle.chip_state.specs.Refusals.{same_area, good_places, good_awaited, good_phase, good_begun, good_collected, good_core, good_state, verdict_of};

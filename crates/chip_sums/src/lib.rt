@@ -1,4 +1,6 @@
 // The blocks' sums, kept beside the chip's lasting record: document 02, §1. Read one, work one out afresh, work all out.
+#![tactic(auto)]
+
 ghost use Rattle.std.specs.Prelude.{◌≡◌, ◌<◌, ◌^◌, set};
 ghost use Rattle.chip_core.specs.Effect.{flash, memory};
 ghost use Rattle.part.specs.Part.{blocks};

@@ -1,5 +1,7 @@
 // The work of each command of document 01, "Commands", on the chip's record, the two areas of flash and the kept sums: parameters before protection, then the work.
 // Decisions on numbers come first, flash is lent late.
+#![tactic(auto)]
+
 ghost use Rattle.std.specs.Prelude.{◌≡◌, ◌≤◌, ◌+◌, eqb};
 ghost use Rattle.part.specs.Part.{range_of, place_of, blocks};
 ghost use Rattle.words.specs.Words.{◌and◌, ◌or◌};

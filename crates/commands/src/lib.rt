@@ -1,4 +1,6 @@
 // The eleven commands of document 01, "Commands": read off the payload of a frame, and written as a command frame.
+#![tactic(auto)]
+
 ghost use Rattle.std.specs.Prelude.{◌≡◌, [], ◌++◌, ◌∷◌, ◌≤◌, length, take};
 ghost use Rattle.numbers.specs.Numbers.{low_first};
 ghost use Rattle.frame.specs.Wire.{wrote, write_of};

@@ -1,4 +1,6 @@
 // What programs share: reading until a buffer is full, and the progress of a long capture on a terminal.
+#![tactic(auto)]
+
 ghost use Rattle.std.specs.Prelude.{◌≤◌, length};
 
 use libc::{STDERR_FILENO, STDOUT_FILENO};

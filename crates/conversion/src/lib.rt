@@ -1,4 +1,6 @@
 // Conversion of a capture from one form to the other: all of it is judged first, and only then is anything written. Document 02, section 5.
+#![tactic(auto)]
+
 ghost use Rattle.std.specs.Prelude.{◌≡◌, ◌≤◌, length, take};
 ghost use Rattle.conversion.specs.Conversion.{bytes_written, convert_of, converting, first_not, held_by_old, refusal_number, other, passes, record_named};
 ghost use Rattle.conversion.specs.Conversion.{rewritten, rewritten_all, written_into};

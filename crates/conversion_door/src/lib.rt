@@ -1,5 +1,7 @@
 // The calls for C and Rust that convert a capture from one form to the other. Each answers a refusal number, 0 where it was not refused, and always tells how many
 // bytes were written and the number of the record that a refusal names. Document 02, section 5.
+#![tactic(auto)]
+
 ghost use Rattle.std.specs.Prelude.{◌≡◌};
 ghost use Rattle.conversion_door.specs.Calls.{converted_through, convert_told};
 ghost use Rattle.replay_capture.specs.declared.Form.TheVariants.{New, Old};

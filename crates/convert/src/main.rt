@@ -1,5 +1,7 @@
 // Converts a recorded capture from one form to the other: document 02, section 5. All of it is judged before anything is written; here it is read, twice, and
 // written. Judging and rewriting are `conversion`'s.
+#![tactic(auto)]
+
 use console::Progress;
 use conversion::{Asked, Converted, Found};
 use libc::{STDERR_FILENO, STDOUT_FILENO};

@@ -1,4 +1,6 @@
 // The dock: a job and answers in, the next frame out, and an account of how it ended. Document 01, "The dock's flow". The calls stand in `calls`.
+#![tactic(auto)]
+
 use dock_job::{Dock, Ending};
 use part::refusal::Refusal;
 

@@ -1,4 +1,6 @@
 // The answer to one frame, handed in at once: whether it is readable, what it says, and which fault it has. Document 01, "The dock's flow"; document 02, §4.
+#![tactic(auto)]
+
 ghost use Rattle.std.specs.Prelude.{◌≡◌, [], ◌∷◌, ◌≤◌, drop};
 ghost use Rattle.dock_answer.specs.Answer.{judge_answer, judge_frames, long, shape, wanted};
 ghost use Rattle.dock_answer.specs.Answer.{deciding, statuses, rate_matches, signature_matches, matching, read_answer};

@@ -1,5 +1,7 @@
 // The dock's calls for C and Rust. Each takes a part as 19 bytes, a job as 11 and the image, and a dock's state as 26 lent bytes, and answers a refusal number, 0
 // where it was not refused; what else it tells goes into lent numbers. Document 01, "The dock's flow" and "Refusal numbers".
+#![tactic(auto)]
+
 ghost use Rattle.std.specs.Prelude.{◌≡◌};
 ghost use Rattle.dock_flow.specs.Flow.{answered, silence};
 ghost use Rattle.dock_job.specs.Refusals.{call_verdict};

@@ -1,4 +1,6 @@
 // The dock's flow, document 01: what follows the answer to the frame of a stage. The frames themselves stand in `frames`.
+#![tactic(auto)]
+
 ghost use Rattle.std.specs.Prelude.{◌≡◌};
 ghost use Rattle.dock_job.specs.Job.{setup};
 ghost use Rattle.dock_flow.specs.Flow.{block_from, first_stage, after_setup, after_work, next, says_not_blank, in_block, fails, retried, after_status, after_answer};

@@ -1,4 +1,6 @@
 // A job for the dock, and the dock's state while it carries one out: document 01, "The dock's flow". Which calls are refused stands in `refusals`.
+#![tactic(auto)]
+
 ghost use Rattle.std.specs.Prelude.{◌≡◌};
 ghost use Rattle.part.specs.Part.{range_of};
 ghost use Rattle.dock_job.specs.Job.{area_of, blocks_of, size_of, pages_of, range_length, bound, is_over};

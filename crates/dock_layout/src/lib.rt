@@ -1,4 +1,6 @@
 // How a dock's state crosses the door as bytes: one layout, read and written here alone. A job's stands in `job`.
+#![tactic(auto)]
+
 ghost use Rattle.std.specs.Prelude.{◌≡◌};
 ghost use Rattle.lent.specs.Lent.{same};
 ghost use Rattle.dock_layout.specs.Layout.{bytes_with, cause_in, cause_number, dock_bytes, dock_in, ending_in, fault_at, judgement_in};

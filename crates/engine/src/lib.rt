@@ -1,5 +1,7 @@
 // A plain engine: document 02, section 7. A second software chip that takes a whole stretch of bytes, frame by frame where they lie, and collects nothing; only a
 // frame that the chip held the begin of is joined first. What a frame does is one definition for both chips.
+#![tactic(auto)]
+
 ghost use Rattle.std.specs.Prelude.{◌≡◌, true, ◌++◌, ◌+◌, ◌-◌, ◌*◌, ◌≤◌, ◌<◌, ltb, drop, get_or, length, take};
 ghost use Rattle.chip_core.specs.Effect.{memory};
 ghost use Rattle.chip_state.specs.Refusals.{verdict_on};

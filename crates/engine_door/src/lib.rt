@@ -1,4 +1,6 @@
 // The plain engine for programs in C and Rust: one call that plays a whole stretch of bytes into a chip whose state is lent as bytes. Document 02, section 7.
+#![tactic(auto)]
+
 ghost use Rattle.std.specs.Prelude.{◌≡◌};
 ghost use Rattle.chip_core.specs.Effect.{memory};
 ghost use Rattle.engine_door.specs.Calls.{engine_through, engine_told};

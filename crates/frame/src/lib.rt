@@ -1,5 +1,7 @@
 // The frame layer of document 01, "Frames", and source document 000, chapter 2: what a frame is, SUM, the collector, the
 // judgement of a complete frame, and the writing and reading of frames. Chip and dock rest on it and see only what it promises.
+#![tactic(auto)]
+
 ghost use Rattle.std.specs.Prelude.{◌≡◌, ◌+◌, ◌≤◌};
 ghost use Rattle.frame.specs.Frame.{header_byte, footer_byte, len_byte, counted, full, is_frame, lacking_of, payload};
 

@@ -1,4 +1,6 @@
 // Work on lent bytes that every floor above shares: bytes put at a place in lent room, read at a place that may lie past the end, compared.
+#![tactic(auto)]
+
 ghost use Rattle.std.specs.Prelude.{◌≡◌, eqb, drop, get_or, length, take};
 ghost use Rattle.words.specs.Words.{◌and◌};
 ghost use Rattle.lent.specs.Lent.{all_are, left, put_of, same};
@@ -19,7 +21,7 @@ pub fn put(room: &mut [u8], at: usize, s: &[u8]) -> Room
     if room.len() - s.len() < at {
         return Room::Short;
     }
-    bytes::copy(s, &mut room[at..]);
+    room[at..at + s.len()].copy_from_slice(s);
     Room::Enough
 }
 

@@ -1,4 +1,6 @@
 // Numbers as bytes, low byte first, as the documents' numbers travel. They are read and written here alone.
+#![tactic(auto)]
+
 ghost use Rattle.std.specs.Prelude.{◌≡◌, ◌*◌, ◌+◌, ◌≤◌};
 ghost use Rattle.numbers.specs.Numbers.{bit, low_first, number_at};
 

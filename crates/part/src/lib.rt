@@ -1,5 +1,7 @@
 // A part's description, its two areas of flash with their blocks and pages, and the judgement of a range:
 // document 01, "The part", and the range rule of "Commands". The refusals stand in `refusal`.
+#![tactic(auto)]
+
 ghost use Rattle.std.specs.Prelude.{◌≡◌, true, ◌≤◌};
 ghost use Rattle.words.specs.Words.{◌from◌to◌};
 ghost use Rattle.part.specs.Part.{described, blocks, first, block_size, page_size, pages, size, last_of, lies_in, place_in, place_of, whole_blocks, stretch, range_of};

@@ -1,4 +1,6 @@
 // How a part crosses the door as bytes: one layout, read here alone. Document 01, "The part".
+#![tactic(auto)]
+
 ghost use Rattle.std.specs.Prelude.{◌≡◌};
 ghost use Rattle.part.specs.Part.{bare};
 ghost use Rattle.part_layout.specs.Layout.{part_in};

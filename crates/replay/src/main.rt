@@ -1,5 +1,7 @@
 // Replays a recorded capture, of the form that it is told, into a fresh chip and prints each reply frame as a line of hex: document 01, "Replay", and 02, section 5.
 // The records are judged, fed and answered by `replay_records::replay`; here the capture is read and the lines are printed.
+#![tactic(auto)]
+
 ghost use Rattle.std.specs.Prelude.{◌+◌, ◌≤◌, length};
 
 use chip::events;

@@ -1,4 +1,6 @@
 // Capture records, of the old form and of the new: what a good one is, its seat and its tick, and what it is to a replay. Document 01, "Replay", and 02, section 5.
+#![tactic(auto)]
+
 ghost use Rattle.std.specs.Prelude.{◌≡◌, ◌+◌, ◌≤◌, length};
 ghost use Rattle.replay_capture.specs.Capture.{carried_bytes, data_size, good_count, head_size, good_record, record_end, record_of, record_size};
 ghost use Rattle.replay_capture.specs.Capture.{seat_of, spare_of, tick_of, unused};

@@ -1,5 +1,7 @@
 // The calls for C and Rust that play capture records into a chip, of the old form and of the new, with a part and a state as in `chip_door`. Document 01, "Replay"
 // and "Refusal numbers", and 02, section 5.
+#![tactic(auto)]
+
 ghost use Rattle.std.specs.Prelude.{◌≡◌};
 ghost use Rattle.chip_core.specs.Effect.{memory};
 ghost use Rattle.part_layout.specs.Layout.{part_in};

@@ -1,4 +1,6 @@
 // Bytes as a line of upper-case hex. Document 01, "Replay": "Each reply frame is one line of hex".
+#![tactic(auto)]
+
 ghost use Rattle.std.specs.Prelude.{◌≡◌, ◌<◌};
 ghost use Rattle.lent.specs.Lent.{left, put_of};
 ghost use Rattle.replay_hex.specs.Hex.{digit_of, line_of};

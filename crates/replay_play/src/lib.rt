@@ -1,5 +1,7 @@
 // The play of one capture record, of either form: judged whole, its events go to the chip, its reply frames into the lent output. Document 01, "Replay", and 02,
 // section 5.
+#![tactic(auto)]
+
 ghost use Rattle.std.specs.Prelude.{◌≡◌, ◌∷◌, [], map, ◌*◌, ◌≤◌, length};
 ghost use Rattle.chip.specs.declared.Event.TheVariants.{Byte, Gap};
 ghost use Rattle.chip_core.specs.Effect.{memory};

@@ -1,6 +1,8 @@
 // Records that change what is collected alone, or nothing at all, settled where the collected bytes lie: a gap, bytes after which what is collected is still the
 // front of a frame that is awaited, and the other seat's. Nothing answers them, so a run of them is one stretch: no chip is copied for them, and one verdict
 // holds for all. Document 01, "Replay" and "Frames" ("Collecting"), and 02, section 5.
+#![tactic(auto)]
+
 ghost use Rattle.std.specs.Prelude.{◌≡◌, ◌++◌, ◌≤◌, get_or, length, take};
 ghost use Rattle.chip_state.specs.Refusals.{good_heard};
 ghost use Rattle.replay_quiet.specs.Quiet.{accepted_in, chip_held, settle_of, settling};

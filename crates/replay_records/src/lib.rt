@@ -1,6 +1,8 @@
 // Replay of a capture, of either form, into a chip: its records are played one after the other, their reply frames stand in the lent output. Document 01,
 // "Replay", and 02, section 5.
 // Reading the capture and printing the frames is the program's.
+#![tactic(auto)]
+
 ghost use Rattle.std.specs.Prelude.{◌≡◌, true, length};
 ghost use Rattle.chip_core.specs.Effect.{memory};
 ghost use Rattle.replay_records.specs.Records.{replay_of, replay_part, replaying};

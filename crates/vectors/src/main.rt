@@ -1,5 +1,7 @@
 // Writes the worked frames of the documents by the frame layer's own code, and judges the damaged one, a line of hex for each.
 // What it must print, in `stdout`, is copied from the documents: 000 chapter 2 and 003 sections 6.1.2, 6.9.2, 6.10.2, 6.11.2 and 6.13.2.
+#![tactic(auto)]
+
 use frame::wire::Wrote;
 use frame::{Footer, judgement, wire};
 
