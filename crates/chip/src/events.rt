@@ -31,7 +31,7 @@ fn completes(count: usize, len: u8) -> bool
 }
 
 // What a byte means in a state that is accepted: a mode byte, a byte that is heard, or one that completes a frame.
-#[derive(Drop)]
+#[derive(Clone, Copy)]
 enum Way {
     Mode,
     Hears(Header),

@@ -7,14 +7,14 @@ use chip_state::Chip;
 use frame::judgement::Judgement;
 use part::refusal::Refusal;
 
-#[derive(Drop)]
+#[derive(Clone, Copy)]
 pub enum Event {
     Byte(u8),
     Gap,
     PowerOn,
 }
 
-#[derive(Drop)]
+#[derive(Clone, Copy)]
 pub enum Answer {
     Replied { bytes: usize, frames: usize },
     Refused(Refusal),

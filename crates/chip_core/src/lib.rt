@@ -9,7 +9,7 @@ use chip_options::Options;
 use chip_reply::Reply;
 
 // What phase 4 carries. Next and last address are 0 from A0h. Whether a page of 13h has differed is remembered for the last page's status: document 02, §2.
-#[derive(Drop)]
+#[derive(Clone, Copy)]
 pub struct Awaited {
     pub command: u8,
     pub next: usize,
@@ -18,7 +18,7 @@ pub struct Awaited {
 }
 
 // The phases of the document, 1 to 4.
-#[derive(Drop)]
+#[derive(Clone, Copy)]
 pub enum Phase {
     ModeByte,
     Setup,
@@ -27,7 +27,7 @@ pub enum Phase {
 }
 
 // What a phase hears: no frame, a command frame, or a data frame with the record of phase 4.
-#[derive(Drop)]
+#[derive(Clone, Copy)]
 pub enum Hearing {
     HearsNothing,
     HearsCommands,
@@ -35,7 +35,7 @@ pub enum Hearing {
 }
 
 // What commands work on: all of the chip but what it has collected.
-#[derive(Drop)]
+#[derive(Clone, Copy)]
 pub struct Core {
     pub options: Options,
     pub rate: u8,
@@ -43,7 +43,7 @@ pub struct Core {
 }
 
 // What a complete frame did, beside flash and the kept sums: the reply, and the record after it.
-#[derive(Drop)]
+#[derive(Clone, Copy)]
 pub struct Done {
     pub reply: Reply,
     pub core: Core,

@@ -8,7 +8,7 @@ ghost use Rattle.chip_options.specs.Options.{is_fresh, rises, raises, released, 
 use part::{Area, Part};
 
 // The window's start and end are block numbers.
-#[derive(Drop)]
+#[derive(Clone, Copy)]
 pub struct Options {
     pub flags: u8,
     pub boot: u8,

@@ -10,7 +10,7 @@ use frame::{Footer, wire};
 use part::Part;
 
 // The reply to a bad frame has its judgement: one status, or that status twice where the frame was a page.
-#[derive(Drop)]
+#[derive(Clone, Copy)]
 pub enum Reply {
     Silence,
     Status(u8),
@@ -25,7 +25,7 @@ pub enum Reply {
 }
 
 // The bytes and the frames of what was written.
-#[derive(Drop)]
+#[derive(Clone, Copy)]
 pub struct Sent {
     pub bytes: usize,
     pub frames: usize,

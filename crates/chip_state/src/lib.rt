@@ -18,7 +18,7 @@ pub struct Chip {
 }
 
 // What a call hands in, as numbers: the count, the first byte and the LEN byte of what is collected, and the lengths of what is lent.
-#[derive(Drop)]
+#[derive(Clone, Copy)]
 pub struct Handed {
     pub count: usize,
     pub head: u8,

@@ -11,7 +11,7 @@ ghost use Rattle.commands.specs.Commands.{com_of, fitted, information_of, payloa
 use frame::wire::Wrote;
 
 // Addresses are three bytes on the wire.
-#[derive(Drop)]
+#[derive(Clone, Copy)]
 pub enum Command {
     RateSet { rate: u8, supply: u8 },
     Reset,
@@ -27,7 +27,7 @@ pub enum Command {
 }
 
 // What a payload is as a command.
-#[derive(Drop)]
+#[derive(Clone, Copy)]
 pub enum Reading {
     Meant(Command),
     UnfitLen,

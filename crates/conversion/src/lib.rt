@@ -13,21 +13,21 @@ use lent::Room;
 use replay_capture::Form;
 
 // What is asked of every record: that it is good, or that the old form can hold it.
-#[derive(Drop)]
+#[derive(Clone, Copy)]
 pub enum Asked {
     Good,
     Held,
 }
 
 // The number, from 0, of the first record that does not pass, if there is one.
-#[derive(Drop)]
+#[derive(Clone, Copy)]
 pub enum Found {
     Nowhere,
     At(usize),
 }
 
 // How a conversion ended: with so many bytes written; or refused at a record that is not good, at one that the old form cannot hold, or for want of room.
-#[derive(Drop)]
+#[derive(Clone, Copy)]
 pub enum Converted {
     Wrote(usize),
     BadRecordAt(usize),

@@ -7,7 +7,7 @@ use part::refusal::Refusal;
 pub mod calls;
 
 // How a job ended, with the frames and retries used.
-#[derive(Drop)]
+#[derive(Clone, Copy)]
 pub struct Account {
     pub ending: Ending,
     pub frames: u32,
@@ -15,7 +15,7 @@ pub struct Account {
 }
 
 // What a call comes to: a frame is due; one of so many bytes was put into the room; the job ended; or the call was refused.
-#[derive(Drop)]
+#[derive(Clone, Copy)]
 pub enum Report {
     Due,
     Put(usize),
@@ -23,7 +23,7 @@ pub enum Report {
     Refused(Refusal),
 }
 
-#[derive(Drop)]
+#[derive(Clone, Copy)]
 pub struct Stepped {
     pub report: Report,
     pub dock: Dock,

@@ -22,7 +22,7 @@ const AFTER_TWO: usize = 2 + frame::OVERHEAD + frame::PAYLOAD_AT;
 
 // What the answer to a frame looks like: one status; 9Ah's, 06h with clock and mode; C0h's, 06h and the signature; that to a page; that to the
 // last page of 40h, with a further status.
-#[derive(Drop)]
+#[derive(Clone, Copy)]
 pub enum Form {
     OneStatus,
     WithRate,
@@ -32,7 +32,7 @@ pub enum Form {
 }
 
 // A readable answer has the status that decides, 06h where none is another, and whether what it holds beside statuses is as the job says.
-#[derive(Drop)]
+#[derive(Clone, Copy)]
 pub enum Decoded {
     Said { status: u8, matches: bool },
     Garbled,
@@ -40,7 +40,7 @@ pub enum Decoded {
 
 // An answer that was judged: what it says, and its fault, or Good. The fault stands beside what is decoded and not in it: the else of a `let .. else` binds
 // nothing.
-#[derive(Drop)]
+#[derive(Clone, Copy)]
 pub struct JudgedAnswer {
     pub decoded: Decoded,
     pub fault: Judgement,

@@ -18,7 +18,7 @@ use dock_layout::job;
 use part::refusal::Verdict;
 
 // A report in numbers.
-#[derive(Drop)]
+#[derive(Clone, Copy)]
 pub struct Figures {
     pub refusal: u32,
     pub bytes: usize,

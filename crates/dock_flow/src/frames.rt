@@ -17,7 +17,7 @@ use frame::{Footer, wire};
 use part::refusal::{Refusal, Verdict};
 
 // The command of a stage's frame, the page and the block that a failure names, and what the answer looks like.
-#[derive(Drop)]
+#[derive(Clone, Copy)]
 pub struct Query {
     pub command: Command,
     pub page: Named,
@@ -26,7 +26,7 @@ pub struct Query {
 }
 
 // A frame of so many bytes lies at the start of the room, or none was handed out.
-#[derive(Drop)]
+#[derive(Clone, Copy)]
 pub enum HandedOut {
     Sent(usize),
     Refused(Refusal),

@@ -13,7 +13,7 @@ use frame::judgement::Judgement;
 pub mod frames;
 
 // What an answer leads to: the stage after it, and the retries that it spent.
-#[derive(Drop)]
+#[derive(Clone, Copy)]
 pub struct Turned {
     pub stage: Stage,
     pub spent: u32,

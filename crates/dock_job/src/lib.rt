@@ -11,7 +11,7 @@ use part::{Area, Part, Range};
 pub mod refusals;
 
 // The image is lent to each call beside the job. The numbers are tested as they are handed in, and none wraps into range.
-#[derive(Drop)]
+#[derive(Clone, Copy)]
 pub struct Job {
     pub part: Part,
     pub start: u32,
@@ -22,7 +22,7 @@ pub struct Job {
 }
 
 // The setup's commands: 9Ah, 00h and C0h.
-#[derive(Drop)]
+#[derive(Clone, Copy)]
 pub enum Setup {
     BaudRate,
     ResetChip,
@@ -30,7 +30,7 @@ pub enum Setup {
 }
 
 // Why a job failed.
-#[derive(Drop)]
+#[derive(Clone, Copy)]
 pub enum Cause {
     UnexpectedStatus,
     Mismatch,
@@ -39,14 +39,14 @@ pub enum Cause {
 }
 
 // A block or a page that is named, or none.
-#[derive(Drop)]
+#[derive(Clone, Copy)]
 pub enum Named {
     It(u32),
     Unnamed,
 }
 
 // A failure names its cause, the frame (its command, and its page if it is one), the status and the block; and the fault of an unreadable reply, else Good.
-#[derive(Drop)]
+#[derive(Clone, Copy)]
 pub struct Failure {
     pub cause: Cause,
     pub command: u8,
@@ -56,14 +56,14 @@ pub struct Failure {
     pub fault: Judgement,
 }
 
-#[derive(Drop)]
+#[derive(Clone, Copy)]
 pub enum Ending {
     Finished,
     Failed(Failure),
 }
 
 // The frames of a block, each page with its number.
-#[derive(Drop)]
+#[derive(Clone, Copy)]
 pub enum Work {
     Blank,
     Erase,
@@ -74,7 +74,7 @@ pub enum Work {
 }
 
 // Which frame of the flow is due or was sent last: a setup command, or one of a block, counted in the job from 0; or that the job is over.
-#[derive(Drop)]
+#[derive(Clone, Copy)]
 pub enum Stage {
     SetUp(Setup),
     InBlock { block: u32, work: Work },
@@ -82,7 +82,7 @@ pub enum Stage {
 }
 
 // The stage, whether the answer to its frame is awaited, and the retries and frames used.
-#[derive(Drop)]
+#[derive(Clone, Copy)]
 pub struct Dock {
     pub stage: Stage,
     pub awaited: bool,

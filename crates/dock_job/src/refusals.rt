@@ -9,7 +9,7 @@ use part::refusal::{Refusal, Verdict};
 
 // The calls, with what is handed in beside job and image: to begin; to ask for a frame, with the state and the length of the room; to tell what
 // was heard, with the state.
-#[derive(Drop)]
+#[derive(Clone, Copy)]
 pub enum Call {
     Begins,
     Asks { dock: Dock, room: usize },

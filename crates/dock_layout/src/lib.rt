@@ -13,7 +13,7 @@ use frame::judgement::{Fault, Judgement};
 pub mod job;
 
 // A stage in numbers: which it is, the block and the page that it names, and of a failure the cause, the command, the status and the fault.
-#[derive(Drop)]
+#[derive(Clone, Copy)]
 pub struct Flat {
     pub stage: u8,
     pub block: Named,

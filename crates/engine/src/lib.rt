@@ -23,7 +23,7 @@ use part::Part;
 use part::refusal::{Refusal, Verdict};
 
 // What the engine answers: so many bytes and frames of replies, or that it is refused, for a chip's reason or for want of room.
-#[derive(Drop)]
+#[derive(Clone, Copy)]
 pub enum EngineAnswer {
     Replied { bytes: usize, frames: usize },
     Refused(Refusal),
@@ -40,7 +40,7 @@ pub struct Played {
 }
 
 // What lies at the front of the bytes ahead: part of a frame or nothing, a byte before a header, a mode byte, or a whole frame of so many bytes.
-#[derive(Drop)]
+#[derive(Clone, Copy)]
 pub enum Front {
     Held,
     Skipped,
@@ -49,7 +49,7 @@ pub enum Front {
 }
 
 // What has been told so far.
-#[derive(Drop)]
+#[derive(Clone, Copy)]
 struct ToldSoFar {
     bytes: usize,
     frames: usize,
@@ -58,14 +58,14 @@ struct ToldSoFar {
 }
 
 // What a frame came to: the chip's record after it, and what has been told then.
-#[derive(Drop)]
+#[derive(Clone, Copy)]
 struct FrameDone {
     core: Core,
     told: ToldSoFar,
 }
 
 // The same of all that was taken of the stretch, and how far that is.
-#[derive(Drop)]
+#[derive(Clone, Copy)]
 struct Reached {
     core: Core,
     told: ToldSoFar,

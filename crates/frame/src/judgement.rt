@@ -5,7 +5,7 @@ ghost use Rattle.frame.specs.Judgement.{fault_of, fitting, is_good, judge_of, st
 use super::{Footer, sum};
 
 // A wrong footer or SUM has its place in the frame, counted from the header; a wrong first byte is a fault of replies alone.
-#[derive(Drop)]
+#[derive(Clone, Copy)]
 pub enum Judgement {
     Good,
     WrongFooter(u16),
@@ -15,7 +15,7 @@ pub enum Judgement {
 }
 
 // A fault in numbers, and the place of its byte; both 0 where there is none.
-#[derive(Drop)]
+#[derive(Clone, Copy)]
 pub struct Fault {
     pub number: u8,
     pub place: u16,

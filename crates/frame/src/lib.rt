@@ -20,13 +20,13 @@ pub const LONGEST: usize = 260;
 // What a frame has beside its payload before its last byte comes.
 pub const BEFORE_LAST: usize = OVERHEAD - 1;
 
-#[derive(Drop)]
+#[derive(Clone, Copy)]
 pub enum Header {
     Command,
     Data,
 }
 
-#[derive(Drop)]
+#[derive(Clone, Copy)]
 pub enum Footer {
     Last,
     More,

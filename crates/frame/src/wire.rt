@@ -7,7 +7,7 @@ ghost use Rattle.frame.specs.Wire.{wrote, write_of, laid, unfit_reply, judge_rep
 use super::judgement::Judgement;
 use super::{Footer, Header, judgement, sum};
 
-#[derive(Drop)]
+#[derive(Clone, Copy)]
 pub enum Wrote {
     Long(usize),
     UnfitPayload,

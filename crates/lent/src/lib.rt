@@ -6,7 +6,7 @@ ghost use Rattle.words.specs.Words.{◌and◌};
 ghost use Rattle.lent.specs.Lent.{all_are, left, put_of, same};
 
 // Whether the room was enough. Where it was short, nothing was changed.
-#[derive(Drop)]
+#[derive(Clone, Copy)]
 pub enum Room {
     Enough,
     Short,

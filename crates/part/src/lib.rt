@@ -11,7 +11,7 @@ pub mod refusal;
 pub mod signature;
 
 // The three numbers are wide enough that none handed in wraps into range, and narrow enough that no address computed from them wraps.
-#[derive(Drop)]
+#[derive(Clone, Copy)]
 pub struct Part {
     pub code_blocks: u32,
     pub data_blocks: u32,
@@ -21,21 +21,21 @@ pub struct Part {
     pub version: [u8; 3],
 }
 
-#[derive(Drop)]
+#[derive(Clone, Copy)]
 pub enum Area {
     CodeFlash,
     DataFlash,
 }
 
 // The last address of an area, or none where it has no blocks.
-#[derive(Drop)]
+#[derive(Clone, Copy)]
 pub enum LastAddress {
     At(usize),
     Nothing,
 }
 
 // Where an address lies: its area, its offset there, the number of its block in the area and of its page in the block.
-#[derive(Drop)]
+#[derive(Clone, Copy)]
 pub enum Place {
     In {
         area: Area,
@@ -47,7 +47,7 @@ pub enum Place {
 }
 
 // A good range has its area, the number of its first block there, and how many blocks it is long.
-#[derive(Drop)]
+#[derive(Clone, Copy)]
 pub enum Range {
     Blocks {
         area: Area,

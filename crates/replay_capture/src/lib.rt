@@ -6,14 +6,14 @@ ghost use Rattle.replay_capture.specs.Capture.{carried_bytes, data_size, good_co
 ghost use Rattle.replay_capture.specs.Capture.{seat_of, spare_of, tick_of, unused};
 
 // Document 01's records, and the wider ones of 02, section 5.
-#[derive(Drop)]
+#[derive(Clone, Copy)]
 pub enum Form {
     Old,
     New,
 }
 
 // What a record is to the replay of seat 0: a gap, so many bytes, the other seat's, or not good.
-#[derive(Drop)]
+#[derive(Clone, Copy)]
 pub enum Record {
     GapRecord,
     BytesRecord(usize),

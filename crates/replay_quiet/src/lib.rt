@@ -14,14 +14,14 @@ use part::refusal::Verdict;
 use replay_capture::{Form, Record};
 
 // What became of a record: it is settled, and so many bytes are collected; or it is not quiet, and nothing was changed.
-#[derive(Drop)]
+#[derive(Clone, Copy)]
 pub enum Quiet {
     Settled(usize),
     NotQuiet,
 }
 
 // How much is lent beside the collected bytes.
-#[derive(Drop)]
+#[derive(Clone, Copy)]
 pub struct Lengths {
     pub code: usize,
     pub data: usize,

@@ -22,7 +22,7 @@ use replay_play::RecordEnded;
 use replay_quiet::{Lengths, Quiet};
 
 // How a capture ended: with its last record; at a record that is not good; before one, for want of output; or at a call that the chip refused.
-#[derive(Drop)]
+#[derive(Clone, Copy)]
 pub enum Ended {
     Whole,
     AtBadRecord,

@@ -27,7 +27,7 @@ framed_is : (lead rest : List ℕ) (h : Header) (f : Footer) (hb len s t u fb : 
     → hb ≡ header_byte h → len ≡ len_byte (length lead + length rest) → s ≡ less 256 0 len → t ≡ less_all 256 s lead → u ≡ less_all 256 t rest
     → fb ≡ footer_byte f → hb ∷ len ∷ (((lead ++ rest) ++ u ∷ []) ++ fb ∷ []) ≡ framed h (lead ++ rest) f
 unfolding framed sum_of less_all
-framed_is lead rest h f hb len s t u fb a b c d e g = rw (a, g, e, d, c, b, length-append lead rest, sum-join, append_assoc)
+framed_is lead rest h f hb len s t u fb a b c d e g = rw (a, g, e, d, c, b, length-append lead rest, sum-join 256 (less 256 0 (len_byte (length lead + length rest))) lead rest, append_assoc)
 
 laid-at-start : (room ws : List ℕ) (h : Header) (ds : List ℕ) (f : Footer) → ws ≡ framed h ds f → ws ++ drop (length ws) room ≡ laid room h ds f
 unfolding laid

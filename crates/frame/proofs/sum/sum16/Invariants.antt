@@ -1,0 +1,12 @@
+-- `frame::sum::sum16` meets its contract: what the bytes still to come leave of the sum stays the same from turn to turn.
+-- Assumes nothing.
+use Rattle.std.proofs.Common.{◌≡◌, ◌-◌, ◌≤◌, length, arith, rules}
+use Rattle.frame.proofs.Laws.Sum.{From, from_end, from_start, from-turn}
+use Rattle.frame.specs.Sum.{less_all}
+use Rattle.frame.proofs.sum.sum16.Given as goal
+
+abbrev pub invariant-loop-i : goal.invariant-loop-i
+invariant-loop-i l = (l.i ≤ length l.bytes) × (l.i-end ≡ length l.bytes) × From 65536 l.sum l.bytes l.i (less_all 65536 l.start l.bytes)
+
+abbrev pub decreases-loop-i : goal.decreases-loop-i
+decreases-loop-i l = length l.bytes - l.i

@@ -1,0 +1,10 @@
+-- `numbers::low2` meets its contract: the lowest byte first.
+-- Assumes nothing.
+use mathlib.Core.Path.{refl}
+use Rattle.numbers.specs.Numbers.{low_first}
+use borrow.Author.Rules.{rules}
+use Rattle.numbers.proofs.low2.Goals as goal
+
+pub returns : goal.returns
+unfolding low_first
+returns c = refl
