@@ -1,0 +1,13 @@
+-- `replay_capture::tick` meets its contract: the four bytes from the fifth on, in the new form.
+-- Assumes nothing.
+use borrow.Author.Rules.{rules}
+use Rattle.replay_capture.specs.Capture.{tick_of}
+use Rattle.replay_capture.proofs.tick.Goals as goal
+
+pub returns-in-Old : goal.returns-in-Old
+unfolding tick_of
+returns-in-Old c = simp c.in-Old.is
+
+pub returns-in-New : goal.returns-in-New
+unfolding tick_of
+returns-in-New c = simp (c.in-New.is, ← c.number4.ensures)
