@@ -1,0 +1,13 @@
+-- `dock_job::refusals::is_good_named_block` meets its contract: what is not named has nothing to test.
+-- Assumes nothing.
+use borrow.Author.Rules.{rules}
+use Rattle.dock_job.specs.Refusals.{good_named_block}
+use Rattle.dock_job.proofs.refusals.is_good_named_block.Goals as goal
+
+pub returns-in-It : goal.returns-in-It
+unfolding good_named_block
+returns-in-It c = simp (c.in-It.is, ← c.is_good_block.ensures)
+
+pub returns-in-Unnamed : goal.returns-in-Unnamed
+unfolding good_named_block
+returns-in-Unnamed c = simp c.in-Unnamed.is
