@@ -38,8 +38,7 @@ fn frames_told(answer: Answer) -> usize
 }
 
 // A fresh chip of the part into the lent state.
-#[unsafe(no_mangle)]
-pub extern "C" fn zc_fresh(part: &[u8; 19], state: &mut [u8; chip_layout::STATE_SIZE]) -> u32
+pub fn zc_fresh(part: &[u8; 19], state: &mut [u8; chip_layout::STATE_SIZE]) -> u32
     ensures { made result state.new ≡ fresh_through (part_in part.now) state.old }
 {
     let step = events::fresh(part_layout::part_in(part));
@@ -57,8 +56,7 @@ pub extern "C" fn zc_fresh(part: &[u8; 19], state: &mut [u8; chip_layout::STATE_
 }
 
 // All sums of a chip's blocks worked out from its flash into the lent numbers: when a chip is taken up.
-#[unsafe(no_mangle)]
-pub extern "C" fn zc_sums(part: &[u8; 19], code: &[u8], data: &[u8], sums: &mut [u16; 72]) -> u32
+pub fn zc_sums(part: &[u8; 19], code: &[u8], data: &[u8], sums: &mut [u16; 72]) -> u32
     ensures { sums_told result sums.new
         ≡ summed_through (part_in part.now) (flash code.now «data».now) sums.old }
 {
@@ -118,8 +116,7 @@ fn are_bytes(state: &[u8])
 
 // A byte comes. The reply, if one is made, lies at the start of the room: told are its bytes and its frames, and the fault of the frame that it answers, with its
 // place, where that was judged bad. One that is only added to what is collected is written where the state lies.
-#[unsafe(no_mangle)]
-pub extern "C" fn zc_byte(
+pub fn zc_byte(
     part: &[u8; 19],
     state: &mut [u8; chip_layout::STATE_SIZE],
     b: u8,
@@ -148,8 +145,7 @@ pub extern "C" fn zc_byte(
 }
 
 // A gap comes: only the count of what is collected is new, and it is written where the state lies.
-#[unsafe(no_mangle)]
-pub extern "C" fn zc_gap(
+pub fn zc_gap(
     part: &[u8; 19],
     state: &mut [u8; chip_layout::STATE_SIZE],
     code: &mut [u8],
@@ -174,8 +170,7 @@ pub extern "C" fn zc_gap(
 }
 
 // Power-on.
-#[unsafe(no_mangle)]
-pub extern "C" fn zc_power_on(
+pub fn zc_power_on(
     part: &[u8; 19],
     state: &mut [u8; chip_layout::STATE_SIZE],
     code: &mut [u8],
@@ -193,8 +188,7 @@ pub extern "C" fn zc_power_on(
 
 // Bytes one after the other, up to the first that is answered: told are how many were taken, and the same of the last as of a byte. The caller hands the rest in
 // again.
-#[unsafe(no_mangle)]
-pub extern "C" fn zc_feed(
+pub fn zc_feed(
     part: &[u8; 19],
     state: &mut [u8; chip_layout::STATE_SIZE],
     fed: &[u8],

@@ -45,8 +45,7 @@ fn steps(
 }
 
 // A fresh chip through all the bytes; the count of those that it has collected at the end.
-#[unsafe(no_mangle)]
-pub extern "C" fn zp_steps(
+pub fn zp_steps(
     part: &[u8; 19],
     bytes: &[u8],
     code: &mut [u8],

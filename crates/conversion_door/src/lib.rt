@@ -19,16 +19,14 @@ fn convert(from: Form, capture: &[u8], output: &mut [u8], told: &mut [u64; 2]) -
 }
 
 // An old capture into the new form.
-#[unsafe(no_mangle)]
-pub extern "C" fn zc_to_new(capture: &[u8], output: &mut [u8], told: &mut [u64; 2]) -> u32
+pub fn zc_to_new(capture: &[u8], output: &mut [u8], told: &mut [u64; 2]) -> u32
     ensures { convert_told result told.new output.new ≡ converted_through Old capture.now output.old }
 {
     convert(Form::Old, capture, output, told)
 }
 
 // A new capture into the old form.
-#[unsafe(no_mangle)]
-pub extern "C" fn zc_to_old(capture: &[u8], output: &mut [u8], told: &mut [u64; 2]) -> u32
+pub fn zc_to_old(capture: &[u8], output: &mut [u8], told: &mut [u64; 2]) -> u32
     ensures { convert_told result told.new output.new ≡ converted_through New capture.now output.old }
 {
     convert(Form::New, capture, output, told)

@@ -120,8 +120,7 @@ fn hear(
 }
 
 // A dock before its first frame, into the lent state.
-#[unsafe(no_mangle)]
-pub extern "C" fn zc_start(
+pub fn zc_start(
     part: &[u8; 19],
     job: &[u8; 11],
     image: &[u8],
@@ -141,8 +140,7 @@ pub extern "C" fn zc_start(
 }
 
 // The next frame, put at the start of the room: told is how many bytes.
-#[unsafe(no_mangle)]
-pub extern "C" fn zc_ask(
+pub fn zc_ask(
     part: &[u8; 19],
     job: &[u8; 11],
     image: &[u8],
@@ -169,8 +167,7 @@ pub extern "C" fn zc_ask(
 }
 
 // The whole answer to the frame that was handed out.
-#[unsafe(no_mangle)]
-pub extern "C" fn zc_answer(
+pub fn zc_answer(
     part: &[u8; 19],
     job: &[u8; 11],
     image: &[u8],
@@ -185,8 +182,7 @@ pub extern "C" fn zc_answer(
 }
 
 // No answer came to the frame that was handed out.
-#[unsafe(no_mangle)]
-pub extern "C" fn zc_timeout(
+pub fn zc_timeout(
     part: &[u8; 19],
     job: &[u8; 11],
     image: &[u8],
@@ -207,8 +203,7 @@ pub extern "C" fn zc_timeout(
 }
 
 // How many bytes are still wanted of the answer, before it can be readable; 0: hand it in.
-#[unsafe(no_mangle)]
-pub extern "C" fn zc_wants(
+pub fn zc_wants(
     part: &[u8; 19],
     job: &[u8; 11],
     image: &[u8],

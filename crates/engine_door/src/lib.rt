@@ -12,8 +12,7 @@ use part::refusal::Verdict;
 
 // All bytes of the stretch are taken. The replies lie end to end at the start of the room: told are their bytes and frames, how many frames were judged bad, and the
 // fault of the first of them with its place.
-#[unsafe(no_mangle)]
-pub extern "C" fn zc_engine(
+pub fn zc_engine(
     part: &[u8; 19],
     state: &mut [u8; chip_layout::STATE_SIZE],
     fed: &[u8],

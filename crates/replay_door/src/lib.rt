@@ -80,8 +80,7 @@ fn replay(
     }
 }
 
-#[unsafe(no_mangle)]
-pub extern "C" fn zc_replay(
+pub fn zc_replay(
     part: &[u8; 19],
     state: &mut [u8; chip_layout::STATE_SIZE],
     capture: &[u8],
@@ -111,8 +110,7 @@ pub extern "C" fn zc_replay(
     )
 }
 
-#[unsafe(no_mangle)]
-pub extern "C" fn zc_replay_new(
+pub fn zc_replay_new(
     part: &[u8; 19],
     state: &mut [u8; chip_layout::STATE_SIZE],
     capture: &[u8],
