@@ -53,6 +53,7 @@ unfolding framing
 goes h w gap k = goes_on head_idle
 goes h idle (byte b) head_idle = if-all (Goes h) _ (λ t. goes_on (head_begun b (eqb-true _ _ t))) (λ t. goes_on head_idle)
 goes h (begun y) (byte b) (head_begun x e) = goes_on (head_inside y (b ∷ []) (counted b + 2) e)
+goes h (inside [] m) (byte b) k = elim k [ ]
 goes h (inside (y ∷ ys) m) (byte b) (head_inside x xs n e) =
     if-all (Goes h) _
     (λ t. record { stands = head_idle; begins = λ g gs q. let z : y ∷ (ys ++ b ∷ []) ≡ g = cc in ap (λ (l : List ℕ). get_or l 0 0) (sym z) ∙ e })
