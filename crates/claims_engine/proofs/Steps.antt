@@ -20,7 +20,7 @@ use Rattle.chip_core.specs.declared.Core.{Core}
 use Rattle.chip_core.specs.declared.Hearing.{Hearing}
 use Rattle.chip_core.specs.declared.Hearing.TheVariants.{HearsNothing}
 use Rattle.chip_core.specs.declared.Phase.{Phase}
-use Rattle.chip_core.specs.declared.Phase.TheVariants.{Awaiting, Ready, Setup}
+use Rattle.chip_core.specs.declared.Phase.TheVariants.{Awaiting, ModeByte, Ready, Setup}
 use Rattle.chip_frame.specs.Does.{mode_byte, silent}
 use Rattle.chip_state.proofs.Laws.{accepts, collected-cut, good-within, state-collected}
 use Rattle.chip_state.specs.Refusals.{good_begun, good_collected, good_heard}
@@ -48,6 +48,7 @@ pub record Awaits (f : Phase) (h : Header) : Type 0 where
 
 pub awaits-for : (f : Phase) (h : Header) → HearsFor (hearing f) h → Awaits f h
 unfolding hearing
+awaits-for ModeByte h k = elim k [ ]
 awaits-for Setup h for_commands = record { frame = command in_setup; header = refl }
 awaits-for Ready h for_commands = record { frame = command in_ready; header = refl }
 awaits-for (Awaiting w) h (for_data x) = record { frame = page w; header = refl }
