@@ -1,0 +1,10 @@
+-- `chip_layout::head` meets its contract: nine bytes, in the definition's order.
+-- Assumes nothing.
+use borrow.Author.Rules.{rules}
+use Rattle.chip_options.proofs.Laws.{option-bytes}
+use Rattle.chip_layout.specs.Layout.{head_of}
+use Rattle.chip_layout.proofs.head.Goals as goal
+
+pub returns : goal.returns
+unfolding head_of
+returns c = rw (option-bytes _)

@@ -1,0 +1,24 @@
+-- `dock::calls::timeout` meets its contract: the verdict decides, then the timeout ends the job.
+-- Assumes nothing.
+use mathlib.Core.Path.{◌≡◌, ap}
+use Prim.Native.Nat.{◌<◌, ◌^◌}
+use native.Mathlib.Omega.{arith}
+use borrow.Author.Rules.{rules}
+use Rattle.dock.specs.Calls.{hear_of, turning}
+use Rattle.dock_flow.proofs.Laws.{heard-silence}
+use Rattle.dock_flow.specs.declared.Turned.{Turned}
+use Rattle.dock.proofs.calls.timeout.Goals as goal
+
+pub moved-requires : goal.moved-requires
+moved-requires c =
+    let r : c.args.dock.retries < 2 ^ 32 = search rules in
+    let s : c.after_timeout.result.spent ≡ 0 = ap (λ (t : Turned). t.spent) c.after_timeout.ensures in
+    omega arith
+
+pub returns-in-Refused : goal.returns-in-Refused
+unfolding hear_of turning
+returns-in-Refused c = simp (← c.verdict-v.ensures, c.in-Refused.is)
+
+pub returns-in-Accepted : goal.returns-in-Accepted
+unfolding hear_of turning
+returns-in-Accepted c = simp (← c.verdict-v.ensures, c.in-Accepted.is, heard-silence, ← c.after_timeout.ensures, ← c.moved.ensures)
