@@ -120,12 +120,7 @@ fn hear(
 }
 
 // A dock before its first frame, into the lent state.
-pub fn zc_start(
-    part: &[u8; 19],
-    job: &[u8; 11],
-    image: &[u8],
-    state: &mut [u8; 26],
-) -> u32
+pub fn zc_start(part: &[u8; 19], job: &[u8; 11], image: &[u8], state: &mut [u8; 26]) -> u32
     ensures { start_told result state.new
         ≡ start_through (job_in part.now job.now) image.now state.old }
 {

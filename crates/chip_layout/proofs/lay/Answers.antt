@@ -14,7 +14,7 @@ slice_bounds-put-end-5 c =
     sym bytes-long
 
 pub bounds-state-293 : goal.bounds-state-293
-bounds-state-293 c = omega (arith, c.requires, c.put.auto.0, c.put-2.auto.0, c.put-3.auto.0, c.put-4.auto.0, c.put-5.auto.0)
+bounds-state-293 c = omega (arith, c.requires, c.put.auto.room, c.put-2.auto.room, c.put-3.auto.room, c.put-4.auto.room, c.put-5.auto.room)
 
 pub returns : goal.returns
 returns c =

@@ -6,7 +6,7 @@ use Rattle.chip_layout.proofs.Laid.{byte_left, byte-stored}
 use Rattle.chip_layout.proofs.in_place.put_byte.Goals as goal
 
 pub bounds-state-n : goal.bounds-state-n
-bounds-state-n c = omega (arith, c.if-n-lt-LONGEST.true, c.requires, c.put_count.auto.0)
+bounds-state-n c = omega (arith, c.if-n-lt-LONGEST.true, c.requires, c.put_count.auto.state)
 
 pub returns-then-n-lt-LONGEST : goal.returns-then-n-lt-LONGEST
 returns-then-n-lt-LONGEST c = byte-stored _ _ _ _ c.put_count.ensures c.number8-n.ensures c.if-n-lt-LONGEST.true
