@@ -70,7 +70,7 @@ fn powered_on(core: Core) -> Core
 }
 
 // What a byte came to that is not refused: what was sent, the fault of the frame that it completed, and the chip after it.
-#[derive(Drop)]
+#[derive(Clone, Copy)]
 struct ByteDone {
     sent: Sent,
     fault: Judgement,

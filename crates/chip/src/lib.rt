@@ -21,7 +21,7 @@ pub enum Answer {
 }
 
 // What a step leaves beside what is lent: the answer, the judgement of the frame that it answers where that was judged bad (else Good), and the chip.
-#[derive(Drop)]
+#[derive(Clone, Copy)]
 pub struct Step {
     pub answer: Answer,
     pub fault: Judgement,

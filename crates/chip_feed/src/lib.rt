@@ -15,7 +15,7 @@ use part::Part;
 use part::refusal::Verdict;
 
 // What a stretch of bytes came to: how many were taken, and what the step of the last one left.
-#[derive(Drop)]
+#[derive(Clone, Copy)]
 pub struct Fed {
     pub taken: usize,
     pub answer: Answer,

@@ -11,7 +11,7 @@ use frame::collector::Collector;
 use part::refusal::{Refusal, Verdict};
 use part::{Area, Part, Place};
 
-#[derive(Drop)]
+#[derive(Clone, Copy)]
 pub struct Chip {
     pub core: Core,
     pub collector: Collector,

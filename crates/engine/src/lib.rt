@@ -31,7 +31,7 @@ pub enum EngineAnswer {
 }
 
 // What a stretch leaves beside what is lent: the answer, how many of its frames were judged bad, the judgement of the first of them, and the chip.
-#[derive(Drop)]
+#[derive(Clone, Copy)]
 pub struct Played {
     pub answer: EngineAnswer,
     pub faults: usize,
@@ -252,7 +252,7 @@ fn room_behind(count: usize, n: usize) -> usize
 }
 
 // What is held with the bytes that follow it, as far as the longest frame reaches: the first `len` of the array.
-#[derive(Drop)]
+#[derive(Clone, Copy)]
 struct Begun {
     bytes: [u8; frame::LONGEST],
     len: usize,

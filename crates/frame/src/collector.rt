@@ -6,7 +6,7 @@ ghost use Rattle.frame.specs.Inner.Collector.{stored};
 use lent::Room;
 
 // The bytes past `len` are spare: no method touches them.
-#[derive(Drop)]
+#[derive(Clone, Copy)]
 pub struct Collector {
     pub bytes: [u8; 260],
     pub len: usize,

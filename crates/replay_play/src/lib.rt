@@ -14,7 +14,7 @@ use part::refusal::Refusal;
 use replay_capture::{Form, Record};
 
 // How playing ended: with so many bytes and frames of replies; at a record that is not good; before one, for want of output; or at a call that the chip refused.
-#[derive(Drop)]
+#[derive(Clone, Copy)]
 pub enum RecordEnded {
     Played { bytes: usize, frames: usize },
     NotGood,
@@ -22,7 +22,7 @@ pub enum RecordEnded {
     Refused(Refusal),
 }
 
-#[derive(Drop)]
+#[derive(Clone, Copy)]
 pub struct PlayedRecord {
     pub ended: RecordEnded,
     pub chip: Chip,

@@ -30,7 +30,7 @@ pub enum Ended {
     Refused(Refusal),
 }
 
-#[derive(Drop)]
+#[derive(Clone, Copy)]
 pub struct Replayed {
     pub ended: Ended,
     pub records: usize,
@@ -40,7 +40,7 @@ pub struct Replayed {
 }
 
 // What a record's turn came to: how it ended, the chip's record, how many bytes are collected, and whether the next call is known to be accepted.
-#[derive(Drop)]
+#[derive(Clone, Copy)]
 struct RecordTurn {
     ended: RecordEnded,
     core: Core,
