@@ -40,8 +40,8 @@ fn within(folder: &Path) -> Vec<String> {
 
 fn is_built() {
     assert!(
-        top().join("target/bin/convert").is_file(),
-        "target/bin/convert is missing: run `rt check convert` at the top of the repository first"
+        top().join("crates/convert/out/convert").is_file(),
+        "crates/convert/out/convert is missing: run `rt run` in crates/convert first"
     );
 }
 

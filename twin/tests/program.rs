@@ -35,8 +35,8 @@ fn scratch(name: &str) -> PathBuf {
 /// The program, as bin/run starts it.
 fn program() -> Command {
     assert!(
-        top().join("target/bin/replay").is_file(),
-        "target/bin/replay is missing: run `rt check replay` at the top of the repository first"
+        top().join("crates/replay/out/replay").is_file(),
+        "crates/replay/out/replay is missing: run `rt run` in crates/replay first"
     );
     let mut command = Command::new(top().join("bin/run"));
     command.arg("replay").stdin(Stdio::null());
@@ -181,7 +181,7 @@ fn program_knows_plain() {
     assert_eq!(
         printed.as_deref(),
         Ok("END 0\n"),
-        "target/bin/replay does not take --plain: is it older than its crate? `rt check replay` builds it"
+        "crates/replay/out/replay does not take --plain: is it older than its crate? `rt run` in crates/replay builds it"
     );
 }
 

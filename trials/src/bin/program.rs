@@ -139,9 +139,9 @@ fn twin_program() -> Result<Program, Failure> {
 }
 
 fn proved_program() -> Result<Program, Failure> {
-    if !top("target/bin/replay").is_file() {
-        let why = "is not built; run this first, at the top of the repository: rt check replay";
-        return Err(missing(format!("target/bin/replay {why}")));
+    if !top("crates/replay/out/replay").is_file() {
+        let why = "is not built; run this first, in crates/replay: rt run";
+        return Err(missing(format!("crates/replay/out/replay {why}")));
     }
     Ok(Program {
         path: top("bin/run"),
@@ -261,7 +261,7 @@ fn row(recorded: &Recorded, programs: &[Program; 2]) -> Result<[f64; 2], Failure
 fn trial() -> Result<(), Failure> {
     let native = cfg!(target_arch = "x86_64");
     let (proved, how) = if native {
-        (proved_program()?, "target/bin/replay by bin/run")
+        (proved_program()?, "crates/replay/out/replay by bin/run")
     } else {
         (library_program()?, "the library in a process of this trial")
     };
@@ -286,11 +286,11 @@ fn trial() -> Result<(), Failure> {
 fn emulated(recorded: &Recorded, twin: &Program) -> Result<(), Failure> {
     let name = recorded.name();
     let Ok(program) = proved_program() else {
-        println!("target/bin/replay is not built, so the emulated program is not compared");
+        println!("crates/replay/out/replay is not built, so the emulated program is not compared");
         return Ok(());
     };
     let ((_, said), (_, twin_said)) = (program.run(&recorded.path)?, twin.run(&recorded.path)?);
     same(recorded, &said, &twin_said)?;
-    println!("target/bin/replay, emulated, prints the same for {name}");
+    println!("crates/replay/out/replay, emulated, prints the same for {name}");
     Ok(())
 }
