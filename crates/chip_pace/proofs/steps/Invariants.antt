@@ -1,0 +1,25 @@
+-- `chip_pace::steps` meets its contract: what the bytes still to come make of the last step's outcome stays the same from turn to turn.
+-- Assumes nothing.
+use mathlib.Core.List.{map}
+use mathlib.Core.Path.{◌∙◌, ◌≡◌, refl}
+use Prim.Native.Nat.{◌-◌, ◌≤◌}
+use native.Mathlib.Omega.{arith}
+use lib.ListN.{length}
+use borrow.Author.Rules.{rules}
+use Rattle.chip_pace.proofs.Laws.{Stepped, stepped-end, stepped_start, stepped-turn}
+use Rattle.chip.specs.Run.{run}
+use Rattle.chip.specs.Step.{outcome}
+use Rattle.chip.specs.declared.Event.TheVariants.{Byte}
+use Rattle.chip_core.specs.Effect.{memory}
+use Rattle.chip_pace.proofs.steps.Given as goal
+
+abbrev pub invariant-loop-i : goal.invariant-loop-i
+invariant-loop-i l =
+    (l.i ≤ length l.bytes)
+    × (length l.code ≡ length l.initial.code)
+    × (length l.data ≡ length l.initial.data)
+    × (length l.room ≡ length l.initial.room)
+    × Stepped l.part l.bytes l.i (outcome l.last (memory l.code l.data l.sums) l.room) (run l.part (map Byte l.bytes) (outcome l.initial.last (memory l.initial.code l.initial.data l.initial.sums) l.initial.room))
+
+abbrev pub decreases-loop-i : goal.decreases-loop-i
+decreases-loop-i l = length l.bytes - l.i

@@ -1,0 +1,34 @@
+-- `replay_records::replay` meets its contract: what the records still to come make of what was replayed stays the same from turn to turn.
+-- Assumes nothing.
+use mathlib.Core.Bool.{true}
+use mathlib.Core.Path.{◌∙◌, ◌≡◌, refl}
+use Prim.Native.Nat.{◌-◌, ◌<◌, ◌^◌}
+use native.Mathlib.Omega.{arith}
+use lib.ListN.{length}
+use borrow.Author.Rules.{rules}
+use Rattle.chip.proofs.Adding.{verdict_at}
+use Rattle.part.specs.Part.{Arrays}
+use Rattle.part.specs.declared.refusal.Verdict.TheVariants.{Accepted}
+use Rattle.chip_core.specs.Effect.{memory}
+use Rattle.replay_quiet.specs.Quiet.{chip_held}
+use Rattle.replay_records.proofs.Loop.{ReplayedFrom, never, output-kept, replayed-bad, replayed-end, replayed-full, replayed-refused, replayed-start, replayed-turn, turn-ends, turn-lies}
+use Rattle.replay_records.specs.Records.{replay_of}
+use Rattle.replay_records.specs.declared.Ended.TheVariants.{Whole}
+use Rattle.replay_records.proofs.replay.Given as goal
+
+abbrev pub invariant-loop-at : goal.invariant-loop-at
+invariant-loop-at l =
+    (length l.code ≡ length l.initial.code)
+    × (length l.data ≡ length l.initial.data)
+    × (length l.room ≡ length l.initial.room)
+    × (length l.output ≡ length l.initial.output)
+    × (length l.initial.output < 2 ^ 64)
+    × Arrays l.part
+    × (length l.held ≡ 260)
+    × (l.known ≡ true → verdict_at l.part (chip_held l.core l.held l.count) (memory l.code l.data l.sums) l.room ≡ Accepted)
+    × ReplayedFrom l.form l.part l.capture l.at
+    (record { ended = Whole; records = l.records; bytes = l.bytes; frames = l.frames; chip = chip_held l.core l.held l.count; memory = memory l.code l.data l.sums; room = l.room; output = l.output })
+    (replay_of l.form l.part l.capture (chip_held l.initial.core l.initial.held l.initial.count) (memory l.initial.code l.initial.data l.initial.sums) l.initial.room l.initial.output)
+
+abbrev pub decreases-loop-at : goal.decreases-loop-at
+decreases-loop-at l = length l.capture - l.at
