@@ -43,7 +43,9 @@ AnswerOnly = (from : Form) (capture output : List ℕ) (x : Converting) → Answ
 
 -- "The output stays untouched", whichever refusal it is.
 abbrev pub RefusedUntouched : Type 0
-RefusedUntouched = (from : Form) (capture output : List ℕ) → refusal_number (convert_of from capture output).converted ≢ 0 → (convert_of from capture output).output ≡ output
+RefusedUntouched =
+    (from : Form) (capture output : List ℕ) → refusal_number (convert_of from capture output).converted ≢ 0
+    → (convert_of from capture output).output ≡ output
 
 -- From the old form 11 is never told.
 abbrev pub OldNeverNotHeld : Type 0

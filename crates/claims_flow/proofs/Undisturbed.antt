@@ -11,7 +11,8 @@ use borrow.Author.Tests.{eq-eqb, le-ltb, lt-ltb}
 use Rattle.claims_dock.proofs.Stepped.{dock-is-flow}
 use Rattle.claims_dock.specs.Examples.{both, say, third}
 use Rattle.claims_dock.specs.Stepping.{result_at, results_of}
-use Rattle.claims_flow.specs.Undisturbed.{Undisturbed, UndisturbedDock, all_answers, all_frames, answers_of, blank_answers, block_answers, block_count, block_frames, command_frame, erase_count, erase_frames, four_pages, from_to, frames_from, page_answers}
+use Rattle.claims_flow.specs.Undisturbed.{Undisturbed, UndisturbedDock, all_answers, all_frames, answers_of, blank_answers, block_answers, block_count}
+use Rattle.claims_flow.specs.Undisturbed.{block_frames, command_frame, erase_count, erase_frames, four_pages, from_to, frames_from, page_answers}
 use Rattle.claims_frame.proofs.RoundTrip.{ReadBack, read_back}
 use Rattle.commands.specs.Commands.{com_of, information_of, payload_of}
 use Rattle.dock_answer.specs.Answer.{deciding, judge_answer, judge_frames, matching, rate_matches, read_answer, shape, signature_matches, statuses}

@@ -16,7 +16,8 @@ use Rattle.chip_commands.specs.Commands.{allowed_in, command_does, reading_does,
 use Rattle.commands.specs.Commands.{com_of, command_table, fitted, information_of, payload_of, read_command, read_in}
 use Rattle.chip_work.specs.Work.{blank_check, block_erase, checksum, erased_in, forbidden, programming, rate_set, security_release, verify}
 use Rattle.chip_sums.specs.Sums.{all_summed, block_sum, flash_verdict, range_bytes, resummed, slot, summed_by, summed_to, worked_out}
-use Rattle.chip_pages.specs.Pages.{bad_data, compared, data_does, footer_of, good_data, is_last_page, length_of, next_page, page_in, page_status, page_stored, page_written, program_page, security_data, stored_reply, told_written, verify_page, verify_status}
+use Rattle.chip_pages.specs.Pages.{bad_data, compared, data_does, footer_of, good_data, is_last_page, length_of, next_page, page_in}
+use Rattle.chip_pages.specs.Pages.{page_status, page_stored, page_written, program_page, security_data, stored_reply, told_written, verify_page, verify_status}
 use Rattle.chip_flash.specs.Flash.{blank, erase_of, lands, programmed, sum_of_bytes}
 use Rattle.dock_flow.specs.Flow.{after_answer, after_heard, after_setup, after_status, after_work, block_from, in_block, next, retried, says_not_blank, setup_from}
 use Rattle.dock_flow.specs.Frames.{first_of_block, frame_at, hand_of, handed, last_of_block, last_page, page_footer, query_with, stored_form, work_frame}

@@ -30,7 +30,8 @@ use Rattle.claims_replay.proofs.Lines.{FramesIn, frames-append, lines-append, no
 use Rattle.claims_replay.proofs.NeverRefused.{AllBelow, again, all-bytes, and_record, no_record, plays, records-below, replay-unhalted}
 use Rattle.claims_replay.specs.Cases.{first_piece, second_piece}
 use Rattle.claims_replay.specs.Printed.{Upshot, fresh_replay, last_line, lines, lines_in, printed, upshot_of}
-use Rattle.claims_replay.specs.Pieces.{InPieces, Piece, Pieces, PiecesStand, PrintedInPieces, and_piece, and_then, fresh_start, in_pieces, joined, last_piece, lines_in_pieces, no_piece, of_piece, only_on, printed_in_pieces, beginning, while_on, with_piece}
+use Rattle.claims_replay.specs.Pieces.{InPieces, Piece, Pieces, PiecesStand, PrintedInPieces, and_piece, and_then, fresh_start, in_pieces, joined}
+use Rattle.claims_replay.specs.Pieces.{last_piece, lines_in_pieces, no_piece, of_piece, only_on, printed_in_pieces, beginning, while_on, with_piece}
 use Rattle.frame.proofs.Laws.Sum.{Below, below-drop, below-take}
 use Rattle.part.specs.Part.{Arrays, block_size}
 use Rattle.part.specs.declared.Part.{Part}

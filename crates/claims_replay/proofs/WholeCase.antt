@@ -28,7 +28,8 @@ use Rattle.replay_play.specs.Play.{answering, ended_by, events_of, goes_on, play
 use Rattle.chip_reply.specs.Reply.{frames_of, payloads, said_of}
 use Rattle.words.specs.Words.{◌and◌, ◌from◌to◌, ◌or◌, if◌then◌else◌}
 use Rattle.chip_flash.specs.Flash.{blank, erase_of, lands, programmed, sum_of_bytes}
-use Rattle.chip_pages.specs.Pages.{bad_data, compared, data_does, footer_of, good_data, is_last_page, length_of, next_page, page_in, page_status, page_stored, page_written, program_page, security_data, stored_reply, told_written, verify_page, verify_status}
+use Rattle.chip_pages.specs.Pages.{bad_data, compared, data_does, footer_of, good_data, is_last_page, length_of, next_page, page_in}
+use Rattle.chip_pages.specs.Pages.{page_status, page_stored, page_written, program_page, security_data, stored_reply, told_written, verify_page, verify_status}
 use Rattle.frame.specs.Framing.{frames, framing}
 use Rattle.part.specs.Signature.{signature}
 use Rattle.chip_core.specs.Hearing.{hearing}

@@ -23,7 +23,8 @@ use Rattle.part.specs.Part.{block_of, block_size, described, ends_block, last_of
 use Rattle.part.specs.Refusal.{first_of}
 use Rattle.chip_reply.specs.Reply.{frames_of, payloads, said_of}
 use Rattle.words.specs.Words.{◌and◌, ◌from◌to◌, ◌or◌, if◌then◌else◌}
-use Rattle.chip_pages.specs.Pages.{bad_data, compared, data_does, footer_of, good_data, is_last_page, length_of, next_page, page_in, page_status, page_stored, page_written, program_page, security_data, stored_reply, told_written, verify_page, verify_status}
+use Rattle.chip_pages.specs.Pages.{bad_data, compared, data_does, footer_of, good_data, is_last_page, length_of, next_page, page_in}
+use Rattle.chip_pages.specs.Pages.{page_status, page_stored, page_written, program_page, security_data, stored_reply, told_written, verify_page, verify_status}
 use Rattle.frame.specs.Framing.{frames, framing}
 use Rattle.part.specs.Rate.{accepts_rate, mode_of}
 use Rattle.part.specs.Signature.{signature}

@@ -112,8 +112,8 @@ fault_at bs = fault (get_or bs 23 0) (number_at 2 24 bs)
 
 unfoldable pub flat_in : List ℕ → Flat
 flat_in bs =
-    flat (get_or bs 0 0) (named_in (get_or bs 10 0) (number_at 4 11 bs)) (named_in (get_or bs 15 0) (number_at 4 16 bs)) (get_or bs 20 0) (get_or bs 21 0) (get_or bs 22 0)
-    (fault_at bs)
+    flat (get_or bs 0 0) (named_in (get_or bs 10 0) (number_at 4 11 bs)) (named_in (get_or bs 15 0) (number_at 4 16 bs)) (get_or bs 20 0) (get_or bs 21 0)
+    (get_or bs 22 0) (fault_at bs)
 
 unfoldable pub setup_in : ℕ → Setup
 setup_in n = if eqb n 1 then BaudRate else if eqb n 2 then ResetChip else SiliconSignature

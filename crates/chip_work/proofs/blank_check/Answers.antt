@@ -13,11 +13,16 @@ range_bytes-requires c = (range-good _ _ _ _ _ _ (sym c.range-range.ensures ∙ 
 
 pub returns-then-is_fresh : goal.returns-then-is_fresh
 unfolding blank_check ◌and◌ if◌then◌else◌
-returns-then-is_fresh c = simp (← c.range-range.ensures, c.in-Blocks.is, ← c.is_known.ensures, c.if-is_known.true, ← c.range_bytes.ensures, ← c.is_blank.ensures, c.if-is_blank.true, eq-eqb _ _ c.if-d01-eq1.true, ← c.is_fresh.ensures, c.if-is_fresh.true, ← c.says.ensures)
+returns-then-is_fresh c =
+    let e = c.range-range.ensures in
+    simp (← e, c.in-Blocks.is, ← c.is_known.ensures, c.if-is_known.true, ← c.range_bytes.ensures, ← c.is_blank.ensures, c.if-is_blank.true, eq-eqb _ _ c.if-d01-eq1.true, ← c.is_fresh.ensures, c.if-is_fresh.true, ← c.says.ensures)
 
 pub returns-then-d01-eq1 : goal.returns-then-d01-eq1
 unfolding blank_check ◌and◌ if◌then◌else◌
-returns-then-d01-eq1 c = simp (← c.range-range.ensures, c.in-Blocks.is, ← c.is_known.ensures, c.if-is_known.true, ← c.range_bytes.ensures, ← c.is_blank.ensures, c.if-is_blank.true, eq-eqb _ _ c.if-d01-eq1.true, ← c.is_fresh.ensures, c.if-is_fresh.false, ← c.says-then-d01-eq1.ensures)
+returns-then-d01-eq1 c =
+    let e = c.range-range.ensures in
+    let f = c.if-is_fresh.false in
+    simp (← e, c.in-Blocks.is, ← c.is_known.ensures, c.if-is_known.true, ← c.range_bytes.ensures, ← c.is_blank.ensures, c.if-is_blank.true, eq-eqb _ _ c.if-d01-eq1.true, ← c.is_fresh.ensures, f, ← c.says-then-d01-eq1.ensures)
 
 pub returns-then-is_blank : goal.returns-then-is_blank
 unfolding blank_check ◌and◌ if◌then◌else◌

@@ -13,10 +13,14 @@ nonzero_rem-offset c = positive _ _ c.block_size-size.ensures
 
 pub returns-then-is_forbidden : goal.returns-then-is_forbidden
 unfolding block_erase if◌then◌else◌
-returns-then-is_forbidden c = simp (← c.place-place.ensures, c.in-In.is, ← c.block_size-size.ensures, eq-eqb _ _ c.if-offset-size-eq0.true, ← c.erase_allowed.ensures, ← c.is_boot.ensures, ← c.boot_allowed.ensures, ← c.is_forbidden.ensures, c.if-is_forbidden.true)
+returns-then-is_forbidden c =
+    let aligned = eq-eqb _ _ c.if-offset-size-eq0.true in
+    simp (← c.place-place.ensures, c.in-In.is, ← c.block_size-size.ensures, aligned, ← c.erase_allowed.ensures, ← c.is_boot.ensures, ← c.boot_allowed.ensures, ← c.is_forbidden.ensures, c.if-is_forbidden.true)
 
 pub returns-then-offset-size-eq0 : goal.returns-then-offset-size-eq0
-returns-then-offset-size-eq0 c = block-erased _ _ _ _ _ _ _ _ c.place-place.ensures c.in-In.is c.block_size-size.ensures c.if-offset-size-eq0.true c.erase_allowed.ensures c.is_boot.ensures c.boot_allowed.ensures c.is_forbidden.ensures c.if-is_forbidden.false c.erase_in.ensures c.resum.ensures
+returns-then-offset-size-eq0 c =
+    block-erased _ _ _ _ _ _ _ _ c.place-place.ensures c.in-In.is c.block_size-size.ensures c.if-offset-size-eq0.true c.erase_allowed.ensures
+    c.is_boot.ensures c.boot_allowed.ensures c.is_forbidden.ensures c.if-is_forbidden.false c.erase_in.ensures c.resum.ensures
 
 pub returns-else-offset-size-eq0 : goal.returns-else-offset-size-eq0
 unfolding block_erase if◌then◌else◌

@@ -1,6 +1,7 @@
 -- Laws about the collector: what it has heard, as a list, after each of its methods.
 -- Assumes nothing.
-use Rattle.std.proofs.Common.{◌≡◌, ℕ, ◌+◌, ◌<◌, ◌≤◌, Bool, true, false, eqb, List, [], ◌∷◌, ◌++◌, length, get_or, take, drop, set, sym, refl, ap, ◌∙◌, append_assoc, append-nil, add-one, arith, length-append, length-drop, take-append-drop, length-take-le, take_all, get_or-take, drop-drop, eq-eqb, ne_eqb, le-leb}
+use Rattle.std.proofs.Common.{◌≡◌, ℕ, ◌+◌, ◌<◌, ◌≤◌, Bool, true, false, eqb, List, [], ◌∷◌, ◌++◌, length, get_or, take, drop, set}
+use Rattle.std.proofs.Common.{sym, refl, ap, ◌∙◌, append_assoc, append-nil, add-one, arith, length-append, length-drop, take-append-drop, length-take-le, take_all, get_or-take, drop-drop, eq-eqb, ne_eqb, le-leb}
 use native.Mathlib.Decide.{dec_le, dec_lt}
 use lib.ListN.{get_or-append}
 use lib.Seq.{append_snoc, drop-append-add, set_split, take-append_seam}

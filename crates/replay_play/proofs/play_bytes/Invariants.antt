@@ -23,7 +23,8 @@ invariant-loop-i l =
     × (length l.bytes ≤ 8)
     × (32 * length l.bytes ≤ length l.initial.output)
     × Arrays l.part
-    × PlayedFrom l.part l.bytes l.last (memory l.code l.data l.sums) l.room l.i l.said l.frames l.initial.output l.output (played l.part (map Byte l.bytes) (before_playing l.initial.last (memory l.initial.code l.initial.data l.initial.sums) l.initial.room))
+    × PlayedFrom l.part l.bytes l.last (memory l.code l.data l.sums) l.room l.i l.said l.frames l.initial.output l.output
+    (played l.part (map Byte l.bytes) (before_playing l.initial.last (memory l.initial.code l.initial.data l.initial.sums) l.initial.room))
 
 abbrev pub decreases-loop-i : goal.decreases-loop-i
 decreases-loop-i l = length l.bytes - l.i

@@ -46,4 +46,6 @@ pub returns-else-is_accepted-2 : goal.returns-else-is_accepted-2
 returns-else-is_accepted-2 c = settles-barred _ _ _ _ _ _ c.output_least.ensures _ (sym c.read-judged.ensures ∙ c.in-GapRecord.is) c.if-lengths-output_least.false (sym c.is_accepted-in-GapRecord.ensures ∙ c.if-is_accepted-2.false)
 
 pub returns-else-is_front : goal.returns-else-is_front
-returns-else-is_front c = settles-loud _ _ _ _ _ _ c.output_least.ensures _ (sym c.read-judged.ensures ∙ c.in-BytesRecord.is) c.if-lengths-output_least.false (bytes-quiet-is _ _ _ _ _ _ c.carried-carried.ensures ∙ sym c.is_front.ensures ∙ c.if-is_front.false)
+returns-else-is_front c =
+    settles-loud _ _ _ _ _ _ c.output_least.ensures _ (sym c.read-judged.ensures ∙ c.in-BytesRecord.is) c.if-lengths-output_least.false
+    (bytes-quiet-is _ _ _ _ _ _ c.carried-carried.ensures ∙ sym c.is_front.ensures ∙ c.if-is_front.false)

@@ -55,4 +55,5 @@ pub returns : goal.returns
 returns c =
     let a = c.args in
     let w = rested a.room.now a.lead.now a.rest.now c.byte.result c.len_byte-len.result c.requires c.put.ensures c.put-2.ensures in
-    laid-is _ _ _ _ _ _ _ _ _ _ _ _ (whole a.room.now a.lead.now a.rest.now c.byte.result c.len_byte-len.result c.sum8-sum.result c.byte-2.result c.requires w) c.byte.ensures c.len_byte-len.ensures c.less8.ensures c.sum8.ensures c.sum8-sum.ensures c.byte-2.ensures
+    let v = whole a.room.now a.lead.now a.rest.now c.byte.result c.len_byte-len.result c.sum8-sum.result c.byte-2.result c.requires w in
+    laid-is _ _ _ _ _ _ _ _ _ _ _ _ v c.byte.ensures c.len_byte-len.ensures c.less8.ensures c.sum8.ensures c.sum8-sum.ensures c.byte-2.ensures
