@@ -4,58 +4,61 @@
 
 use frame::wire::Wrote;
 use frame::{Footer, judgement, wire};
+use std::io;
+use std::io::Write;
 
 // Frames of at most eight bytes, as the documents print them.
-fn show(bytes: &[u8]) {
+fn show<W: Write>(out: &mut W, bytes: &[u8]) -> io::Result<()> {
     let mut text = [0u8; 24];
-    if bytes.len() <= 8 {
-        replay_hex::line(bytes, &mut text);
-        let end = 3 * bytes.len();
-        io::write_all(1, &text[0..end]);
+    if 8 < bytes.len() {
+        return Ok(());
     }
+    replay_hex::line(bytes, &mut text);
+    let end = 3 * bytes.len();
+    out.write_all(&text[0..end])
 }
 
-fn show_written(wrote: Wrote, room: &[u8]) {
+fn show_written<W: Write>(out: &mut W, wrote: Wrote, room: &[u8]) -> io::Result<()> {
     match wrote {
         Wrote::Long(n) => {
             if n <= room.len() {
-                show(&room[0..n]);
+                return show(out, &room[0..n]);
             }
+            Ok(())
         }
-        Wrote::UnfitPayload => {}
-        Wrote::NoRoom => {}
+        Wrote::UnfitPayload => Ok(()),
+        Wrote::NoRoom => Ok(()),
     }
 }
 
-fn command(number: u8) {
+fn command<W: Write>(out: &mut W, number: u8) -> io::Result<()> {
     let mut room = [0u8; 5];
-    let none = [0u8; 1];
-    let wrote = wire::write_command(&mut room, number, &none[0..0]);
-    show_written(wrote, &room);
+    let wrote = wire::write_command(&mut room, number, &[]);
+    show_written(out, wrote, &room)
 }
 
-fn data_frame(payload: &[u8]) {
+fn data_frame<W: Write>(out: &mut W, payload: &[u8]) -> io::Result<()> {
     let mut room = [0u8; 8];
     let wrote = wire::write_data(&mut room, payload, Footer::Last);
-    show_written(wrote, &room);
+    show_written(out, wrote, &room)
 }
 
-fn judged(footer: Footer, bytes: &[u8]) {
-    let j = judgement::judge(footer, bytes);
-    let status = [j.status()];
-    show(&status);
+fn judged<W: Write>(out: &mut W, footer: Footer, bytes: &[u8]) -> io::Result<()> {
+    let judgement = judgement::judge(footer, bytes);
+    show(out, &[judgement.status()])
 }
 
-fn main() {
-    command(0xA1);
-    command(0x00);
-    command(0xA0);
-    command(0xA2);
-    command(0xC0);
-    data_frame(b"\xFF\x80\x40\x22");
-    data_frame(b"\x06");
-    data_frame(b"\x06\x06");
-    judged(Footer::Last, b"\x02\x04\xFF\x80\x40\x22\x1A\x03");
-    judged(Footer::Last, b"\x02\x04\xFF\x80\x40\x22\x1B\x03");
-    judged(Footer::More, b"\x02\x04\xFF\x80\x40\x22\x1A\x03");
+fn main(rt: HostRuntime) -> io::Result<()> {
+    let mut out = rt.stdout();
+    command(&mut out, 0xA1)?;
+    command(&mut out, 0x00)?;
+    command(&mut out, 0xA0)?;
+    command(&mut out, 0xA2)?;
+    command(&mut out, 0xC0)?;
+    data_frame(&mut out, b"\xFF\x80\x40\x22")?;
+    data_frame(&mut out, b"\x06")?;
+    data_frame(&mut out, b"\x06\x06")?;
+    judged(&mut out, Footer::Last, b"\x02\x04\xFF\x80\x40\x22\x1A\x03")?;
+    judged(&mut out, Footer::Last, b"\x02\x04\xFF\x80\x40\x22\x1B\x03")?;
+    judged(&mut out, Footer::More, b"\x02\x04\xFF\x80\x40\x22\x1A\x03")
 }
