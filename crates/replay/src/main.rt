@@ -2,40 +2,34 @@
 // The records are judged, fed and answered by `replay_records::replay`; here the capture is read and the lines are printed.
 #![tactic(auto)]
 
-ghost use Rattle.std.specs.Prelude.{◌+◌, ◌≤◌, length};
+ghost use Rattle.std.specs.Prelude.{◌+◌, ◌≤◌, length, IfOk};
 
 use chip::events;
 use chip_state::Chip;
 use console::Progress;
-use libc::{STDERR_FILENO, STDIN_FILENO, STDOUT_FILENO};
 use part::Part;
 use replay_capture::Form;
 use replay_records::Ended;
-
-// Where there is room, and whether what had to go out for it went out.
-#[derive(Drop)]
-struct TextPlace {
-    at: usize,
-    well: bool,
-}
+use std::fs::File;
+use std::io;
+use std::io::{ErrorKind, Read, Write};
+use std::rt::Runtime;
 
 // Where so many characters have room in the text: after those used, or, these having gone out, at the start.
-fn room_for(need: usize, text: &[u8], used: usize) -> TextPlace
-    requires { (need ≤ length text.now) × (used ≤ length text.now) }
-    ensures { result.at + need ≤ length text.now }
+fn room_for<W: Write>(out: &mut W, need: usize, text: &[u8], used: usize) -> io::Result<usize>
+    requires need { need ≤ length text.now }
+    requires used { used ≤ length text.now }
+    ensures { IfOk result (λ at. at + need ≤ length text.now) }
 {
     if need <= text.len() - used {
-        return TextPlace {
-            at: used,
-            well: true,
-        };
+        return Ok(used);
     }
-    let well = io::write_all(STDOUT_FILENO, &text[0..used]);
-    TextPlace { at: 0, well }
+    out.write_all(&text[0..used])?;
+    Ok(0)
 }
 
 // Reply frames that lie end to end, a line each. The lines go out when the text is full and at the end.
-fn show(frames: &[u8], text: &mut [u8]) -> bool
+fn show<W: Write>(out: &mut W, frames: &[u8], text: &mut [u8]) -> io::Result<()>
     requires { 1024 ≤ length text.old }
 {
     let mut at = 0;
@@ -43,31 +37,27 @@ fn show(frames: &[u8], text: &mut [u8]) -> bool
     while at < frames.len() {
         let rest = frames.len() - at;
         if rest < 5 {
-            return false;
+            return Err(io::Error::from(ErrorKind::InvalidData));
         }
         let payload = frame::counted(frames[at + 1]);
         if 256 < payload {
-            return false;
+            return Err(io::Error::from(ErrorKind::InvalidData));
         }
         let n = payload + frame::OVERHEAD;
         if rest < n {
-            return false;
+            return Err(io::Error::from(ErrorKind::InvalidData));
         }
-        let place = room_for(3 * n, text, used);
-        if !place.well {
-            return false;
-        }
-        let from = place.at;
+        let from = room_for(out, 3 * n, text, used)?;
         let end = at + n;
         replay_hex::line(&frames[at..end], &mut text[from..]);
         used = from + 3 * n;
         at = end;
     }
-    io::write_all(STDOUT_FILENO, &text[0..used])
+    out.write_all(&text[0..used])
 }
 
 // How a buffer of the capture went: on to the next; up to a record that is not good; or no further.
-#[derive(Drop)]
+#[derive(Clone, Copy)]
 enum Going {
     On,
     Bad,
@@ -84,41 +74,51 @@ struct Went {
 }
 
 // Neither a refusal nor want of output occurs: the output is long enough for the buffer's records, and then it is proved (claims_replay).
-fn going_on(ended: Ended, progress: Progress) -> Going {
+fn going_on(rt: &impl Eprint, ended: Ended, progress: Progress) -> Going {
     match ended {
         Ended::Whole => Going::On,
         Ended::AtBadRecord => Going::Bad,
         Ended::OutputFull => {
             console::say(
+                rt,
                 progress,
-                b"replay: the output was too short, which should not occur\n",
+                "replay: the output was too short, which should not occur\n",
             );
             Going::Lost
         }
         Ended::Refused(refusal) => {
             console::say(
+                rt,
                 progress,
-                b"replay: a call of the chip was refused, which should not occur; refusal ",
+                "replay: a call of the chip was refused, which should not occur; refusal ",
             );
-            io::print_decimal(STDERR_FILENO, refusal.number() as u64);
-            io::write_all(STDERR_FILENO, b"\n");
+            let number = refusal.number();
+            let _ = eprintln!(rt; "{number}");
             Going::Lost
         }
     }
 }
 
-// Erasing leaves errno as the failed write has set it, unless it fails too, and then there is nobody to read the message.
-fn told(is_shown: bool, going: Going, progress: Progress) -> Going {
-    if is_shown {
-        return going;
+fn told(
+    rt: &(impl Eprint + Alloc),
+    shown: io::Result<()>,
+    going: Going,
+    progress: Progress,
+) -> Going {
+    match shown {
+        Ok(()) => going,
+        Err(error) => {
+            console::erase(rt, progress);
+            console::fail(rt, "replay", "standard output", error);
+            Going::Lost
+        }
     }
-    console::erase(progress);
-    os::fail(b"replay: standard output");
-    Going::Lost
 }
 
 // The records of one buffer, and the lines of their replies.
-fn turn(
+fn turn<W: Write>(
+    rt: &(impl Eprint + Alloc),
+    out: &mut W,
     form: Form,
     part: Part,
     chip: Chip,
@@ -138,8 +138,9 @@ fn turn(
     let after = played.chip;
     if output.len() < n {
         console::say(
+            rt,
             progress,
-            b"replay: more replies than room for them, which should not occur\n",
+            "replay: more replies than room for them, which should not occur\n",
         );
         return Went {
             going: Going::Lost,
@@ -149,11 +150,11 @@ fn turn(
             progress,
         };
     }
-    let progress = console::make_way(progress, n);
-    let is_shown = show(&output[0..n], text);
-    let ended = played.ended;
+    let progress = console::make_way(rt, progress, n);
+    let shown = show(out, &output[0..n], text);
+    let going = going_on(rt, played.ended, progress);
     Went {
-        going: told(is_shown, going_on(ended, progress), progress),
+        going: told(rt, shown, going, progress),
         chip: after,
         records: played.records,
         frames: played.frames,
@@ -162,26 +163,29 @@ fn turn(
 }
 
 // The last line, a word and a number; a message where it cannot be written.
-fn last_line(progress: Progress, word: &[u8], n: u64) {
-    console::erase(progress);
-    let is_begun = io::write_all(STDOUT_FILENO, word);
-    io::print_decimal(STDOUT_FILENO, n);
-    let is_ended = io::write_all(STDOUT_FILENO, b"\n");
-    if is_begun && is_ended {
-        return;
+fn last_line<W: Write>(
+    rt: &(impl Eprint + Alloc),
+    out: &mut W,
+    progress: Progress,
+    word: &str,
+    n: u64,
+) {
+    console::erase(rt, progress);
+    if let Err(error) = writeln!(out, "{word} {n}") {
+        console::fail(rt, "replay", "standard output", error);
     }
-    os::fail(b"replay: standard output");
-}
-
-// A message that begins with the program's name.
-fn fail_at(name: &[u8]) {
-    io::write_all(STDERR_FILENO, b"replay: ");
-    os::fail(name);
 }
 
 // The sums are worked out once, on the fresh flash. A buffer of 2,048 bytes is 256 old records or 128 new ones, for whose replies the output has room. A proved
-// loop has to end, and nothing says that the input does: so it counts its turns down, from a number that no run uses up.
-fn replay(form: Form, fd: i32, name: &[u8]) {
+// loop has to end, and nothing says that the input does: so it counts its turns, up to a number that no run comes to.
+fn replay<R: Read, W: Write>(
+    rt: &(impl Eprint + Alloc),
+    from: &mut R,
+    out: &mut W,
+    form: Form,
+    name: &str,
+    at_first: Progress,
+) {
     let part = replay_records::replay_part();
     let fresh = events::fresh(part);
     let mut chip = fresh.chip;
@@ -191,22 +195,22 @@ fn replay(form: Form, fd: i32, name: &[u8]) {
     chip_sums::work_out(part, &code, &data, &mut sums);
     let mut room = [0u8; 32];
     let mut capture = [0u8; 2048];
-    let mut output = io::large_buffer();
-    let mut text = io::large_buffer();
+    let mut output = [0u8; 65536];
+    let mut text = [0u8; 65536];
     let mut records = 0u64;
     let mut frames = 0u64;
-    let mut progress = console::no_progress();
-    let mut turns = u64::MAX;
-    while 0 < turns {
-        turns = turns - 1;
-        let filled = console::fill(fd, &mut capture);
+    let mut progress = at_first;
+    for _ in 0..u64::MAX {
+        let filled = console::fill(from, &mut capture);
         let n = filled.n;
-        if !filled.well {
-            console::erase(progress);
-            fail_at(name);
+        if let Some(error) = filled.error {
+            console::erase(rt, progress);
+            console::fail(rt, "replay", name, error);
             return;
         }
         let went = turn(
+            rt,
+            out,
             form,
             part,
             chip,
@@ -220,19 +224,18 @@ fn replay(form: Form, fd: i32, name: &[u8]) {
             progress,
         );
         chip = went.chip;
-        records = std::num::wrapping_add_u64(records, went.records as u64);
-        frames = std::num::wrapping_add_u64(frames, went.frames as u64);
-        let going = went.going;
-        match going {
+        records = records.wrapping_add(went.records as u64);
+        frames = frames.wrapping_add(went.frames as u64);
+        match went.going {
             Going::On => {
                 if n < 2048 {
-                    last_line(went.progress, b"END ", frames);
+                    last_line(rt, out, went.progress, "END", frames);
                     return;
                 }
-                progress = console::show_progress(went.progress, b"replay", records);
+                progress = console::show_progress(rt, went.progress, "replay", records);
             }
             Going::Bad => {
-                last_line(went.progress, b"BAD ", records);
+                last_line(rt, out, went.progress, "BAD", records);
                 return;
             }
             Going::Lost => {
@@ -242,104 +245,91 @@ fn replay(form: Form, fd: i32, name: &[u8]) {
     }
 }
 
-fn help() {
-    io::write_all(
-        STDOUT_FILENO,
-        b"replay [--old | --new] [CAPTURE]: replays a recorded capture, from standard input where no file is named, into a fresh chip\n",
+fn help(rt: &impl Print) {
+    let _ = rt.println(
+        "replay [--old | --new] [CAPTURE]: replays a recorded capture, from standard input where no file is named, into a fresh chip",
     );
-    io::write_all(
-        STDOUT_FILENO,
-        b"(16 code and 4 data blocks, clock 32) and prints each reply frame as a line of hex. The last line is END and\n",
+    let _ = rt.println(
+        "(16 code and 4 data blocks, clock 32) and prints each reply frame as a line of hex. The last line is END and",
     );
-    io::write_all(
-        STDOUT_FILENO,
-        b"the number of reply frames, or BAD and the number, from 0, of the first record that is not good.\n",
+    let _ = rt.println(
+        "the number of reply frames, or BAD and the number, from 0, of the first record that is not good.",
     );
-    io::write_all(
-        STDOUT_FILENO,
-        b"An old record, the form unless told, has 8 bytes: 00 and seven bytes 00 for a gap; or 01, a count from 1 to 6, that many bytes, then 00 up to 8 bytes.\n",
+    let _ = rt.println(
+        "An old record, the form unless told, has 8 bytes: 00 and seven bytes 00 for a gap; or 01, a count from 1 to 6, that many bytes, then 00 up to 8 bytes.",
     );
-    io::write_all(
-        STDOUT_FILENO,
-        b"A new one has 16: kind and count, the seat (0 or 1), 00, a tick of four bytes, low first, and eight data bytes, of which those past the count are 00.\n",
+    let _ = rt.println(
+        "A new one has 16: kind and count, the seat (0 or 1), 00, a tick of four bytes, low first, and eight data bytes, of which those past the count are 00.",
     );
-    io::write_all(
-        STDOUT_FILENO,
-        b"Records of seat 1 are judged and counted, and not played.\n",
-    );
-    io::write_all(
-        STDOUT_FILENO,
-        b"A long capture shows its progress on standard error where that is a terminal: the number of records played, every 65,536.\n",
+    let _ = rt.println("Records of seat 1 are judged and counted, and not played.");
+    let _ = rt.println(
+        "A long capture shows its progress on standard error where that is a terminal: the number of records played, every 65,536.",
     );
 }
 
 // What an argument asks for.
-#[derive(Drop)]
+#[derive(Clone, Copy)]
 enum Word {
     Help,
     Read(Form),
     Capture,
 }
 
-fn meaning(word: &[u8]) -> Word {
-    if lent::is_same(word, b"--help") {
-        return Word::Help;
+fn meaning(word: &str) -> Word {
+    match word {
+        "--help" => Word::Help,
+        "--old" => Word::Read(Form::Old),
+        "--new" => Word::Read(Form::New),
+        _ => Word::Capture,
     }
-    if lent::is_same(word, b"--old") {
-        return Word::Read(Form::Old);
+}
+
+// The capture in a file.
+fn replay_file(rt: &impl Runtime, form: Form, name: &str, progress: Progress) {
+    match File::open(rt, name) {
+        Ok(mut file) => replay(rt, &mut file, &mut io::writer(rt), form, name, progress),
+        Err(error) => console::fail(rt, "replay", name, error),
     }
-    if lent::is_same(word, b"--new") {
-        return Word::Read(Form::New);
-    }
-    Word::Capture
 }
 
 // The capture that the argument at a place names, or standard input where there is none.
-fn replay_named(form: Form, i: usize) {
-    let count = os::arg_count();
-    if count <= i {
-        replay(form, STDIN_FILENO, b"standard input");
+fn replay_named(rt: &impl Runtime, form: Form, i: usize, progress: Progress)
+    requires { i ≤ 2 }
+{
+    if console::has_argument(rt, i + 1) {
+        let _ = eprintln!(rt; "replay: one form and one capture can be named; see replay --help");
         return;
     }
-    if i < count - 1 {
-        io::write_all(
-            STDERR_FILENO,
-            b"replay: one form and one capture can be named; see replay --help\n",
-        );
-        return;
-    }
-    let mut path = io::buffer();
-    let n = os::arg(i, &mut path);
-    if os::errno() != 0 {
-        os::fail(b"replay: its argument");
-        return;
-    }
-    match meaning(&path[..n]) {
-        Word::Capture => {
-            let fd = os::open_read(&path[..n]);
-            if fd < 0 {
-                fail_at(&path[..n]);
-                return;
+    let mut path = [0u8; 4096];
+    match console::argument(rt, i, &mut path) {
+        Ok(None) => replay(
+            rt,
+            &mut rt.reader(),
+            &mut io::writer(rt),
+            form,
+            "standard input",
+            progress,
+        ),
+        Ok(Some(name)) => match meaning(name) {
+            Word::Capture => replay_file(rt, form, name, progress),
+            Word::Read(_) => {
+                let _ = eprintln!(rt; "replay: more than one form is told; see replay --help");
             }
-            replay(form, fd, &path[..n]);
-            libc::close(fd);
-        }
-        Word::Read(other) => {
-            io::write_all(
-                STDERR_FILENO,
-                b"replay: more than one form is told; see replay --help\n",
-            );
-        }
-        Word::Help => help(),
+            Word::Help => help(rt),
+        },
+        Err(error) => console::fail(rt, "replay", "its argument", error),
     }
 }
 
-fn main() {
-    let mut word = io::buffer();
-    let n = os::arg(1, &mut word);
-    match meaning(&word[..n]) {
-        Word::Help => help(),
-        Word::Read(form) => replay_named(form, 2),
-        Word::Capture => replay_named(Form::Old, 1),
+fn main(rt: HostRuntime) {
+    let progress = console::no_progress(&rt.stdout(), &rt.stderr());
+    let mut room = [0u8; 4096];
+    match console::argument(&rt, 1, &mut room) {
+        Ok(Some(word)) => match meaning(word) {
+            Word::Help => help(&rt),
+            Word::Read(form) => replay_named(&rt, form, 2, progress),
+            Word::Capture => replay_named(&rt, Form::Old, 1, progress),
+        },
+        _ => replay_named(&rt, Form::Old, 1, progress),
     }
 }
