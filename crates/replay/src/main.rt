@@ -293,10 +293,8 @@ fn replay_file(rt: &impl Runtime, form: Form, name: &str, progress: Progress) {
 }
 
 // The capture that the argument at a place names, or standard input where there is none.
-fn replay_named(rt: &impl Runtime, form: Form, i: usize, progress: Progress)
-    requires { i ≤ 2 }
-{
-    if console::has_argument(rt, i + 1) {
+fn replay_named(rt: &impl Runtime, form: Form, i: usize, progress: Progress) {
+    if console::has_argument(rt, i.saturating_add(1)) {
         let _ = eprintln!(rt; "replay: one form and one capture can be named; see replay --help");
         return;
     }
