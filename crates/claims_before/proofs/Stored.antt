@@ -17,7 +17,7 @@ use Rattle.chip_core.specs.declared.Awaited.{Awaited}
 use Rattle.chip_core.specs.declared.Core.{Core}
 use Rattle.chip_core.specs.declared.Done.{Done}
 use Rattle.chip_core.specs.declared.Phase.TheVariants.{Awaiting}
-use Rattle.chip_flash.specs.Flash.{blank, lands, programmed}
+use Rattle.chip_flash.specs.Flash.{blank, programmed}
 use Rattle.chip_pages.specs.Pages.{footer_of, is_last_page, length_of, next_page, page_in, page_written, pair, program_page, ready, stored_reply}
 use Rattle.chip_reply.specs.Reply.{fault_in, frames_of, payloads, said_of}
 use Rattle.chip_state.specs.declared.Chip.{Chip}

@@ -2,7 +2,7 @@
 -- what it is laid with.
 -- Assumes nothing.
 use mathlib.Core.Bool.{true}
-use mathlib.Core.List.{List, [], ◌++◌, ◌∷◌, append_assoc}
+use mathlib.Core.List.{List, ◌++◌, ◌∷◌, append_assoc}
 use mathlib.Core.Path.{◌∙◌, ◌≡◌, ap, refl, sym}
 use Prim.Native.Nat.{◌+◌, ◌-◌, ◌≤◌, suc, zero, ℕ}
 use native.Mathlib.Numerals.{add-one}

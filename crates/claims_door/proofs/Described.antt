@@ -2,9 +2,9 @@
 -- describes is shut out.
 -- Assumes nothing.
 use mathlib.Core.Bool.{true}
-use mathlib.Core.List.{List, [], ◌++◌, ◌∷◌}
-use mathlib.Core.Path.{◌∙◌, ◌≡◌, ap, refl, sym}
-use Prim.Native.Nat.{◌+◌, ◌<◌, ◌^◌, ◌≤◌, ℕ}
+use mathlib.Core.List.{List, ◌++◌, ◌∷◌}
+use mathlib.Core.Path.{◌∙◌, ◌≡◌, ap, refl}
+use Prim.Native.Nat.{◌+◌, ◌<◌, ◌≤◌, ℕ}
 use native.Mathlib.Omega.{arith}
 use lib.ListN.{drop, get_or, length, take}
 use lib.Seq.{take-add, take_all}

@@ -19,7 +19,7 @@ use Rattle.claims_engine.specs.Claims.{EngineAppend, Feeds, reply_bytes, reply_f
 use Rattle.claims_engine.specs.Feeding.{first_fault}
 use Rattle.claims_fed.proofs.Frames.{bytes-proper}
 use Rattle.claims_good.proofs.Stays.{run-stands}
-use Rattle.claims_good.specs.Good.{Alike, Utterance, utterances}
+use Rattle.claims_good.specs.Good.{Utterance, utterances}
 use Rattle.engine.specs.Engine.{EngineLeft, engine_of}
 use Rattle.engine.specs.declared.EngineAnswer.TheVariants as EngineAnswer
 use Rattle.frame.proofs.Laws.Sum.{below-append}

@@ -30,7 +30,7 @@ use Rattle.chip_sums.proofs.Laws.{resummed-flash}
 use Rattle.chip_work.specs.Work.{block_erase, erased_in}
 use Rattle.claims_cut.proofs.Cut.{block_inside, page-long}
 use Rattle.claims_cut.proofs.Put.{put-becomes}
-use Rattle.claims_cut.specs.Cut.{Becomes, nothing}
+use Rattle.claims_cut.specs.Cut.{Becomes}
 use Rattle.claims_fed.specs.Awaits.{good_for}
 use Rattle.claims_fed.specs.Fed.{does, does_in}
 use Rattle.claims_good.proofs.Rooms.{leaves, reaction_of}

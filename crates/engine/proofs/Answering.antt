@@ -3,21 +3,21 @@
 use mathlib.Core.Bool.{Bool, false, true}
 use mathlib.Core.List.{List, [], ◌++◌, append_assoc, append-nil}
 use mathlib.Core.Path.{◌∙◌, ◌≡◌, ap, refl, sym}
-use Prim.Native.Nat.{◌*◌, ◌+◌, ◌-◌, ◌≤◌, ℕ}
+use Prim.Native.Nat.{◌+◌, ◌-◌, ◌≤◌, ℕ}
 use native.Mathlib.Omega.{arith}
 use lib.ListN.{drop, drop_of_length-le, length, length-append, length-drop, take}
 use lib.Seq.{drop_at, drop-drop, length-take-le, take_all, take_at}
-use Rattle.chip_core.specs.Effect.{Effect, Memory, effect}
+use Rattle.chip_core.specs.Effect.{Memory, effect}
 use Rattle.chip_core.specs.Hearing.{hearing}
 use Rattle.chip_core.specs.declared.Core.{Core}
 use Rattle.chip_core.specs.declared.Done.{Done}
 use Rattle.chip_frame.specs.Does.{frame_does}
 use Rattle.chip_options.specs.declared.Options.{Options}
 use Rattle.chip_reply.proofs.Laws.{frames-long, reply-long, said-lands, send-said}
-use Rattle.chip_reply.specs.Reply.{Said, fault_in, frames_of, payloads, said, said_of, send_of}
+use Rattle.chip_reply.specs.Reply.{Said, fault_in, frames_of, payloads, said, send_of}
 use Rattle.chip_reply.specs.declared.Reply.{Reply}
 use Rattle.chip_reply.specs.declared.Sent.{Sent}
-use Rattle.engine.specs.Engine.{Stand, after_frame}
+use Rattle.engine.specs.Engine.{after_frame}
 use Rattle.engine.specs.declared.ToldSoFar.{ToldSoFar}
 use Rattle.engine.specs.declared.EngineAnswer.TheVariants.{Replied}
 use Rattle.engine.specs.declared.Played.{Played}

@@ -5,13 +5,13 @@ use mathlib.Core.List.{List}
 use mathlib.Core.Path.{◌∙◌, ◌≡◌, ap, sym}
 use Prim.Native.Nat.{◌/◌, ◌<◌, ◌≤◌, ℕ}
 use borrow.Author.Tests.{le-ltb, lt-ltb}
-use lib.ListN.{drop, length, take, take-append-drop}
+use lib.ListN.{length, take, take-append-drop}
 use lib.Seq.{length-take-le}
 use Rattle.chip_core.specs.Effect.{Memory}
 use Rattle.chip_core.specs.declared.Core.{Core}
 use Rattle.chip_state.specs.Refusals.{verdict_on}
 use Rattle.chip_state.specs.declared.Chip.{Chip}
-use Rattle.engine.specs.Engine.{EngineLeft, Plain, begins, engine_by, engine_left, engine_of, leaves, facing, played_out, refused_with}
+use Rattle.engine.specs.Engine.{Plain, begins, engine_by, engine_left, engine_of, leaves, facing, played_out, refused_with}
 use Rattle.engine.specs.declared.EngineAnswer.TheVariants.{NoRoom}
 use Rattle.engine.specs.declared.EngineAnswer.TheVariants as EngineAnswer
 use Rattle.engine.specs.declared.Played.{Played}

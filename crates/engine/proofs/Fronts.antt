@@ -1,18 +1,16 @@
 -- Laws of what lies at the front, as the code decides it.
 -- Assumes nothing.
-use mathlib.Core.Bool.{Bool, false, not, true}
+use mathlib.Core.Bool.{Bool, false, true}
 use mathlib.Core.List.{List, [], ◌∷◌}
 use mathlib.Core.Path.{◌∙◌, ◌≡◌, ap, refl, sym}
-use Prim.Native.Nat.{◌+◌, ◌<◌, ◌≤◌, ℕ}
+use Prim.Native.Nat.{◌+◌, ℕ}
 use native.Mathlib.Omega.{arith}
-use lib.Dec.{eqb}
 use lib.ListN.{get_or, length}
 use borrow.Author.Tests.{eq-eqb, ne_eqb}
 use Rattle.chip_core.specs.declared.Awaited.{Awaited}
 use Rattle.chip_core.specs.declared.Hearing.{Hearing}
 use Rattle.chip_core.specs.declared.Hearing.TheVariants.{HearsCommands, HearsData, HearsNothing}
 use Rattle.engine.specs.Engine.{front_for, front_of}
-use Rattle.engine.specs.declared.Front.{Front}
 use Rattle.engine.specs.declared.Front.TheVariants.{Held, Mode, Skipped, Whole}
 use Rattle.engine.specs.Inner.Answering.{whole_of}
 use Rattle.frame.specs.Frame.{complete, counted, header_byte}

@@ -8,12 +8,11 @@ use native.Mathlib.Decide.{dec_lt}
 use native.Mathlib.Omega.{arith}
 use lib.Dec.{ltb}
 use lib.ListN.{get_or-append, drop, get_or, length, length-append, take, take-append-drop}
-use lib.Seq.{drop-append-add, get_or-take, length-take-le, take_all, take-append-add, take-append-le, take_at, take-take}
+use lib.Seq.{drop-append-add, get_or-take, length-take-le, take_all, take-append-add, take_at, take-take}
 use borrow.Author.Tests.{ltb-false, ltb-true}
 use Rattle.chip_core.specs.Hearing.{hearing}
 use Rattle.chip_core.specs.declared.Core.{Core}
 use Rattle.chip_core.specs.declared.Hearing.{Hearing}
-use Rattle.chip_core.specs.declared.Hearing.TheVariants.{HearsCommands, HearsData}
 use Rattle.chip_state.proofs.Laws.{FrontFor, accepts, front-for, good-within, state-collected}
 use Rattle.chip_state.proofs.Laws as state
 use Rattle.chip_state.specs.Refusals.{verdict_on}
@@ -24,10 +23,9 @@ use Rattle.engine.specs.Engine.{Stand, after_frame, front_of, facing, played_out
 use Rattle.engine.specs.declared.Front.TheVariants.{Held, Whole}
 use Rattle.engine.specs.Inner.Answering.{whole_of}
 use Rattle.frame.proofs.Laws.Collector.{complete-is, heard-at, heard-is, length-heard}
-use Rattle.frame.proofs.Laws.Frame.{counted-small, counted-some, full-not, full-short, full-yes}
+use Rattle.frame.proofs.Laws.Frame.{counted-some, full-yes}
 use Rattle.frame.specs.Collector.{heard}
-use Rattle.frame.specs.Frame.{complete, counted, full, header_byte}
-use Rattle.frame.specs.declared.Header.{Header}
+use Rattle.frame.specs.Frame.{complete, counted, full}
 use Rattle.frame.specs.declared.Header.TheVariants.{Command, Data}
 use Rattle.frame.specs.declared.collector.Collector.{Collector}
 use Rattle.lent.proofs.Laws.{Written, written-put}

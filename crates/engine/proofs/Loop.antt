@@ -2,7 +2,7 @@
 -- Assumes nothing.
 use mathlib.Core.List.{List}
 use mathlib.Core.Path.{◌∙◌, ◌≡◌, ap, refl, sym}
-use Prim.Native.Nat.{◌*◌, ◌+◌, ◌-◌, ◌<◌, ◌≤◌, ℕ}
+use Prim.Native.Nat.{◌+◌, ◌-◌, ◌<◌, ◌≤◌, ℕ}
 use native.Mathlib.Omega.{arith}
 use lib.ListN.{drop, get_or, length, length-drop, take}
 use lib.Seq.{drop-drop, get_or-drop, take_all}
@@ -12,7 +12,7 @@ use Rattle.chip_core.specs.declared.Core.{Core}
 use Rattle.chip_core.specs.declared.Hearing.{Hearing}
 use Rattle.chip_frame.specs.Does.{mode_byte}
 use Rattle.engine.proofs.Fronts.{front-none}
-use Rattle.engine.proofs.Turns.{front_in, held-short, play-held, play-on, turn-mode, turn-skips, turn-whole, whole-fits}
+use Rattle.engine.proofs.Turns.{held-short, play-held, play-on, turn-mode, turn-skips, turn-whole, whole-fits}
 use Rattle.engine.specs.Engine.{Plain, Stand, after_frame, front_of, facing, played_out, turn}
 use Rattle.engine.specs.declared.Front.{Front}
 use Rattle.engine.specs.declared.Front.TheVariants.{Held, Mode, Skipped, Whole}

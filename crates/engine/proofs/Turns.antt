@@ -8,14 +8,13 @@ use Prim.Native.Nat.{◌+◌, ◌-◌, ◌<◌, ◌≤◌, suc, zero, ℕ}
 use native.Mathlib.Omega.{arith}
 use lib.Dec.{eqb}
 use lib.ListN.{drop, get_or, length, length-drop, take}
-use borrow.Author.Tests.{eqb-true}
 use Rattle.chip_core.specs.Hearing.{hearing}
 use Rattle.chip_core.specs.declared.Hearing.{Hearing}
 use Rattle.chip_core.specs.declared.Hearing.TheVariants.{HearsCommands, HearsData, HearsNothing}
-use Rattle.engine.specs.Engine.{Plain, Stand, after_frame, after_mode, front_for, front_of, facing, played_out, turn, turn_by, turns}
+use Rattle.engine.specs.Engine.{Plain, after_frame, after_mode, front_for, front_of, facing, played_out, turn, turn_by, turns}
 use Rattle.engine.specs.declared.Front.{Front}
 use Rattle.engine.specs.declared.Front.TheVariants.{Held, Mode, Skipped, Whole}
-use Rattle.frame.specs.Frame.{complete, counted, full, header_byte}
+use Rattle.frame.specs.Frame.{complete, counted, header_byte}
 use Rattle.frame.specs.declared.Header.{Header}
 use Rattle.frame.specs.declared.Header.TheVariants.{Command, Data}
 use Rattle.part.specs.declared.Part.{Part}

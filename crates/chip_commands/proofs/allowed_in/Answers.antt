@@ -1,6 +1,5 @@
 -- `chip_commands::allowed_in` meets its contract: what the phase says of COM.
 -- Assumes nothing.
-use borrow.Author.Rules.{rules}
 use Rattle.chip_commands.specs.Commands.{allowed_in}
 use Rattle.chip_commands.proofs.allowed_in.Goals as goal
 

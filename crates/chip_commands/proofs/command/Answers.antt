@@ -1,6 +1,5 @@
 -- `chip_commands::command` meets its contract: the judgement, then the phase, then the command that the payload is.
 -- Assumes nothing.
-use borrow.Author.Rules.{rules}
 use Rattle.chip_commands.specs.Commands.{command_does}
 use Rattle.words.specs.Words.{if◌then◌else◌}
 use Rattle.chip_commands.proofs.command.Goals as goal

@@ -1,6 +1,5 @@
 -- `chip_commands::reading_does` meets its contract: each reading's arm is the definition's.
 -- Assumes nothing.
-use borrow.Author.Rules.{rules}
 use Rattle.chip_commands.specs.Commands.{reading_does}
 use Rattle.chip_commands.proofs.reading_does.Goals as goal
 

@@ -1,6 +1,5 @@
 -- `chip_commands::work` meets its contract: each command has its work.
 -- Assumes nothing.
-use borrow.Author.Rules.{rules}
 use Rattle.chip_commands.specs.Commands.{work}
 use Rattle.chip_commands.proofs.work.Goals as goal
 

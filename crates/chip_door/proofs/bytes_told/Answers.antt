@@ -1,6 +1,5 @@
 -- `chip_door::bytes_told` meets its contract: by the two answers.
 -- Assumes nothing.
-use borrow.Author.Rules.{rules}
 use Rattle.chip_door.specs.Calls.{bytes_told}
 use Rattle.chip_door.proofs.bytes_told.Goals as goal
 

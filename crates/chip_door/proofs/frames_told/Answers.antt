@@ -1,6 +1,5 @@
 -- `chip_door::frames_told` meets its contract: by the two answers.
 -- Assumes nothing.
-use borrow.Author.Rules.{rules}
 use Rattle.chip_door.specs.Calls.{frames_told}
 use Rattle.chip_door.proofs.frames_told.Goals as goal
 

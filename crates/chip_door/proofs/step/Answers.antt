@@ -2,7 +2,6 @@
 -- Assumes nothing.
 use Rattle.chip_door.proofs.Laws.{step-refused, step-replied}
 use Rattle.chip_door.specs.Calls.{stepped_by, stepped_through}
-use borrow.Author.Rules.{rules}
 use Rattle.chip_door.proofs.step.Goals as goal
 
 pub returns-in-Refused : goal.returns-in-Refused

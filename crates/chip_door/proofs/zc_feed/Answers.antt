@@ -2,7 +2,6 @@
 -- Assumes nothing.
 use Rattle.chip_door.proofs.Laws.{fed-told}
 use Rattle.chip_door.specs.Calls.{fed_by, fed_through}
-use borrow.Author.Rules.{rules}
 use Rattle.chip_door.proofs.zc_feed.Goals as goal
 
 pub returns-in-Refused : goal.returns-in-Refused

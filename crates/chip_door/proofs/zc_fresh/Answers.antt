@@ -1,7 +1,6 @@
 -- `chip_door::zc_fresh` meets its contract.
 -- Assumes nothing.
 use Rattle.chip_door.specs.Calls.{fresh_through, made_by}
-use borrow.Author.Rules.{rules}
 use Rattle.chip_door.proofs.zc_fresh.Goals as goal
 
 pub returns-in-Replied : goal.returns-in-Replied

@@ -1,6 +1,5 @@
 -- `chip_door::zc_sums` meets its contract: the call's verdict as a number, and the sums as it left them.
 -- Assumes nothing.
-use borrow.Author.Rules.{rules}
 use Rattle.chip_door.proofs.Laws.{sums-refused, sums-worked}
 use Rattle.chip_door.proofs.zc_sums.Goals as goal
 

@@ -1,22 +1,14 @@
 -- `chip_feed::feed` meets its contract: what the bytes still to come make of the last step's outcome stays the same from turn to turn, until one is
 -- answered or refused. A turn takes a stretch of bytes that are only added, under one verdict, or one byte by a step.
 -- Assumes nothing.
-use mathlib.Core.List.{List}
 use mathlib.Core.Path.{◌∙◌, ◌≡◌, refl, sym}
-use Prim.Native.Nat.{◌-◌, ◌≤◌, ℕ}
+use Prim.Native.Nat.{◌-◌, ◌≤◌}
 use native.Mathlib.Omega.{arith}
 use lib.ListN.{length}
 use borrow.Author.Rules.{rules}
 use Rattle.chip.proofs.Settling.{step-barred}
-use Rattle.chip.specs.Step.{Outcome}
-use Rattle.chip.specs.declared.Answer.{Answer}
-use Rattle.chip_core.specs.Effect.{memory}
-use Rattle.chip_core.specs.declared.Core.{Core}
-use Rattle.chip_feed.proofs.Feeding.{FedFrom, fed-end, fed-refused, fed-said, fed-start, fed-turn, looked-at}
+use Rattle.chip_feed.proofs.Feeding.{fed-end, fed-refused, fed-said, fed-start, fed-turn, looked-at}
 use Rattle.chip_feed.proofs.Stretching.{fed-stretch, takes-there}
-use Rattle.chip_feed.specs.Feed.{feed_of}
-use Rattle.frame.specs.declared.collector.Collector.{Collector}
-use Rattle.frame.specs.declared.judgement.Judgement.{Judgement}
 use Rattle.chip_feed.proofs.feed.Goals as goal
 
 pub loop-i-init : goal.loop-i-init

@@ -2,18 +2,14 @@
 -- answered or refused. A turn takes a stretch of bytes that are only added, under one verdict, or one byte by a step.
 -- Assumes nothing.
 use mathlib.Core.List.{List}
-use mathlib.Core.Path.{◌∙◌, ◌≡◌, refl, sym}
+use mathlib.Core.Path.{◌≡◌}
 use Prim.Native.Nat.{◌-◌, ◌≤◌, ℕ}
-use native.Mathlib.Omega.{arith}
 use lib.ListN.{length}
-use borrow.Author.Rules.{rules}
-use Rattle.chip.proofs.Settling.{step-barred}
 use Rattle.chip.specs.Step.{Outcome}
 use Rattle.chip.specs.declared.Answer.{Answer}
 use Rattle.chip_core.specs.Effect.{memory}
 use Rattle.chip_core.specs.declared.Core.{Core}
-use Rattle.chip_feed.proofs.Feeding.{FedFrom, fed-end, fed-refused, fed-said, fed-start, fed-turn, looked-at}
-use Rattle.chip_feed.proofs.Stretching.{fed-stretch, takes-there}
+use Rattle.chip_feed.proofs.Feeding.{FedFrom}
 use Rattle.chip_feed.specs.Feed.{feed_of}
 use Rattle.frame.specs.declared.collector.Collector.{Collector}
 use Rattle.frame.specs.declared.judgement.Judgement.{Judgement}

@@ -1,9 +1,8 @@
 -- `chip_flash::clear` meets its contract: the new bytes before the place that the loop has come to are in, the others still stand.
 -- Assumes nothing.
-use Prim.Native.Nat.{◌-◌, ◌≤◌}
+use Prim.Native.Nat.{◌-◌}
 use native.Mathlib.Omega.{arith}
-use borrow.Author.Rules.{rules}
-use Rattle.chip_flash.proofs.Laws.{Cleared, RunsOut, cleared-end, cleared-start, cleared-turn, runs-out, under-new, under-old, under-part}
+use Rattle.chip_flash.proofs.Laws.{cleared-end, cleared-start, cleared-turn, runs-out, under-new, under-old, under-part}
 use Rattle.chip_flash.proofs.clear.Goals as goal
 
 pub loop-i-init : goal.loop-i-init

@@ -1,9 +1,7 @@
 -- `chip_flash::clear` meets its contract: the new bytes before the place that the loop has come to are in, the others still stand.
 -- Assumes nothing.
 use Prim.Native.Nat.{◌-◌, ◌≤◌}
-use native.Mathlib.Omega.{arith}
-use borrow.Author.Rules.{rules}
-use Rattle.chip_flash.proofs.Laws.{Cleared, RunsOut, cleared-end, cleared-start, cleared-turn, runs-out, under-new, under-old, under-part}
+use Rattle.chip_flash.proofs.Laws.{Cleared, RunsOut}
 use Rattle.chip_flash.proofs.clear.Given as goal
 
 abbrev pub invariant-loop-i : goal.invariant-loop-i

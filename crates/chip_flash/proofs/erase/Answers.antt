@@ -1,7 +1,6 @@
 -- `chip_flash::erase` meets its contract: a part filled with FFh is the definition's list.
 -- Assumes nothing.
 use native.Mathlib.Omega.{arith}
-use borrow.Author.Rules.{rules}
 use Rattle.chip_flash.proofs.Laws.{erase-lands, erase-short}
 use Rattle.chip_flash.proofs.erase.Goals as goal
 

@@ -1,11 +1,9 @@
 -- `chip_flash::fill` meets its contract: the bytes before the place that the loop has come to are FFh, the others still stand.
 -- Assumes nothing.
-use mathlib.Core.Path.{◌≡◌}
-use Prim.Native.Nat.{◌-◌, ◌≤◌}
+use Prim.Native.Nat.{◌-◌}
 use native.Mathlib.Omega.{arith}
-use lib.ListN.{length}
 use borrow.Author.Rules.{rules}
-use Rattle.chip_flash.proofs.Laws.{Filled, filled-end, filled-start, filled-turn}
+use Rattle.chip_flash.proofs.Laws.{filled-end, filled-start, filled-turn}
 use Rattle.chip_flash.proofs.fill.Goals as goal
 
 pub loop-i-init : goal.loop-i-init

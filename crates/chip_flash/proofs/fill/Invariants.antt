@@ -2,10 +2,8 @@
 -- Assumes nothing.
 use mathlib.Core.Path.{◌≡◌}
 use Prim.Native.Nat.{◌-◌, ◌≤◌}
-use native.Mathlib.Omega.{arith}
 use lib.ListN.{length}
-use borrow.Author.Rules.{rules}
-use Rattle.chip_flash.proofs.Laws.{Filled, filled-end, filled-start, filled-turn}
+use Rattle.chip_flash.proofs.Laws.{Filled}
 use Rattle.chip_flash.proofs.fill.Given as goal
 
 abbrev pub invariant-loop-i : goal.invariant-loop-i

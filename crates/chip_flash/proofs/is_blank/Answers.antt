@@ -1,6 +1,5 @@
 -- `chip_flash::is_blank` meets its contract: blank bytes are those that are all FFh.
 -- Assumes nothing.
-use borrow.Author.Rules.{rules}
 use Rattle.chip_flash.specs.Flash.{blank}
 use Rattle.chip_flash.proofs.is_blank.Goals as goal
 

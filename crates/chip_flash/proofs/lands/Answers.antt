@@ -1,11 +1,9 @@
 -- `chip_flash::lands` meets its contract: what the flag makes of the bytes still to come, of two lists of one length, stays the same from turn to turn.
 -- Assumes nothing.
-use mathlib.Core.Path.{◌≡◌}
-use Prim.Native.Nat.{◌-◌, ◌≤◌}
+use Prim.Native.Nat.{◌-◌}
 use native.Mathlib.Omega.{arith}
-use lib.ListN.{length}
 use borrow.Author.Rules.{rules}
-use Rattle.chip_flash.proofs.Laws.{LandsFrom, lands-apart, lands-end, lands-start, lands-turn}
+use Rattle.chip_flash.proofs.Laws.{lands-apart, lands-end, lands-start, lands-turn}
 use Rattle.chip_flash.proofs.lands.Goals as goal
 
 pub returns-then-old-new : goal.returns-then-old-new

@@ -2,10 +2,8 @@
 -- Assumes nothing.
 use mathlib.Core.Path.{◌≡◌}
 use Prim.Native.Nat.{◌-◌, ◌≤◌}
-use native.Mathlib.Omega.{arith}
 use lib.ListN.{length}
-use borrow.Author.Rules.{rules}
-use Rattle.chip_flash.proofs.Laws.{LandsFrom, lands-apart, lands-end, lands-start, lands-turn}
+use Rattle.chip_flash.proofs.Laws.{LandsFrom}
 use Rattle.chip_flash.proofs.lands.Given as goal
 
 abbrev pub invariant-loop-i : goal.invariant-loop-i

@@ -1,7 +1,6 @@
 -- `chip_flash::program` meets its contract: a programmed part is the definition's list.
 -- Assumes nothing.
 use native.Mathlib.Omega.{arith}
-use borrow.Author.Rules.{rules}
 use Rattle.chip_flash.proofs.Laws.{least-within, program-lands, program-past}
 use Rattle.chip_flash.proofs.program.Goals as goal
 

@@ -1,6 +1,5 @@
 -- `chip_frame::frame_does` meets its contract: what the phase hears decides.
 -- Assumes nothing.
-use borrow.Author.Rules.{rules}
 use Rattle.chip_frame.specs.Does.{frame_does}
 use Rattle.chip_frame.proofs.frame_does.Goals as goal
 

@@ -1,6 +1,5 @@
 -- `chip_frame::mode_byte` meets its contract: 3Ah, then 00h.
 -- Assumes nothing.
-use borrow.Author.Rules.{rules}
 use borrow.Author.Tests.{eq-eqb, ne_eqb}
 use Rattle.chip_frame.specs.Does.{mode_byte}
 use Rattle.words.specs.Words.{◌or◌, if◌then◌else◌}

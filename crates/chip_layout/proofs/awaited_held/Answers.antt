@@ -1,6 +1,5 @@
 -- `chip_layout::awaited_held` meets its contract: the command, two numbers of eight bytes, and the last byte.
 -- Assumes nothing.
-use borrow.Author.Rules.{rules}
 use Rattle.chip_layout.specs.Layout.{awaited_held}
 use Rattle.chip_layout.proofs.awaited_held.Goals as goal
 

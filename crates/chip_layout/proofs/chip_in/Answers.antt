@@ -1,7 +1,6 @@
 -- `chip_layout::chip_in` meets its contract.
 -- Assumes nothing.
 use Rattle.chip_layout.specs.Layout.{chip_in}
-use borrow.Author.Rules.{rules}
 use Rattle.chip_layout.proofs.chip_in.Goals as goal
 
 pub returns : goal.returns

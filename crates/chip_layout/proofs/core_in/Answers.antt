@@ -1,6 +1,5 @@
 -- `chip_layout::core_in` meets its contract: options, rate and phase, each by its function.
 -- Assumes nothing.
-use borrow.Author.Rules.{rules}
 use Rattle.chip_layout.proofs.core_in.Goals as goal
 
 pub returns : goal.returns

@@ -1,6 +1,5 @@
 -- `chip_layout::head` meets its contract: nine bytes, in the definition's order.
 -- Assumes nothing.
-use borrow.Author.Rules.{rules}
 use Rattle.chip_options.proofs.Laws.{option-bytes}
 use Rattle.chip_layout.specs.Layout.{head_of}
 use Rattle.chip_layout.proofs.head.Goals as goal

@@ -3,7 +3,6 @@
 use borrow.Author.Tests.{eq-eqb, le-leb, lt-leb, ne_eqb}
 use Rattle.chip_layout.specs.Layout.{is_state}
 use Rattle.words.specs.Words.{◌and◌, ◌or◌, ◌from◌to◌}
-use borrow.Author.Rules.{rules}
 use Rattle.chip_layout.proofs.is_state.Goals as goal
 
 pub returns-then-n-lt1 : goal.returns-then-n-lt1

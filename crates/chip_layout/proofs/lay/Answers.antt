@@ -1,9 +1,8 @@
 -- `chip_layout::lay` meets its contract: the six pieces, put one after the other, are the layout.
 -- Assumes nothing.
-use mathlib.Core.Path.{◌∙◌, ◌≡◌, sym}
-use Prim.Native.Nat.{ℕ}
+use mathlib.Core.Path.{◌≡◌, sym}
 use native.Mathlib.Omega.{arith}
-use lib.ListN.{length, length-set}
+use lib.ListN.{length}
 use borrow.Author.Rules.{rules}
 use Rattle.chip_layout.proofs.Laws.{layout_is}
 use Rattle.chip_layout.proofs.lay.Goals as goal

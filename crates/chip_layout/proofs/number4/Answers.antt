@@ -1,7 +1,6 @@
 -- `chip_layout::number4` meets its contract: four bytes.
 -- Assumes nothing.
 use mathlib.Core.Path.{◌∙◌, refl}
-use borrow.Author.Rules.{rules}
 use Rattle.numbers.proofs.Laws.{number-four}
 use Rattle.chip_layout.proofs.number4.Goals as goal
 

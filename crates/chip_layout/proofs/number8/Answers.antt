@@ -1,6 +1,5 @@
 -- `chip_layout::number8` meets its contract: two halves of four bytes.
 -- Assumes nothing.
-use borrow.Author.Rules.{rules}
 use Rattle.numbers.proofs.Laws.{number-halves}
 use Rattle.chip_layout.proofs.number8.Goals as goal
 

@@ -1,7 +1,6 @@
 -- `chip_options::last_block` meets its contract: 0 less 1 is 0 in the definition.
 -- Assumes nothing.
 use native.Mathlib.Omega.{arith}
-use borrow.Author.Rules.{rules}
 use Rattle.chip_options.specs.Options.{last_block}
 use Rattle.chip_options.proofs.last_block.Goals as goal
 

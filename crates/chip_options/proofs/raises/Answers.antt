@@ -2,7 +2,6 @@
 -- Assumes nothing.
 use mathlib.Core.Bool.{Bool, false}
 use mathlib.Core.Path.{◌∙◌, ◌≡◌, sym}
-use borrow.Author.Rules.{rules}
 use Rattle.chip_options.specs.Options.{rises, raises}
 use Rattle.words.specs.Words.{◌or◌}
 use Rattle.chip_options.proofs.raises.Goals as goal

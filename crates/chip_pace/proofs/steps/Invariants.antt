@@ -1,12 +1,10 @@
 -- `chip_pace::steps` meets its contract: what the bytes still to come make of the last step's outcome stays the same from turn to turn.
 -- Assumes nothing.
 use mathlib.Core.List.{map}
-use mathlib.Core.Path.{◌∙◌, ◌≡◌, refl}
+use mathlib.Core.Path.{◌≡◌}
 use Prim.Native.Nat.{◌-◌, ◌≤◌}
-use native.Mathlib.Omega.{arith}
 use lib.ListN.{length}
-use borrow.Author.Rules.{rules}
-use Rattle.chip_pace.proofs.Laws.{Stepped, stepped-end, stepped_start, stepped-turn}
+use Rattle.chip_pace.proofs.Laws.{Stepped}
 use Rattle.chip.specs.Run.{run}
 use Rattle.chip.specs.Step.{outcome}
 use Rattle.chip.specs.declared.Event.TheVariants.{Byte}

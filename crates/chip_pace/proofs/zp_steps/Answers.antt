@@ -1,6 +1,5 @@
 -- `chip_pace::zp_steps` meets its contract: a fresh chip of the part, through all the bytes.
 -- Assumes nothing.
-use borrow.Author.Rules.{rules}
 use Rattle.chip_pace.specs.Pace.{paced_of}
 use Rattle.chip_pace.proofs.zp_steps.Goals as goal
 

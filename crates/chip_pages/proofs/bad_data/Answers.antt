@@ -1,6 +1,5 @@
 -- `chip_pages::bad_data` meets its contract: A0h has one status, pages have two.
 -- Assumes nothing.
-use borrow.Author.Rules.{rules}
 use borrow.Author.Tests.{eq-eqb, ne_eqb}
 use Rattle.chip_pages.specs.Pages.{bad_data}
 use Rattle.words.specs.Words.{if◌then◌else◌}

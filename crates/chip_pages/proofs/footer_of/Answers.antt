@@ -1,6 +1,5 @@
 -- `chip_pages::footer_of` meets its contract: A0h's frame is a last frame; so is the last page.
 -- Assumes nothing.
-use borrow.Author.Rules.{rules}
 use borrow.Author.Tests.{eq-eqb, ne_eqb}
 use Rattle.chip_pages.specs.Pages.{footer_of}
 use Rattle.words.specs.Words.{◌or◌, if◌then◌else◌}

@@ -1,6 +1,5 @@
 -- `chip_pages::good_data` meets its contract: the command decides.
 -- Assumes nothing.
-use borrow.Author.Rules.{rules}
 use borrow.Author.Tests.{eq-eqb, ne_eqb}
 use Rattle.chip_pages.specs.Pages.{good_data}
 use Rattle.words.specs.Words.{if◌then◌else◌}

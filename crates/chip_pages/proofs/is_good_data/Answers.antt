@@ -1,6 +1,5 @@
 -- `chip_pages::is_good_data` meets its contract: each test is the definition's, in its order.
 -- Assumes nothing.
-use borrow.Author.Rules.{rules}
 use borrow.Author.Tests.{eq-eqb, ne_eqb}
 use Rattle.words.specs.Words.{◌and◌}
 use Rattle.chip_pages.proofs.is_good_data.Goals as goal

@@ -1,7 +1,6 @@
 -- `chip_pages::is_last_page` meets its contract: the difference is compared, since a sum could wrap.
 -- Assumes nothing.
 use native.Mathlib.Omega.{arith}
-use borrow.Author.Rules.{rules}
 use Rattle.chip_pages.proofs.Laws.{reached, reaches}
 use Rattle.chip_pages.specs.Pages.{is_last_page}
 use Rattle.part.specs.Part.{page_size}

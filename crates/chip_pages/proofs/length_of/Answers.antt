@@ -1,6 +1,5 @@
 -- `chip_pages::length_of` meets its contract: A0h's data has 8 bytes, a page 256.
 -- Assumes nothing.
-use borrow.Author.Rules.{rules}
 use borrow.Author.Tests.{eq-eqb, ne_eqb}
 use Rattle.chip_pages.specs.Pages.{length_of}
 use Rattle.words.specs.Words.{if◌then◌else◌}

@@ -2,7 +2,6 @@
 -- Assumes nothing.
 use mathlib.Core.Path.{◌∙◌, sym}
 use native.Mathlib.Omega.{arith}
-use borrow.Author.Rules.{rules}
 use Rattle.chip_pages.proofs.Laws.{not_last}
 use Rattle.chip_pages.specs.Pages.{next_page}
 use Rattle.words.specs.Words.{if◌then◌else◌}

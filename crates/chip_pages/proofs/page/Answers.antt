@@ -1,6 +1,5 @@
 -- `chip_pages::page` meets its contract: the judgement, then the command.
 -- Assumes nothing.
-use borrow.Author.Rules.{rules}
 use Rattle.chip_pages.specs.Pages.{data_does}
 use Rattle.words.specs.Words.{if◌then◌else◌}
 use Rattle.chip_pages.proofs.page.Goals as goal

@@ -1,6 +1,5 @@
 -- `chip_pages::page_bytes` meets its contract: the area decides which slice is read.
 -- Assumes nothing.
-use borrow.Author.Rules.{rules}
 use Rattle.chip_pages.specs.Pages.{page_in}
 use Rattle.chip_pages.proofs.page_bytes.Goals as goal
 

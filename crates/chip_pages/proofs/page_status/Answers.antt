@@ -1,6 +1,5 @@
 -- `chip_pages::page_status` meets its contract: 06h where programming leaves what was sent.
 -- Assumes nothing.
-use borrow.Author.Rules.{rules}
 use Rattle.chip_pages.specs.Pages.{page_status}
 use Rattle.words.specs.Words.{if◌then◌else◌}
 use Rattle.chip_pages.proofs.page_status.Goals as goal

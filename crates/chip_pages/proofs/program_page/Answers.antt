@@ -1,6 +1,5 @@
 -- `chip_pages::program_page` meets its contract: the status is that of the page and what stood there, and the sum is worked out after the page.
 -- Assumes nothing.
-use borrow.Author.Rules.{rules}
 use Rattle.chip_pages.proofs.Laws.{page-written}
 use Rattle.chip_pages.proofs.program_page.Goals as goal
 

@@ -1,6 +1,5 @@
 -- `chip_pages::security_data` meets its contract: 05h, then 10h, then stored.
 -- Assumes nothing.
-use borrow.Author.Rules.{rules}
 use Rattle.chip_pages.specs.Pages.{security_data}
 use Rattle.words.specs.Words.{if◌then◌else◌}
 use Rattle.chip_pages.proofs.security_data.Goals as goal

@@ -1,6 +1,5 @@
 -- `chip_pages::told_written` meets its contract: after 06h the next page is awaited, or none; after another status none.
 -- Assumes nothing.
-use borrow.Author.Rules.{rules}
 use borrow.Author.Tests.{eq-eqb, ne_eqb}
 use Rattle.chip_pages.proofs.Laws.{last_stored, one-stored}
 use Rattle.chip_pages.specs.Pages.{told_written}

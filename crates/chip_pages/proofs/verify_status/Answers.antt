@@ -1,6 +1,5 @@
 -- `chip_pages::verify_status` meets its contract: the tests are the definition's.
 -- Assumes nothing.
-use borrow.Author.Rules.{rules}
 use Rattle.chip_pages.specs.Pages.{verify_status}
 use Rattle.words.specs.Words.{◌and◌, if◌then◌else◌}
 use Rattle.chip_pages.proofs.verify_status.Goals as goal

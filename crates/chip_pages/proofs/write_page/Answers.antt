@@ -1,6 +1,5 @@
 -- `chip_pages::write_page` meets its contract: the area decides which slice is programmed.
 -- Assumes nothing.
-use borrow.Author.Rules.{rules}
 use Rattle.chip_flash.proofs.Laws.{program-is}
 use Rattle.chip_pages.specs.Pages.{page_in, page_stored}
 use Rattle.chip_pages.proofs.write_page.Goals as goal

@@ -2,8 +2,6 @@
 -- Assumes nothing.
 use mathlib.Core.Path.{◌∙◌, refl, sym}
 use native.Mathlib.Omega.{arith}
-use borrow.Author.Rules.{rules}
-use borrow.Author.Tests.{not-false, not-true}
 use Rattle.part.proofs.Laws.{described-is}
 use Rattle.chip_reply.proofs.Laws.{said-nothing, send-short, send-undescribed, sends}
 use Rattle.chip_reply.specs.Reply.{payloads}

@@ -1,7 +1,6 @@
 -- `chip_reply::send_one` meets its contract: a frame that fits lies at the room's start.
 -- Assumes nothing.
 use native.Mathlib.Omega.{arith}
-use borrow.Author.Rules.{rules}
 use Rattle.chip_reply.proofs.Laws.{said-one}
 use Rattle.chip_reply.proofs.send_one.Goals as goal
 

@@ -1,7 +1,6 @@
 -- `chip_reply::send_two` meets its contract: the second frame lies where the first one ends.
 -- Assumes nothing.
 use native.Mathlib.Omega.{arith}
-use borrow.Author.Rules.{rules}
 use Rattle.chip_reply.proofs.Laws.{said-two}
 use Rattle.chip_reply.proofs.send_two.Goals as goal
 

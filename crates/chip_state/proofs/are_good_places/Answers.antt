@@ -1,6 +1,5 @@
 -- `chip_state::are_good_places` meets its contract: each test is the definition's, in its order.
 -- Assumes nothing.
-use borrow.Author.Rules.{rules}
 use borrow.Author.Tests.{eq-eqb, ne_eqb}
 use Rattle.chip_state.specs.Refusals.{good_places}
 use Rattle.part.proofs.Laws.{positive}

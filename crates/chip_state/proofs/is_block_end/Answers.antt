@@ -1,6 +1,5 @@
 -- `chip_state::is_block_end` meets its contract: the remainder is compared, since a sum could wrap.
 -- Assumes nothing.
-use borrow.Author.Rules.{rules}
 use Rattle.chip_state.proofs.Laws.{block-end-is}
 use Rattle.chip_state.proofs.is_block_end.Goals as goal
 

@@ -1,6 +1,5 @@
 -- `chip_state::is_good_awaited` meets its contract: each test is the definition's, in its order.
 -- Assumes nothing.
-use borrow.Author.Rules.{rules}
 use borrow.Author.Tests.{eq-eqb, le-leb, lt-leb, ne_eqb}
 use Rattle.chip_state.specs.Refusals.{good_awaited}
 use Rattle.words.specs.Words.{◌and◌, ◌or◌}

@@ -1,6 +1,5 @@
 -- `chip_state::is_good_collected` meets its contract: what the phase hears decides which header is awaited.
 -- Assumes nothing.
-use borrow.Author.Rules.{rules}
 use Rattle.chip_state.specs.Refusals.{good_collected}
 use Rattle.chip_state.proofs.is_good_collected.Goals as goal
 

@@ -1,6 +1,5 @@
 -- `chip_state::is_good_core` meets its contract: each test is the definition's, in its order.
 -- Assumes nothing.
-use borrow.Author.Rules.{rules}
 use borrow.Author.Tests.{le-leb, lt-leb}
 use Rattle.chip_state.specs.Refusals.{good_core}
 use Rattle.words.specs.Words.{◌and◌}

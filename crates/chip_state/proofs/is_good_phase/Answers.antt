@@ -1,6 +1,5 @@
 -- `chip_state::is_good_phase` meets its contract: only phase 4 has something to test.
 -- Assumes nothing.
-use borrow.Author.Rules.{rules}
 use Rattle.chip_state.specs.Refusals.{good_phase}
 use Rattle.chip_state.proofs.is_good_phase.Goals as goal
 

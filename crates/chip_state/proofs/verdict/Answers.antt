@@ -2,12 +2,10 @@
 -- Assumes nothing.
 use mathlib.Core.Bool.{not}
 use mathlib.Core.Path.{◌∙◌, ap, sym}
-use lib.Dec.{eqb}
-use borrow.Author.Rules.{rules}
 use borrow.Author.Tests.{eq-eqb, le-ltb, lt-ltb, ne_eqb}
 use Rattle.part.proofs.Laws.{first-here, first_on, none-held}
 use Rattle.chip_state.specs.Refusals.{verdict_of}
-use Rattle.part.specs.Part.{described, size}
+use Rattle.part.specs.Part.{size}
 use Rattle.chip_state.proofs.verdict.Goals as goal
 
 pub returns-then-handed-lt32 : goal.returns-then-handed-lt32

@@ -1,6 +1,5 @@
 -- `chip_sums::block_sum` meets its contract: the area decides which slice is read; blocks of the part can be counted in bytes.
 -- Assumes nothing.
-use mathlib.Core.Path.{◌∙◌}
 use native.Mathlib.Omega.{arith}
 use borrow.Author.Rules.{rules}
 use Rattle.chip_sums.proofs.Laws.{block-summed, counts}

@@ -1,7 +1,6 @@
 -- `chip_sums::kept_in` meets its contract: what lies in the block's slot, and nothing past the last slot.
 -- Assumes nothing.
 use native.Mathlib.Omega.{arith}
-use borrow.Author.Rules.{rules}
 use Rattle.chip_sums.proofs.Laws.{kept_there, none_kept, slot-past}
 use Rattle.chip_sums.proofs.kept_in.Goals as goal
 

@@ -1,7 +1,6 @@
 -- `chip_sums::put` meets its contract: the block's slot is set, and nothing past the last slot.
 -- Assumes nothing.
 use native.Mathlib.Omega.{arith}
-use borrow.Author.Rules.{rules}
 use Rattle.chip_sums.proofs.Laws.{none-put, slot-past}
 use Rattle.chip_sums.proofs.put.Goals as goal
 

@@ -1,7 +1,6 @@
 -- `chip_sums::resum` meets its contract: a block of the part has its sum worked out afresh, nothing else has.
 -- Assumes nothing.
 use borrow.Author.Tests.{le-ltb, lt-ltb}
-use borrow.Author.Rules.{rules}
 use Rattle.chip_sums.specs.Sums.{resummed}
 use Rattle.words.specs.Words.{if◌then◌else◌}
 use Rattle.chip_sums.proofs.resum.Goals as goal

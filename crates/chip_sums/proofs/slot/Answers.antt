@@ -1,6 +1,5 @@
 -- `chip_sums::slot` meets its contract: the code blocks first, then the data blocks.
 -- Assumes nothing.
-use borrow.Author.Rules.{rules}
 use Rattle.chip_sums.specs.Sums.{slot}
 use Rattle.chip_sums.proofs.slot.Goals as goal
 

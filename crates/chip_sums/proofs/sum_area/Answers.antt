@@ -1,13 +1,9 @@
 -- `chip_sums::sum_area` meets its contract: the blocks before the one that the loop has come to are summed, the other slots still stand.
 -- Assumes nothing.
-use mathlib.Core.Path.{◌≡◌}
-use Prim.Native.Nat.{◌-◌, ◌≤◌}
+use Prim.Native.Nat.{◌-◌}
 use native.Mathlib.Omega.{arith}
-use lib.ListN.{length}
 use borrow.Author.Rules.{rules}
-use Rattle.chip_core.specs.Effect.{flash}
-use Rattle.chip_sums.proofs.Laws.{SummedTo, summed-end, summed-start, summed_turn}
-use Rattle.part.specs.Part.{blocks}
+use Rattle.chip_sums.proofs.Laws.{summed-end, summed-start, summed_turn}
 use Rattle.chip_sums.proofs.sum_area.Goals as goal
 
 pub loop-block-init : goal.loop-block-init

@@ -2,11 +2,9 @@
 -- Assumes nothing.
 use mathlib.Core.Path.{◌≡◌}
 use Prim.Native.Nat.{◌-◌, ◌≤◌}
-use native.Mathlib.Omega.{arith}
 use lib.ListN.{length}
-use borrow.Author.Rules.{rules}
 use Rattle.chip_core.specs.Effect.{flash}
-use Rattle.chip_sums.proofs.Laws.{SummedTo, summed-end, summed-start, summed_turn}
+use Rattle.chip_sums.proofs.Laws.{SummedTo}
 use Rattle.part.specs.Part.{blocks}
 use Rattle.chip_sums.proofs.sum_area.Given as goal
 

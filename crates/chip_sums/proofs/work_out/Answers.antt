@@ -1,6 +1,5 @@
 -- `chip_sums::work_out` meets its contract: refused, or the code blocks' sums and then the data blocks'.
 -- Assumes nothing.
-use borrow.Author.Rules.{rules}
 use Rattle.chip_sums.specs.Sums.{all_summed, summed_by, worked_out}
 use Rattle.chip_sums.proofs.work_out.Goals as goal
 

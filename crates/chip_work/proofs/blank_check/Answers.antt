@@ -1,7 +1,6 @@
 -- `chip_work::blank_check` meets its contract: each test is the definition's, in its order; a good range lies in its area.
 -- Assumes nothing.
 use mathlib.Core.Path.{◌∙◌, sym}
-use borrow.Author.Rules.{rules}
 use borrow.Author.Tests.{eq-eqb, ne_eqb}
 use Rattle.chip_work.specs.Work.{blank_check}
 use Rattle.part.proofs.Laws.{range-good}

@@ -1,6 +1,5 @@
 -- `chip_work::block_erase` meets its contract: parameters, then protection, then the work.
 -- Assumes nothing.
-use borrow.Author.Rules.{rules}
 use borrow.Author.Tests.{eq-eqb, ne_eqb}
 use Rattle.chip_work.proofs.Laws.{block-erased}
 use Rattle.chip_work.specs.Work.{block_erase}

@@ -1,7 +1,6 @@
 -- `chip_work::checksum` meets its contract: one block is answered from its slot; more are summed, a good range lying in its area.
 -- Assumes nothing.
 use mathlib.Core.Path.{◌∙◌, sym}
-use borrow.Author.Rules.{rules}
 use borrow.Author.Tests.{eq-eqb, ne_eqb}
 use Rattle.chip_work.specs.Work.{checksum}
 use Rattle.part.proofs.Laws.{range-good}

@@ -1,6 +1,5 @@
 -- `chip_work::erase_in` meets its contract: the area decides which slice is erased.
 -- Assumes nothing.
-use borrow.Author.Rules.{rules}
 use Rattle.chip_work.specs.Work.{erased_in}
 use Rattle.chip_work.proofs.erase_in.Goals as goal
 

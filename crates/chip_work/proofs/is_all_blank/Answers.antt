@@ -1,6 +1,5 @@
 -- `chip_work::is_all_blank` meets its contract: code flash, then data flash.
 -- Assumes nothing.
-use borrow.Author.Rules.{rules}
 use Rattle.words.specs.Words.{◌and◌}
 use Rattle.chip_work.proofs.is_all_blank.Goals as goal
 

@@ -1,6 +1,5 @@
 -- `chip_work::is_boot` meets its contract: data flash has no boot blocks.
 -- Assumes nothing.
-use borrow.Author.Rules.{rules}
 use Rattle.chip_work.specs.Work.{is_boot}
 use Rattle.chip_work.proofs.is_boot.Goals as goal
 

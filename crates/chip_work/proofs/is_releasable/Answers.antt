@@ -1,6 +1,5 @@
 -- `chip_work::is_releasable` meets its contract: the boot flag, then the erase flag.
 -- Assumes nothing.
-use borrow.Author.Rules.{rules}
 use Rattle.words.specs.Words.{◌and◌}
 use Rattle.chip_work.proofs.is_releasable.Goals as goal
 

@@ -1,6 +1,5 @@
 -- `chip_work::programming` meets its contract: parameters, then protection.
 -- Assumes nothing.
-use borrow.Author.Rules.{rules}
 use Rattle.chip_work.specs.Work.{programming}
 use Rattle.words.specs.Words.{if◌then◌else◌}
 use Rattle.chip_work.proofs.programming.Goals as goal

@@ -1,6 +1,5 @@
 -- `chip_work::rate_set` meets its contract: each test is the definition's.
 -- Assumes nothing.
-use borrow.Author.Rules.{rules}
 use Rattle.chip_work.specs.Work.{rate_set}
 use Rattle.words.specs.Words.{if◌then◌else◌}
 use Rattle.chip_work.proofs.rate_set.Goals as goal

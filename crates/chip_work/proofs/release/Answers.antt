@@ -1,6 +1,5 @@
 -- `chip_work::release` meets its contract: protection, then the blank test, then fresh flags and window.
 -- Assumes nothing.
-use borrow.Author.Rules.{rules}
 use Rattle.chip_work.specs.Work.{security_release}
 use Rattle.words.specs.Words.{if◌then◌else◌}
 use Rattle.chip_work.proofs.release.Goals as goal

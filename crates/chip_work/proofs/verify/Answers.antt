@@ -1,6 +1,5 @@
 -- `chip_work::verify` meets its contract: parameters alone.
 -- Assumes nothing.
-use borrow.Author.Rules.{rules}
 use Rattle.chip_work.specs.Work.{verify}
 use Rattle.chip_work.proofs.verify.Goals as goal
 

@@ -1,7 +1,6 @@
 -- `commands::addresses` meets its contract: three bytes each, and the last.
 -- Assumes nothing.
 use Rattle.commands.proofs.Laws.{two-addresses}
-use borrow.Author.Rules.{rules}
 use Rattle.commands.proofs.addresses.Goals as goal
 
 pub returns : goal.returns

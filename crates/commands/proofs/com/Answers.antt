@@ -1,7 +1,6 @@
 -- `commands::com` meets its contract: each command has its COM.
 -- Assumes nothing.
 use Rattle.commands.specs.Commands.{com_of}
-use borrow.Author.Rules.{rules}
 use Rattle.commands.proofs.com.Goals as goal
 
 pub returns-in-RateSet : goal.returns-in-RateSet

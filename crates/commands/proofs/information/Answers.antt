@@ -2,7 +2,6 @@
 -- Assumes nothing.
 use Rattle.commands.specs.Commands.{information_of}
 use Rattle.commands.proofs.Laws.{all_laid, one-laid, two-laid}
-use borrow.Author.Rules.{rules}
 use Rattle.commands.proofs.information.Goals as goal
 
 pub returns-in-RateSet : goal.returns-in-RateSet

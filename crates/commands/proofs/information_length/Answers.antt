@@ -4,7 +4,6 @@ use Rattle.commands.specs.Commands.{information_of}
 use native.Mathlib.Omega.{arith}
 use lib.ListN.{length-append}
 use Rattle.numbers.proofs.Laws.{low-long}
-use borrow.Author.Rules.{rules}
 use Rattle.commands.proofs.information_length.Goals as goal
 
 pub returns-in-RateSet : goal.returns-in-RateSet

@@ -3,7 +3,6 @@
 use borrow.Author.Tests.{ne_eqb}
 use Rattle.commands.specs.Commands.{read_command, read_in, command_table}
 use Rattle.words.specs.Words.{if◌then◌else◌}
-use borrow.Author.Rules.{rules}
 use Rattle.commands.proofs.read.Goals as goal
 
 pub returns-in-154 : goal.returns-in-154

@@ -1,7 +1,6 @@
 -- `commands::write` meets its contract: COM and the information are the payload.
 -- Assumes nothing.
 use Rattle.commands.proofs.Laws.{command-written}
-use borrow.Author.Rules.{rules}
 use Rattle.commands.proofs.write.Goals as goal
 
 pub returns : goal.returns

@@ -1,7 +1,6 @@
 -- `conversion::convert` meets its contract: one judgement after the other, then the writing.
 -- Assumes nothing.
 use mathlib.Core.Path.{◌∙◌, sym}
-use borrow.Author.Rules.{rules}
 use Rattle.conversion.specs.Conversion.{convert_by, convert_of}
 use Rattle.conversion.proofs.convert.Goals as goal
 

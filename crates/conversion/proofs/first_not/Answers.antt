@@ -2,12 +2,7 @@
 -- Assumes nothing.
 use Prim.Native.Nat.{◌-◌}
 use native.Mathlib.Omega.{arith}
-use lib.ListN.{length}
-use borrow.Author.Rules.{rules}
-use borrow.Author.Tests.{not-false, not-true}
-use Rattle.replay_capture.specs.Capture.{record_size, records_of}
-use Rattle.conversion.proofs.First.{FoundFrom, found-end, found_here, found-start, found_turn, passed}
-use Rattle.conversion.specs.Conversion.{first_not}
+use Rattle.conversion.proofs.First.{found-end, found_here, found-start, found_turn, passed}
 use Rattle.conversion.proofs.first_not.Goals as goal
 
 pub loop-at-init : goal.loop-at-init

@@ -1,12 +1,9 @@
 -- `conversion::first_not` meets its contract: what is found among the records still to come stays the same from turn to turn.
 -- Assumes nothing.
 use Prim.Native.Nat.{◌-◌}
-use native.Mathlib.Omega.{arith}
 use lib.ListN.{length}
-use borrow.Author.Rules.{rules}
-use borrow.Author.Tests.{not-false, not-true}
 use Rattle.replay_capture.specs.Capture.{record_size, records_of}
-use Rattle.conversion.proofs.First.{FoundFrom, found-end, found_here, found-start, found_turn, passed}
+use Rattle.conversion.proofs.First.{FoundFrom}
 use Rattle.conversion.specs.Conversion.{first_not}
 use Rattle.conversion.proofs.first_not.Given as goal
 

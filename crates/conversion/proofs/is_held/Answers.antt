@@ -1,6 +1,5 @@
 -- `conversion::is_held` meets its contract: one test after the other.
 -- Assumes nothing.
-use borrow.Author.Rules.{rules}
 use borrow.Author.Tests.{eq-eqb, ne_eqb}
 use Rattle.conversion.specs.Conversion.{held_by_old}
 use Rattle.words.specs.Words.{◌and◌}

@@ -1,6 +1,5 @@
 -- `conversion::passes` meets its contract: one question or the other.
 -- Assumes nothing.
-use borrow.Author.Rules.{rules}
 use Rattle.conversion.specs.Conversion.{passes}
 use Rattle.conversion.proofs.passes.Goals as goal
 

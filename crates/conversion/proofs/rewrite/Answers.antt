@@ -1,7 +1,6 @@
 -- `conversion::rewrite` meets its contract: the array's part of the other form's size is the record in that form.
 -- Assumes nothing.
 use native.Mathlib.Omega.{arith}
-use borrow.Author.Rules.{rules}
 use Rattle.replay_capture.proofs.Laws.{sizes}
 use Rattle.conversion.proofs.Rewriting.{rewritten-put}
 use Rattle.conversion.proofs.rewrite.Goals as goal

@@ -2,7 +2,6 @@
 -- Assumes nothing.
 use mathlib.Core.Path.{◌∙◌, ap}
 use native.Mathlib.Omega.{arith}
-use borrow.Author.Rules.{rules}
 use Rattle.replay_capture.proofs.Laws.{sizes}
 use Rattle.replay_capture.specs.Capture.{head_size}
 use Rattle.conversion.proofs.Rewriting.{rewritten-laid}

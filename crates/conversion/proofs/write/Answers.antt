@@ -1,7 +1,6 @@
 -- `conversion::write` meets its contract: the output has place for as many records as the capture has, or nothing is written.
 -- Assumes nothing.
 use native.Mathlib.Omega.{arith}
-use borrow.Author.Rules.{rules}
 use Rattle.replay_capture.proofs.Laws.{sizes}
 use Rattle.conversion.proofs.Writing.{not_written, room-for-all}
 use Rattle.conversion.proofs.write.Goals as goal

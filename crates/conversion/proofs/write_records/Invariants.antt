@@ -2,12 +2,9 @@
 -- Assumes nothing.
 use mathlib.Core.Path.{◌≡◌}
 use Prim.Native.Nat.{◌-◌, ◌<◌, ◌^◌}
-use native.Mathlib.Omega.{arith}
 use lib.ListN.{length}
-use borrow.Author.Rules.{rules}
-use Rattle.replay_capture.proofs.Laws.{sizes}
 use Rattle.replay_capture.specs.Capture.{record_size, records_of}
-use Rattle.conversion.proofs.Writing.{WritingFrom, part-long, record-within, room_within, writing-end, writing_start, writing-turn}
+use Rattle.conversion.proofs.Writing.{WritingFrom}
 use Rattle.conversion.specs.Conversion.{other, rewritten_all}
 use Rattle.conversion.proofs.write_records.Given as goal
 

@@ -1,6 +1,5 @@
 -- `conversion_door::convert` meets its contract: what the conversion came to, told by its three numbers.
 -- Assumes nothing.
-use borrow.Author.Rules.{rules}
 use Rattle.conversion_door.specs.Calls.{converted_through}
 use Rattle.conversion_door.proofs.convert.Goals as goal
 

@@ -1,6 +1,5 @@
 -- `dock_answer::after` meets its contract: the part to the end is the rest of the list.
 -- Assumes nothing.
-use borrow.Author.Rules.{rules}
 use Rattle.dock_answer.proofs.Laws.{all_after, none_after}
 use Rattle.dock_answer.proofs.after.Goals as goal
 

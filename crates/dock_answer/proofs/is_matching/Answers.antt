@@ -1,6 +1,5 @@
 -- `dock_answer::is_matching` meets its contract: only 9Ah and C0h have something to compare.
 -- Assumes nothing.
-use borrow.Author.Rules.{rules}
 use Rattle.dock_answer.specs.Answer.{matching}
 use Rattle.dock_answer.proofs.is_matching.Goals as goal
 

@@ -1,6 +1,5 @@
 -- `dock_answer::is_rate` meets its contract: each test is the definition's, in its order.
 -- Assumes nothing.
-use borrow.Author.Rules.{rules}
 use borrow.Author.Tests.{eq-eqb, ne_eqb}
 use Rattle.dock_answer.specs.Answer.{rate_matches}
 use Rattle.words.specs.Words.{◌and◌}

@@ -1,6 +1,5 @@
 -- `dock_answer::judge_answer` meets its contract: the statuses decide which frames are asked for.
 -- Assumes nothing.
-use borrow.Author.Rules.{rules}
 use borrow.Author.Tests.{eq-eqb, ne_eqb}
 use Rattle.dock_answer.specs.Answer.{judge_answer, shape}
 use Rattle.words.specs.Words.{◌and◌, if◌then◌else◌}

@@ -1,7 +1,6 @@
 -- `dock_answer::judge_one` meets its contract: one frame, the last of its answer.
 -- Assumes nothing.
 use mathlib.Core.Path.{◌∙◌}
-use borrow.Author.Rules.{rules}
 use Rattle.dock_answer.proofs.Laws.{frames-one}
 use Rattle.dock_answer.proofs.judge_one.Goals as goal
 

@@ -1,7 +1,6 @@
 -- `dock_answer::judge_two` meets its contract: the frame at the front, and one after it.
 -- Assumes nothing.
 use mathlib.Core.Path.{◌∙◌, ap, sym}
-use borrow.Author.Rules.{rules}
 use Rattle.dock_answer.proofs.Laws.{frames-first, frames-second}
 use Rattle.frame.specs.Judgement.{is_good}
 use Rattle.dock_answer.proofs.judge_two.Goals as goal

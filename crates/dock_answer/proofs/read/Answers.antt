@@ -1,6 +1,5 @@
 -- `dock_answer::read` meets its contract: judged first, then what it says.
 -- Assumes nothing.
-use borrow.Author.Rules.{rules}
 use Rattle.dock_answer.specs.Answer.{read_answer}
 use Rattle.words.specs.Words.{if◌then◌else◌}
 use Rattle.dock_answer.proofs.read.Goals as goal

@@ -1,7 +1,6 @@
 -- `dock_answer::status_of` meets its contract: the form says which bytes are statuses.
 -- Assumes nothing.
 use mathlib.Core.Path.{◌∙◌}
-use borrow.Author.Rules.{rules}
 use Rattle.dock_answer.proofs.Laws.{deciding-one, deciding-two}
 use Rattle.dock_answer.specs.Answer.{statuses}
 use Rattle.dock_answer.proofs.status_of.Goals as goal

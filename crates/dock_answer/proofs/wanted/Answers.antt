@@ -2,7 +2,6 @@
 -- Assumes nothing.
 use native.Mathlib.Omega.{arith}
 use Rattle.dock_answer.specs.Answer.{wanted}
-use borrow.Author.Rules.{rules}
 use Rattle.dock_answer.proofs.wanted.Goals as goal
 
 pub returns-then-bytes-n : goal.returns-then-bytes-n

@@ -4,7 +4,6 @@ use borrow.Author.Tests.{eq-eqb, ne_eqb}
 use Rattle.dock_answer.proofs.Laws.{long-one, long-two}
 use Rattle.dock_answer.specs.Answer.{shape}
 use Rattle.words.specs.Words.{◌and◌, if◌then◌else◌}
-use borrow.Author.Rules.{rules}
 use Rattle.dock_answer.proofs.whole.Goals as goal
 
 pub returns-then-first-eq6 : goal.returns-then-first-eq6

@@ -1,7 +1,6 @@
 -- `dock_door::ending_number` meets its contract.
 -- Assumes nothing.
 use Rattle.dock_door.specs.Calls.{ending_number}
-use borrow.Author.Rules.{rules}
 use Rattle.dock_door.proofs.ending_number.Goals as goal
 
 pub returns-in-Finished : goal.returns-in-Finished

@@ -1,7 +1,6 @@
 -- `dock_door::figures_of` meets its contract: each report's numbers.
 -- Assumes nothing.
 use Rattle.dock_door.specs.Calls.{figures_of}
-use borrow.Author.Rules.{rules}
 use Rattle.dock_door.proofs.figures_of.Goals as goal
 
 pub returns-in-Due : goal.returns-in-Due

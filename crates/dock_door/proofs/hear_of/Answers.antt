@@ -1,7 +1,6 @@
 -- `dock_door::hear_of` meets its contract: an answer came, or none did.
 -- Assumes nothing.
 use Rattle.dock_door.specs.Calls.{heard_as}
-use borrow.Author.Rules.{rules}
 use Rattle.dock_door.proofs.hear_of.Goals as goal
 
 pub returns-then-came : goal.returns-then-came

@@ -1,7 +1,6 @@
 -- `dock_door::no_state` meets its contract.
 -- Assumes nothing.
 use Rattle.dock_door.specs.Calls.{no_state}
-use borrow.Author.Rules.{rules}
 use Rattle.dock_door.proofs.no_state.Goals as goal
 
 pub returns-in-Refused : goal.returns-in-Refused

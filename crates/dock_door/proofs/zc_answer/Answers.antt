@@ -1,7 +1,6 @@
 -- `dock_door::zc_answer` meets its contract.
 -- Assumes nothing.
 use Rattle.dock_door.specs.Calls.{heard_as}
-use borrow.Author.Rules.{rules}
 use Rattle.dock_door.proofs.zc_answer.Goals as goal
 
 pub returns : goal.returns

@@ -3,7 +3,6 @@
 use borrow.Author.Tests.{eq-eqb, ne_eqb}
 use Rattle.dock_door.specs.Calls.{ask_through, asked_by}
 use Rattle.words.specs.Words.{if◌then◌else◌}
-use borrow.Author.Rules.{rules}
 use Rattle.dock_door.proofs.zc_ask.Goals as goal
 
 pub returns-then-figures-eq0 : goal.returns-then-figures-eq0

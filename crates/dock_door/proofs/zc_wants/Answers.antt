@@ -2,7 +2,6 @@
 -- Assumes nothing.
 use Rattle.dock_door.specs.Calls.{wants_through}
 use Rattle.words.specs.Words.{if◌then◌else◌}
-use borrow.Author.Rules.{rules}
 use Rattle.dock_door.proofs.zc_wants.Goals as goal
 
 pub returns-then-is_dock : goal.returns-then-is_dock

@@ -1,6 +1,5 @@
 -- `dock_flow::after_answer` meets its contract: the stage's form is read, and what it says leads on.
 -- Assumes nothing.
-use borrow.Author.Rules.{rules}
 use Rattle.dock_flow.proofs.LawsFrames.{alike_is}
 use Rattle.dock_flow.specs.Flow.{after_heard}
 use Rattle.dock_flow.proofs.after_answer.Goals as goal

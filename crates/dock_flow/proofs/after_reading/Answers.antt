@@ -1,6 +1,5 @@
 -- `dock_flow::after_reading` meets its contract: what was decoded is taken apart.
 -- Assumes nothing.
-use borrow.Author.Rules.{rules}
 use Rattle.dock_flow.specs.Flow.{after_answer}
 use Rattle.dock_flow.proofs.after_reading.Goals as goal
 

@@ -1,6 +1,5 @@
 -- `dock_flow::after_setup` meets its contract: the list's order, command by command.
 -- Assumes nothing.
-use borrow.Author.Rules.{rules}
 use Rattle.dock_flow.specs.Flow.{after_setup, setup_from}
 use Rattle.dock_flow.specs.Frames.{query_with}
 use Rattle.commands.proofs.Laws.{com-rate, com-reset, com-signature}

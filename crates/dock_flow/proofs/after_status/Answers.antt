@@ -1,6 +1,5 @@
 -- `dock_flow::after_status` meets its contract: each test is the definition's, in its order.
 -- Assumes nothing.
-use borrow.Author.Rules.{rules}
 use borrow.Author.Tests.{eq-eqb, ne_eqb}
 use Rattle.dock_flow.specs.Flow.{after_status}
 use Rattle.words.specs.Words.{◌or◌, if◌then◌else◌}

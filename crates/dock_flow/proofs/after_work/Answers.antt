@@ -2,7 +2,6 @@
 -- Assumes nothing.
 use mathlib.Core.Path.{◌∙◌, sym}
 use native.Mathlib.Omega.{arith}
-use borrow.Author.Rules.{rules}
 use Rattle.dock_flow.proofs.Laws.{not-last-small}
 use Rattle.dock_flow.specs.Flow.{after_work}
 use Rattle.words.specs.Words.{if◌then◌else◌}

@@ -1,6 +1,5 @@
 -- `dock_flow::fails` meets its contract: each field is the definition's.
 -- Assumes nothing.
-use borrow.Author.Rules.{rules}
 use Rattle.dock_flow.proofs.LawsFrames.{alike_is}
 use Rattle.dock_flow.proofs.fails.Goals as goal
 

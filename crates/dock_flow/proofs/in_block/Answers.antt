@@ -1,7 +1,6 @@
 -- `dock_flow::in_block` meets its contract: the stage's block is kept.
 -- Assumes nothing.
 use Rattle.dock_flow.specs.Flow.{in_block}
-use borrow.Author.Rules.{rules}
 use Rattle.dock_flow.proofs.in_block.Goals as goal
 
 pub returns-in-SetUp : goal.returns-in-SetUp

@@ -1,6 +1,5 @@
 -- `dock_flow::next` meets its contract: the stage's next.
 -- Assumes nothing.
-use borrow.Author.Rules.{rules}
 use Rattle.dock_flow.specs.Flow.{next}
 use Rattle.dock_flow.proofs.next.Goals as goal
 

@@ -1,6 +1,5 @@
 -- `dock_flow::retried` meets its contract: each test is the definition's, in its order.
 -- Assumes nothing.
-use borrow.Author.Rules.{rules}
 use borrow.Author.Tests.{le-ltb, lt-ltb}
 use Rattle.dock_flow.specs.Flow.{retried}
 use Rattle.words.specs.Words.{if◌then◌else◌}

@@ -1,6 +1,5 @@
 -- `dock_flow::says_not_blank` meets its contract: each test is the definition's, in its order.
 -- Assumes nothing.
-use borrow.Author.Rules.{rules}
 use borrow.Author.Tests.{eq-eqb, ne_eqb}
 use Rattle.dock_flow.proofs.LawsFrames.{alike_is}
 use Rattle.dock_flow.specs.Flow.{says_not_blank}

@@ -1,6 +1,5 @@
 -- `dock_flow::wanted` meets its contract: by the form of the stage's answer.
 -- Assumes nothing.
-use borrow.Author.Rules.{rules}
 use Rattle.dock_flow.proofs.LawsFrames.{alike_is}
 use Rattle.dock_flow.specs.Flow.{wanted_at}
 use Rattle.dock_flow.proofs.wanted.Goals as goal

@@ -1,6 +1,5 @@
 -- `dock_layout::bytes_with` meets its contract.
 -- Assumes nothing.
-use borrow.Author.Rules.{rules}
 use Rattle.dock_layout.proofs.Laws.{bytes-are}
 use Rattle.dock_layout.proofs.bytes_with.Goals as goal
 

@@ -1,6 +1,5 @@
 -- `dock_layout::cause_number` meets its contract.
 -- Assumes nothing.
-use borrow.Author.Rules.{rules}
 use Rattle.dock_layout.specs.Layout.{cause_number}
 use Rattle.dock_layout.proofs.cause_number.Goals as goal
 

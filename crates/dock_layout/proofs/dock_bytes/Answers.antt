@@ -1,6 +1,5 @@
 -- `dock_layout::dock_bytes` meets its contract.
 -- Assumes nothing.
-use borrow.Author.Rules.{rules}
 use Rattle.dock_layout.specs.Layout.{dock_bytes}
 use Rattle.dock_layout.proofs.dock_bytes.Goals as goal
 

@@ -1,7 +1,6 @@
 -- `dock_layout::dock_in` meets its contract.
 -- Assumes nothing.
 use Rattle.dock_layout.specs.Layout.{dock_in}
-use borrow.Author.Rules.{rules}
 use Rattle.dock_layout.proofs.dock_in.Goals as goal
 
 pub returns : goal.returns

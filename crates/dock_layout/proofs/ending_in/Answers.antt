@@ -1,6 +1,5 @@
 -- `dock_layout::ending_in` meets its contract.
 -- Assumes nothing.
-use borrow.Author.Rules.{rules}
 use borrow.Author.Tests.{eq-eqb, ne_eqb}
 use Rattle.dock_layout.specs.Layout.{ending_in}
 use Rattle.words.specs.Words.{if◌then◌else◌}

@@ -1,6 +1,5 @@
 -- `dock_layout::fault_at` meets its contract.
 -- Assumes nothing.
-use borrow.Author.Rules.{rules}
 use Rattle.dock_layout.specs.Layout.{fault_at}
 use Rattle.dock_layout.proofs.fault_at.Goals as goal
 

@@ -1,6 +1,5 @@
 -- `dock_layout::flat_ending` meets its contract.
 -- Assumes nothing.
-use borrow.Author.Rules.{rules}
 use Rattle.dock_layout.specs.Layout.{flat_ending}
 use Rattle.dock_layout.proofs.flat_ending.Goals as goal
 

@@ -1,6 +1,5 @@
 -- `dock_layout::flat_in` meets its contract.
 -- Assumes nothing.
-use borrow.Author.Rules.{rules}
 use Rattle.dock_layout.proofs.Laws.{flat-is}
 use Rattle.dock_layout.proofs.flat_in.Goals as goal
 

@@ -1,6 +1,5 @@
 -- `dock_layout::flat_of` meets its contract.
 -- Assumes nothing.
-use borrow.Author.Rules.{rules}
 use Rattle.dock_layout.specs.Layout.{flat_of}
 use Rattle.dock_layout.proofs.flat_of.Goals as goal
 

@@ -1,6 +1,5 @@
 -- `dock_layout::flat_work` meets its contract.
 -- Assumes nothing.
-use borrow.Author.Rules.{rules}
 use Rattle.dock_layout.specs.Layout.{flat_work}
 use Rattle.dock_layout.proofs.flat_work.Goals as goal
 

@@ -1,7 +1,6 @@
 -- `dock_layout::is_dock` meets its contract.
 -- Assumes nothing.
 use Rattle.dock_layout.specs.Layout.{is_dock}
-use borrow.Author.Rules.{rules}
 use Rattle.dock_layout.proofs.is_dock.Goals as goal
 
 pub returns : goal.returns

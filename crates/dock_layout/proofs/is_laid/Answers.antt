@@ -1,14 +1,11 @@
 -- `dock_layout::is_laid` meets its contract: so far all are equal, and the rest decides.
 -- Assumes nothing.
 use mathlib.Core.Bool.{true}
-use mathlib.Core.Path.{◌≡◌}
-use Prim.Native.Nat.{◌-◌, ◌≤◌}
+use Prim.Native.Nat.{◌-◌}
 use native.Mathlib.Omega.{arith}
-use lib.ListN.{length}
 use borrow.Author.Rules.{rules}
 use Rattle.dock_layout.proofs.Laws.{same-goes, same-stops}
-use Rattle.lent.proofs.Laws.{SameFrom, same-apart, same_end, same_start}
-use Rattle.lent.specs.Lent.{same}
+use Rattle.lent.proofs.Laws.{same-apart, same_end, same_start}
 use Rattle.dock_layout.proofs.is_laid.Goals as goal
 
 pub returns-then-back-state : goal.returns-then-back-state

@@ -3,11 +3,8 @@
 use mathlib.Core.Bool.{true}
 use mathlib.Core.Path.{◌≡◌}
 use Prim.Native.Nat.{◌-◌, ◌≤◌}
-use native.Mathlib.Omega.{arith}
 use lib.ListN.{length}
-use borrow.Author.Rules.{rules}
-use Rattle.dock_layout.proofs.Laws.{same-goes, same-stops}
-use Rattle.lent.proofs.Laws.{SameFrom, same-apart, same_end, same_start}
+use Rattle.lent.proofs.Laws.{SameFrom}
 use Rattle.lent.specs.Lent.{same}
 use Rattle.dock_layout.proofs.is_laid.Given as goal
 

@@ -1,6 +1,5 @@
 -- `dock_layout::is_named` meets its contract.
 -- Assumes nothing.
-use borrow.Author.Rules.{rules}
 use Rattle.dock_layout.specs.Layout.{is_named}
 use Rattle.dock_layout.proofs.is_named.Goals as goal
 

@@ -1,6 +1,5 @@
 -- `dock_layout::named` meets its contract.
 -- Assumes nothing.
-use borrow.Author.Rules.{rules}
 use Rattle.dock_layout.specs.Layout.{named}
 use Rattle.dock_layout.proofs.named.Goals as goal
 

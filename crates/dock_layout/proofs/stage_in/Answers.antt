@@ -1,6 +1,5 @@
 -- `dock_layout::stage_in` meets its contract.
 -- Assumes nothing.
-use borrow.Author.Rules.{rules}
 use borrow.Author.Tests.{le-ltb, lt-ltb}
 use Rattle.dock_layout.specs.Layout.{stage_in}
 use Rattle.words.specs.Words.{if◌then◌else◌}

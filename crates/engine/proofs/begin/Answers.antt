@@ -2,7 +2,6 @@
 -- Assumes nothing.
 use native.Mathlib.Omega.{arith}
 use lib.ListN.{length}
-use Prim.Native.Nat.{◌≤◌}
 use mathlib.Core.Path.{◌∙◌, ◌≡◌, ap}
 use borrow.Author.Rules.{rules}
 use Rattle.engine.proofs.Joining.{Joins, from_start, joined-ahead, joins}

@@ -1,7 +1,6 @@
 -- `engine::ended` meets its contract: what is held lies at the collector's start, and its bytes past it stay.
 -- Assumes nothing.
 use native.Mathlib.Omega.{arith}
-use borrow.Author.Rules.{rules}
 use Rattle.engine.proofs.Answering.{ended_is}
 use Rattle.engine.proofs.ended.Goals as goal
 

@@ -1,6 +1,5 @@
 -- `engine::faults_after` meets its contract: a good judgement counts as none.
 -- Assumes nothing.
-use borrow.Author.Rules.{rules}
 use Rattle.words.specs.Words.{if◌then◌else◌}
 use Rattle.engine.proofs.faults_after.Goals as goal
 

@@ -1,6 +1,5 @@
 -- `engine::first_of` meets its contract: the first that is not good stays.
 -- Assumes nothing.
-use borrow.Author.Rules.{rules}
 use Rattle.words.specs.Words.{if◌then◌else◌}
 use Rattle.engine.proofs.first_of.Goals as goal
 

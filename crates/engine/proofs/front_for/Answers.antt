@@ -1,7 +1,6 @@
 -- `engine::front_for` meets its contract: the header decides, then whether the frame is whole.
 -- Assumes nothing.
 use mathlib.Core.Path.{◌∙◌, sym}
-use borrow.Author.Rules.{rules}
 use Rattle.engine.proofs.Fronts.{front-holds, front-skips, front-whole}
 use Rattle.engine.proofs.front_for.Goals as goal
 

@@ -1,7 +1,6 @@
 -- `engine::front_of` meets its contract: what the phase hears decides.
 -- Assumes nothing.
 use mathlib.Core.Path.{◌∙◌}
-use borrow.Author.Rules.{rules}
 use Rattle.engine.proofs.Fronts.{front-command, front-data, front-mode, front-none}
 use Rattle.engine.proofs.front_of.Goals as goal
 

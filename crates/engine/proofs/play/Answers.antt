@@ -2,7 +2,6 @@
 -- Assumes nothing.
 use mathlib.Core.Path.{◌∙◌, sym}
 use native.Mathlib.Omega.{arith}
-use borrow.Author.Rules.{rules}
 use Rattle.engine.proofs.Ending.{engine-plays, engine-refuses, engine-short}
 use Rattle.engine.proofs.play.Goals as goal
 

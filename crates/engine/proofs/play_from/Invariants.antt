@@ -1,17 +1,12 @@
 -- `engine::play_from` meets its contract: what the bytes still to come make of where the engine stands stays the same from turn to turn.
 -- Assumes nothing.
 use mathlib.Core.Bool.{true}
-use mathlib.Core.List.{List}
-use mathlib.Core.Path.{◌∙◌, ◌≡◌, refl}
-use Prim.Native.Nat.{◌+◌, ◌-◌, ◌<◌, ◌≤◌, ℕ}
-use native.Mathlib.Omega.{arith}
+use mathlib.Core.Path.{◌≡◌}
+use Prim.Native.Nat.{◌-◌, ◌<◌, ℕ}
 use lib.ListN.{drop, get_or, length}
-use borrow.Author.Rules.{rules}
 use Rattle.chip_core.specs.Effect.{memory}
-use Rattle.chip_core.specs.Hearing.{hearing}
-use Rattle.engine.proofs.Loop.{PlayedFrom, ample-one, front-is, played-ends, played-holds, played-mode, played-skips, played-start, played-whole, whole-ends}
-use Rattle.engine.specs.Engine.{front_of, facing, played_out}
-use Rattle.engine.specs.declared.Front.TheVariants.{Whole}
+use Rattle.engine.proofs.Loop.{PlayedFrom}
+use Rattle.engine.specs.Engine.{facing, played_out}
 use Rattle.engine.specs.Inner.Answering.{stand_of}
 use Rattle.part.specs.Part.{described}
 use Rattle.engine.proofs.play_from.Given as goal

@@ -1,6 +1,5 @@
 -- `engine::room_behind` meets its contract: the lesser of what is there and what has a place.
 -- Assumes nothing.
-use borrow.Author.Rules.{rules}
 use borrow.Author.Tests.{le-ltb, lt-ltb}
 use Rattle.words.specs.Words.{if◌then◌else◌}
 use Rattle.engine.proofs.room_behind.Goals as goal

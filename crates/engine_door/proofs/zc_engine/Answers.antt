@@ -1,6 +1,5 @@
 -- `engine_door::zc_engine` meets its contract.
 -- Assumes nothing.
-use borrow.Author.Rules.{rules}
 use Rattle.engine_door.proofs.Laws.{engine-refused, engine-replied, engine-short}
 use Rattle.engine_door.specs.Calls.{engine_admitted, engine_through}
 use Rattle.engine_door.proofs.zc_engine.Goals as goal

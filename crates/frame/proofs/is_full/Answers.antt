@@ -1,6 +1,6 @@
 -- `frame::is_full` meets its contract: both tests are the definition's.
 -- Assumes nothing.
-use Rattle.std.proofs.Common.{rules, le-leb}
+use Rattle.std.proofs.Common.{le-leb}
 use borrow.Author.Tests.{lt-leb}
 use Rattle.frame.specs.Frame.{full}
 use Rattle.words.specs.Words.{◌and◌}

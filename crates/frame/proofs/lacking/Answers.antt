@@ -1,8 +1,7 @@
 -- `frame::lacking` meets its contract: the tests are the definition's, and what LEN counts is at most 256.
 -- Assumes nothing.
-use Rattle.std.proofs.Common.{◌≤◌, arith, rules}
+use Rattle.std.proofs.Common.{arith, rules}
 use Rattle.frame.proofs.Laws.Frame.{counted-small, lacking-early, lacking-none, lacking-rest, lacking-whole}
-use Rattle.frame.specs.Frame.{counted}
 use Rattle.frame.proofs.lacking.Goals as goal
 
 pub returns-then-count-lt2 : goal.returns-then-count-lt2

@@ -1,6 +1,5 @@
 -- `frame::payload` meets its contract: the part from 2 up to SUM, and nothing of bytes that are too few.
 -- Assumes nothing.
-use Rattle.std.proofs.Common.{rules}
 use Rattle.frame.proofs.Laws.Frame.{payload-none, payload-part}
 use Rattle.frame.proofs.payload.Goals as goal
 

@@ -1,12 +1,9 @@
 -- `lent::are_all` meets its contract: what the flag makes of the bytes still to come stays the same from turn to turn.
 -- Assumes nothing.
-use mathlib.Core.Path.{◌≡◌}
-use Prim.Native.Nat.{◌-◌, ◌≤◌}
+use Prim.Native.Nat.{◌-◌}
 use native.Mathlib.Omega.{arith}
-use lib.ListN.{length}
 use borrow.Author.Rules.{rules}
-use Rattle.lent.proofs.Laws.{AllFrom, all_end, all_start, all-turn}
-use Rattle.lent.specs.Lent.{all_are}
+use Rattle.lent.proofs.Laws.{all_end, all_start, all-turn}
 use Rattle.lent.proofs.are_all.Goals as goal
 
 pub loop-i-init : goal.loop-i-init

@@ -2,10 +2,8 @@
 -- Assumes nothing.
 use mathlib.Core.Path.{◌≡◌}
 use Prim.Native.Nat.{◌-◌, ◌≤◌}
-use native.Mathlib.Omega.{arith}
 use lib.ListN.{length}
-use borrow.Author.Rules.{rules}
-use Rattle.lent.proofs.Laws.{AllFrom, all_end, all_start, all-turn}
+use Rattle.lent.proofs.Laws.{AllFrom}
 use Rattle.lent.specs.Lent.{all_are}
 use Rattle.lent.proofs.are_all.Given as goal
 

@@ -1,12 +1,9 @@
 -- `lent::is_same` meets its contract: what the flag makes of the bytes still to come, of two lists of one length, stays the same from turn to turn.
 -- Assumes nothing.
-use mathlib.Core.Path.{◌≡◌}
-use Prim.Native.Nat.{◌-◌, ◌≤◌}
+use Prim.Native.Nat.{◌-◌}
 use native.Mathlib.Omega.{arith}
-use lib.ListN.{length}
 use borrow.Author.Rules.{rules}
-use Rattle.lent.proofs.Laws.{SameFrom, same-apart, same_end, same_start, same_turn}
-use Rattle.lent.specs.Lent.{same}
+use Rattle.lent.proofs.Laws.{same-apart, same_end, same_start, same_turn}
 use Rattle.lent.proofs.is_same.Goals as goal
 
 pub returns-then-bytes-others : goal.returns-then-bytes-others

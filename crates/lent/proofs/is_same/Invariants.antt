@@ -2,10 +2,8 @@
 -- Assumes nothing.
 use mathlib.Core.Path.{◌≡◌}
 use Prim.Native.Nat.{◌-◌, ◌≤◌}
-use native.Mathlib.Omega.{arith}
 use lib.ListN.{length}
-use borrow.Author.Rules.{rules}
-use Rattle.lent.proofs.Laws.{SameFrom, same-apart, same_end, same_start, same_turn}
+use Rattle.lent.proofs.Laws.{SameFrom}
 use Rattle.lent.specs.Lent.{same}
 use Rattle.lent.proofs.is_same.Given as goal
 

@@ -4,7 +4,6 @@ use mathlib.Core.Path.{◌∙◌, ◌≡◌, ap}
 use Prim.Native.Nat.{◌+◌, ◌-◌, ℕ}
 use native.Mathlib.Omega.{arith}
 use lib.ListN.{drop, length, take}
-use borrow.Author.Rules.{rules}
 use Rattle.lent.proofs.Laws.{same-fewer, same_none}
 use Rattle.lent.specs.Lent.{same}
 use Rattle.lent.proofs.is_same_at.Goals as goal

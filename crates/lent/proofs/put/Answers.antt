@@ -1,7 +1,6 @@
 -- `lent::put` meets its contract: a copy into the room's part from the place on is the definition's list.
 -- Assumes nothing.
 use native.Mathlib.Omega.{arith}
-use borrow.Author.Rules.{rules}
 use Rattle.lent.proofs.Laws.{part-put, put-short}
 use Rattle.lent.specs.Lent.{put_of}
 use Rattle.std.proofs.Common.{◌≡◌, ◌+◌, ◌-◌, ◌∙◌, ap, length}

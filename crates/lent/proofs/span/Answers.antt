@@ -1,6 +1,5 @@
 -- `lent::span` meets its contract: a stretch past the end is what is left of the list.
 -- Assumes nothing.
-use borrow.Author.Rules.{rules}
 use Rattle.lent.proofs.Laws.{amid, past_end, to_end}
 use Rattle.lent.proofs.span.Goals as goal
 

@@ -1,7 +1,6 @@
 -- `numbers::first2` meets its contract: two bytes, each below 256, cannot wrap.
 -- Assumes nothing.
 use mathlib.Core.Path.{◌∙◌, refl}
-use borrow.Author.Rules.{rules}
 use Rattle.numbers.proofs.Laws.{number-two}
 use Rattle.numbers.proofs.first2.Goals as goal
 

@@ -1,7 +1,6 @@
 -- `numbers::first3` meets its contract: three bytes, each below 256, cannot wrap.
 -- Assumes nothing.
 use mathlib.Core.Path.{◌∙◌, refl}
-use borrow.Author.Rules.{rules}
 use Rattle.numbers.proofs.Laws.{number-three}
 use Rattle.numbers.proofs.first3.Goals as goal
 

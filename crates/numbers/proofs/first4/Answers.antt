@@ -1,7 +1,6 @@
 -- `numbers::first4` meets its contract: four bytes, each below 256, cannot wrap.
 -- Assumes nothing.
 use mathlib.Core.Path.{◌∙◌, refl}
-use borrow.Author.Rules.{rules}
 use Rattle.numbers.proofs.Laws.{number-four}
 use Rattle.numbers.proofs.first4.Goals as goal
 

@@ -1,7 +1,6 @@
 -- `numbers::first8` meets its contract: two halves of four bytes.
 -- Assumes nothing.
 use mathlib.Core.Path.{◌∙◌}
-use borrow.Author.Rules.{rules}
 use Rattle.numbers.proofs.Laws.{number-halves}
 use Rattle.numbers.proofs.first8.Goals as goal
 

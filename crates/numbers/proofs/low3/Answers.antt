@@ -2,7 +2,6 @@
 -- Assumes nothing.
 use mathlib.Core.Path.{refl}
 use Rattle.numbers.specs.Numbers.{low_first}
-use borrow.Author.Rules.{rules}
 use Rattle.numbers.proofs.low3.Goals as goal
 
 pub returns : goal.returns

@@ -1,7 +1,6 @@
 -- `numbers::number3` meets its contract: the number from a place on is the first one of the rest, and past the end it is 0.
 -- Assumes nothing.
 use mathlib.Core.Path.{◌∙◌, sym}
-use borrow.Author.Rules.{rules}
 use Rattle.numbers.proofs.Laws.{number-from, number_past}
 use Rattle.numbers.proofs.number3.Goals as goal
 

@@ -1,7 +1,6 @@
 -- `part_layout::bare_in` meets its contract.
 -- Assumes nothing.
 use Rattle.part_layout.proofs.Laws.{bare-part-is}
-use borrow.Author.Rules.{rules}
 use Rattle.part_layout.proofs.bare_in.Goals as goal
 
 pub returns : goal.returns

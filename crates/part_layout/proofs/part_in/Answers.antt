@@ -1,7 +1,6 @@
 -- `part_layout::part_in` meets its contract.
 -- Assumes nothing.
 use Rattle.part_layout.proofs.Laws.{part-is}
-use borrow.Author.Rules.{rules}
 use Rattle.part_layout.proofs.part_in.Goals as goal
 
 pub returns : goal.returns

@@ -1,6 +1,5 @@
 -- `replay_capture::carried` meets its contract: so many bytes behind the head.
 -- Assumes nothing.
-use borrow.Author.Rules.{rules}
 use Rattle.replay_capture.proofs.carried.Goals as goal
 
 pub returns : goal.returns

@@ -1,7 +1,6 @@
 -- `replay_capture::data_size` meets its contract: there are more bytes in a record than before its data.
 -- Assumes nothing.
 use native.Mathlib.Omega.{arith}
-use borrow.Author.Rules.{rules}
 use Rattle.replay_capture.proofs.Laws.{sizes}
 use Rattle.replay_capture.proofs.data_size.Goals as goal
 

@@ -1,6 +1,5 @@
 -- `replay_capture::is_good_count` meets its contract: the kind decides what is asked of the count.
 -- Assumes nothing.
-use borrow.Author.Rules.{rules}
 use borrow.Author.Tests.{eq-eqb, ne_eqb, le-leb, lt-leb}
 use Rattle.replay_capture.specs.Capture.{good_count}
 use Rattle.words.specs.Words.{◌and◌, ◌from◌to◌, if◌then◌else◌}

@@ -1,7 +1,6 @@
 -- `replay_capture::is_unused` meets its contract: the part that is lent is the end of the data bytes.
 -- Assumes nothing.
 use mathlib.Core.Path.{sym}
-use borrow.Author.Rules.{rules}
 use Rattle.replay_capture.proofs.Laws.{unused-tail}
 use Rattle.replay_capture.proofs.is_unused.Goals as goal
 

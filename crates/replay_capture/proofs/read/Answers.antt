@@ -1,7 +1,6 @@
 -- `replay_capture::read` meets its contract: a good record, then the seat, then the kind.
 -- Assumes nothing.
-use borrow.Author.Rules.{rules}
-use borrow.Author.Tests.{eq-eqb, ne_eqb, not-false, not-true}
+use borrow.Author.Tests.{eq-eqb, ne_eqb}
 use Rattle.replay_capture.specs.Capture.{record_of}
 use Rattle.words.specs.Words.{if◌then◌else◌}
 use Rattle.replay_capture.proofs.read.Goals as goal

@@ -1,6 +1,5 @@
 -- `replay_capture::seat` meets its contract: the third byte, in the new form.
 -- Assumes nothing.
-use borrow.Author.Rules.{rules}
 use Rattle.replay_capture.specs.Capture.{seat_of}
 use Rattle.replay_capture.proofs.seat.Goals as goal
 

@@ -1,6 +1,5 @@
 -- `replay_capture::spare` meets its contract: the fourth byte, in the new form.
 -- Assumes nothing.
-use borrow.Author.Rules.{rules}
 use Rattle.replay_capture.specs.Capture.{spare_of}
 use Rattle.replay_capture.proofs.spare.Goals as goal
 

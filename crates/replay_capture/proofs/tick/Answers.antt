@@ -1,6 +1,5 @@
 -- `replay_capture::tick` meets its contract: the four bytes from the fifth on, in the new form.
 -- Assumes nothing.
-use borrow.Author.Rules.{rules}
 use Rattle.replay_capture.specs.Capture.{tick_of}
 use Rattle.replay_capture.proofs.tick.Goals as goal
 

@@ -1,7 +1,6 @@
 -- `replay_door::end_number` meets its contract.
 -- Assumes nothing.
 use Rattle.replay_door.specs.Calls.{end_number}
-use borrow.Author.Rules.{rules}
 use Rattle.replay_door.proofs.end_number.Goals as goal
 
 pub returns-in-Whole : goal.returns-in-Whole

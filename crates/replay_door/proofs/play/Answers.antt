@@ -1,7 +1,6 @@
 -- `replay_door::play` meets its contract.
 -- Assumes nothing.
 use Rattle.replay_door.specs.Calls.{replayed_by}
-use borrow.Author.Rules.{rules}
 use Rattle.replay_door.proofs.play.Goals as goal
 
 pub returns : goal.returns

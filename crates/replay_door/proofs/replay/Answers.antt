@@ -1,7 +1,6 @@
 -- `replay_door::replay` meets its contract: the verdict on the call, then the play.
 -- Assumes nothing.
 use Rattle.replay_door.specs.Calls.{replayed_through, replayed_by}
-use borrow.Author.Rules.{rules}
 use Rattle.replay_door.proofs.replay.Goals as goal
 
 pub returns-in-Refused : goal.returns-in-Refused

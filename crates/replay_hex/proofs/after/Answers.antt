@@ -1,6 +1,5 @@
 -- `replay_hex::after` meets its contract: the test of the definition.
 -- Assumes nothing.
-use borrow.Author.Rules.{rules}
 use borrow.Author.Tests.{le-ltb, lt-ltb}
 use Rattle.replay_hex.specs.Inner.Places.{separator_at}
 use Rattle.words.specs.Words.{if◌then◌else◌}

@@ -1,6 +1,5 @@
 -- `replay_hex::digit` meets its contract: the two cases of the definition.
 -- Assumes nothing.
-use borrow.Author.Rules.{rules}
 use borrow.Author.Tests.{le-ltb, lt-ltb}
 use Rattle.replay_hex.specs.Hex.{digit_of}
 use Rattle.words.specs.Words.{if◌then◌else◌}

@@ -1,10 +1,10 @@
 -- `replay_hex::line` meets its contract: what the bytes before i have written stands at the start of the text.
 -- Assumes nothing.
-use mathlib.Core.Path.{◌≡◌, refl}
-use Prim.Native.Nat.{◌*◌, ◌+◌, ◌-◌, ◌≤◌}
+use mathlib.Core.Path.{refl}
+use Prim.Native.Nat.{◌*◌, ◌+◌, ◌-◌}
 use native.Mathlib.Omega.{arith}
-use lib.ListN.{length, length-set, set}
-use Rattle.replay_hex.proofs.Laws.{LinedFrom, line-short, lined-end, lined-start, lined-turn}
+use lib.ListN.{length-set, set}
+use Rattle.replay_hex.proofs.Laws.{line-short, lined-end, lined-start, lined-turn}
 use Rattle.replay_hex.proofs.line.Goals as goal
 
 pub returns-then-text-bytes : goal.returns-then-text-bytes

@@ -1,10 +1,9 @@
 -- `replay_hex::line` meets its contract: what the bytes before i have written stands at the start of the text.
 -- Assumes nothing.
-use mathlib.Core.Path.{◌≡◌, refl}
-use Prim.Native.Nat.{◌*◌, ◌+◌, ◌-◌, ◌≤◌}
-use native.Mathlib.Omega.{arith}
-use lib.ListN.{length, length-set, set}
-use Rattle.replay_hex.proofs.Laws.{LinedFrom, line-short, lined-end, lined-start, lined-turn}
+use mathlib.Core.Path.{◌≡◌}
+use Prim.Native.Nat.{◌*◌, ◌-◌, ◌≤◌}
+use lib.ListN.{length}
+use Rattle.replay_hex.proofs.Laws.{LinedFrom}
 use Rattle.replay_hex.proofs.line.Given as goal
 
 abbrev pub invariant-loop-i : goal.invariant-loop-i

@@ -1,7 +1,6 @@
 -- `replay_play::play` meets its contract: the judgement of the record first, then the room for its replies, then its events.
 -- Assumes nothing.
 use mathlib.Core.Path.{◌∙◌, sym}
-use borrow.Author.Rules.{rules}
 use Rattle.replay_capture.proofs.Laws.{carries-is}
 use Rattle.replay_play.proofs.Laws.{bytes_good, bytes-played, carried-room, event-room, gap-good, gap-played, nothing-played, other-good, play-bad, play-events, play-short}
 use Rattle.replay_play.proofs.play.Goals as goal

@@ -1,18 +1,10 @@
 -- `replay_play::play_bytes` meets its contract: what the bytes still to come make of what was played stays the same from turn to turn.
 -- Assumes nothing.
-use mathlib.Core.List.{map}
-use mathlib.Core.Path.{◌∙◌, ◌≡◌, refl}
-use Prim.Native.Nat.{◌*◌, ◌-◌, ◌≤◌}
+use mathlib.Core.Path.{◌∙◌, refl}
+use Prim.Native.Nat.{◌-◌}
 use native.Mathlib.Omega.{arith}
-use lib.ListN.{length}
 use borrow.Author.Rules.{rules}
-use Rattle.part.specs.Part.{Arrays}
-use Rattle.chip.specs.declared.Event.TheVariants.{Byte}
-use Rattle.chip_core.specs.Effect.{memory}
-use Rattle.frame.specs.Framing.{frames}
-use Rattle.replay_play.proofs.Laws.{PlayedFrom, played-end, played-refused, played-start, played-turn, turn-said, turn-takes, turn-within}
-use Rattle.replay_play.specs.Play.{played, before_playing}
-use Rattle.chip_reply.specs.Reply.{said}
+use Rattle.replay_play.proofs.Laws.{played-end, played-refused, played-start, played-turn, turn-said, turn-takes, turn-within}
 use Rattle.replay_play.proofs.play_bytes.Goals as goal
 
 pub loop-i-init : goal.loop-i-init

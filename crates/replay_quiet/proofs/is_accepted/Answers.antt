@@ -1,6 +1,5 @@
 -- `replay_quiet::is_accepted` meets its contract: known, or by the chip's verdict.
 -- Assumes nothing.
-use borrow.Author.Rules.{rules}
 use Rattle.words.specs.Words.{◌or◌}
 use Rattle.replay_quiet.proofs.is_accepted.Goals as goal
 

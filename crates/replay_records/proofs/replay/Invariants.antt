@@ -1,17 +1,15 @@
 -- `replay_records::replay` meets its contract: what the records still to come make of what was replayed stays the same from turn to turn.
 -- Assumes nothing.
 use mathlib.Core.Bool.{true}
-use mathlib.Core.Path.{◌∙◌, ◌≡◌, refl}
+use mathlib.Core.Path.{◌≡◌}
 use Prim.Native.Nat.{◌-◌, ◌<◌, ◌^◌}
-use native.Mathlib.Omega.{arith}
 use lib.ListN.{length}
-use borrow.Author.Rules.{rules}
 use Rattle.chip.proofs.Adding.{verdict_at}
 use Rattle.part.specs.Part.{Arrays}
 use Rattle.part.specs.declared.refusal.Verdict.TheVariants.{Accepted}
 use Rattle.chip_core.specs.Effect.{memory}
 use Rattle.replay_quiet.specs.Quiet.{chip_held}
-use Rattle.replay_records.proofs.Loop.{ReplayedFrom, never, output-kept, replayed-bad, replayed-end, replayed-full, replayed-refused, replayed-start, replayed-turn, turn-ends, turn-lies}
+use Rattle.replay_records.proofs.Loop.{ReplayedFrom}
 use Rattle.replay_records.specs.Records.{replay_of}
 use Rattle.replay_records.specs.declared.Ended.TheVariants.{Whole}
 use Rattle.replay_records.proofs.replay.Given as goal

@@ -1,6 +1,5 @@
 -- `chip::events::fresh` meets its contract: each field is the definition's.
 -- Assumes nothing.
-use borrow.Author.Rules.{rules}
 use Rattle.chip.specs.Step.{fresh_chip, fresh_of}
 use Rattle.words.specs.Words.{if◌then◌else◌}
 use Rattle.chip.proofs.events.fresh.Goals as goal

@@ -1,6 +1,5 @@
 -- `chip::events::way_in` meets its contract: what the phase hears decides which header is awaited.
 -- Assumes nothing.
-use borrow.Author.Rules.{rules}
 use Rattle.chip.specs.Inner.Ways.{way_of}
 use Rattle.chip.proofs.events.way_in.Goals as goal
 

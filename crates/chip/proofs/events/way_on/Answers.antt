@@ -1,6 +1,5 @@
 -- `chip::events::way_on` meets its contract: whether the byte completes a frame decides.
 -- Assumes nothing.
-use borrow.Author.Rules.{rules}
 use Rattle.chip.specs.Inner.Ways.{way_on}
 use Rattle.words.specs.Words.{if◌then◌else◌}
 use Rattle.chip.proofs.events.way_on.Goals as goal

@@ -1,6 +1,5 @@
 -- `chip_core::Phase::hearing` meets its contract: each phase hears what the definition says.
 -- Assumes nothing.
-use borrow.Author.Rules.{rules}
 use Rattle.chip_core.specs.Hearing.{hearing}
 use Rattle.chip_core.proofs.Phase.hearing.Goals as goal
 

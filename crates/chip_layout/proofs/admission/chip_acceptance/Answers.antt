@@ -1,7 +1,6 @@
 -- `chip_layout::admission::chip_acceptance` meets its contract.
 -- Assumes nothing.
 use Rattle.chip_layout.specs.Admission.{chip_acceptance, chip_acceptance_by}
-use borrow.Author.Rules.{rules}
 use Rattle.chip_layout.proofs.admission.chip_acceptance.Goals as goal
 
 pub returns-in-Refused : goal.returns-in-Refused

@@ -1,6 +1,5 @@
 -- `chip_layout::admission::is_good_in` meets its contract.
 -- Assumes nothing.
-use borrow.Author.Rules.{rules}
 use Rattle.chip_layout.proofs.admission.is_good_in.Goals as goal
 
 pub returns : goal.returns

@@ -1,7 +1,6 @@
 -- `chip_layout::admission::verdict_in` meets its contract: the chip's verdict, by the law on what it reads.
 -- Assumes nothing.
 use mathlib.Core.Path.{refl}
-use borrow.Author.Rules.{rules}
 use Rattle.chip_layout.proofs.Laws.{verdict-read}
 use Rattle.chip_layout.proofs.admission.verdict_in.Goals as goal
 

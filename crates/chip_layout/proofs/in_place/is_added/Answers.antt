@@ -1,6 +1,5 @@
 -- `chip_layout::in_place::is_added` meets its contract: what the frame layer says is lacking.
 -- Assumes nothing.
-use borrow.Author.Rules.{rules}
 use Rattle.chip_layout.specs.InPlace.{is_added}
 use Rattle.chip_layout.proofs.in_place.is_added.Goals as goal
 

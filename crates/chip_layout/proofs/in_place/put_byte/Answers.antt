@@ -1,7 +1,6 @@
 -- `chip_layout::in_place::put_byte` meets its contract: the count, then the byte; nothing where there is no place for it.
 -- Assumes nothing.
 use native.Mathlib.Omega.{arith}
-use borrow.Author.Rules.{rules}
 use Rattle.chip_layout.proofs.Laid.{byte_left, byte-stored}
 use Rattle.chip_layout.proofs.in_place.put_byte.Goals as goal
 

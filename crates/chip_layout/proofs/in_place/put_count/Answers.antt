@@ -1,6 +1,5 @@
 -- `chip_layout::in_place::put_count` meets its contract: eight bytes, put at the count's place.
 -- Assumes nothing.
-use borrow.Author.Rules.{rules}
 use Rattle.chip_layout.proofs.Laid.{count-put}
 use Rattle.chip_layout.proofs.in_place.put_count.Goals as goal
 

@@ -1,6 +1,5 @@
 -- `chip_options::Options::fresh` meets its contract: each field is the definition's.
 -- Assumes nothing.
-use borrow.Author.Rules.{rules}
 use Rattle.chip_options.specs.Options.{fresh_options}
 use Rattle.chip_options.proofs.Options.fresh.Goals as goal
 

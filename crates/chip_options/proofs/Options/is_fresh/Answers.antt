@@ -1,6 +1,5 @@
 -- `chip_options::Options::is_fresh` meets its contract: each test is the definition's, in its order.
 -- Assumes nothing.
-use borrow.Author.Rules.{rules}
 use borrow.Author.Tests.{eq-eqb, ne_eqb}
 use Rattle.chip_options.specs.Options.{is_fresh}
 use Rattle.words.specs.Words.{◌and◌}

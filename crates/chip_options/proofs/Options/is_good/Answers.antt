@@ -1,6 +1,5 @@
 -- `chip_options::Options::is_good` meets its contract: each test is the definition's, in its order.
 -- Assumes nothing.
-use borrow.Author.Rules.{rules}
 use borrow.Author.Tests.{eq-eqb, le-leb, lt-leb, ne_eqb}
 use Rattle.chip_options.specs.Options.{good_options}
 use Rattle.words.specs.Words.{◌and◌}

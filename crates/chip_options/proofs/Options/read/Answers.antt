@@ -1,6 +1,5 @@
 -- `chip_options::Options::read` meets its contract: the bytes are the definition's.
 -- Assumes nothing.
-use borrow.Author.Rules.{rules}
 use Rattle.chip_options.specs.Options.{options_in}
 use Rattle.chip_options.proofs.Options.read.Goals as goal
 

@@ -1,6 +1,5 @@
 -- `chip_options::Options::released` meets its contract: each field is the definition's.
 -- Assumes nothing.
-use borrow.Author.Rules.{rules}
 use Rattle.chip_options.specs.Options.{released}
 use Rattle.chip_options.proofs.Options.released.Goals as goal
 

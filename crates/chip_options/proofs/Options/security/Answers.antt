@@ -1,7 +1,6 @@
 -- `chip_options::Options::security` meets its contract: the eight bytes are the definition's.
 -- Assumes nothing.
 use mathlib.Core.Path.{sym}
-use borrow.Author.Rules.{rules}
 use Rattle.chip_options.proofs.Laws.{security-bytes}
 use Rattle.chip_options.proofs.Options.security.Goals as goal
 

@@ -1,6 +1,5 @@
 -- `chip_reply::Reply::fault` meets its contract: a bad frame's reply has its judgement.
 -- Assumes nothing.
-use borrow.Author.Rules.{rules}
 use Rattle.chip_reply.specs.Reply.{fault_in}
 use Rattle.chip_reply.proofs.Reply.fault.Goals as goal
 

@@ -1,6 +1,5 @@
 -- `conversion::Converted::bytes_written` meets its contract: a number for each answer.
 -- Assumes nothing.
-use borrow.Author.Rules.{rules}
 use Rattle.conversion.specs.Conversion.{bytes_written}
 use Rattle.conversion.proofs.Converted.bytes_written.Goals as goal
 

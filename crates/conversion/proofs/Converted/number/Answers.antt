@@ -1,6 +1,5 @@
 -- `conversion::Converted::number` meets its contract: a number for each answer.
 -- Assumes nothing.
-use borrow.Author.Rules.{rules}
 use Rattle.conversion.specs.Conversion.{refusal_number}
 use Rattle.conversion.proofs.Converted.number.Goals as goal
 

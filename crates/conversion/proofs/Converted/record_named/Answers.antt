@@ -1,6 +1,5 @@
 -- `conversion::Converted::record_named` meets its contract: a number for each answer.
 -- Assumes nothing.
-use borrow.Author.Rules.{rules}
 use Rattle.conversion.specs.Conversion.{record_named}
 use Rattle.conversion.proofs.Converted.record_named.Goals as goal
 

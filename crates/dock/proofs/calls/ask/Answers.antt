@@ -9,7 +9,6 @@ use Rattle.dock_flow.specs.declared.frames.HandedOut.{HandedOut}
 use Rattle.dock_job.proofs.Laws.{accepts, asked_is, bound-few}
 use Rattle.dock_job.specs.declared.refusals.Call.TheVariants.{Asks}
 use Rattle.dock.specs.Calls.{ask_of, asked}
-use borrow.Author.Rules.{rules}
 use Rattle.dock.proofs.calls.ask.Goals as goal
 
 pub overflow_add-result : goal.overflow_add-result

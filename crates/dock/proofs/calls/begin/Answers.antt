@@ -1,6 +1,5 @@
 -- `dock::calls::begin` meets its contract: the verdict decides.
 -- Assumes nothing.
-use borrow.Author.Rules.{rules}
 use Rattle.dock.specs.Calls.{fresh_dock, begin_of, starting}
 use Rattle.dock.proofs.calls.begin.Goals as goal
 

@@ -1,6 +1,5 @@
 -- `dock::calls::moved` meets its contract: the dock is made anew, and how it stands is read off its stage.
 -- Assumes nothing.
-use borrow.Author.Rules.{rules}
 use Rattle.dock.specs.Calls.{turning}
 use Rattle.dock.proofs.calls.moved.Goals as goal
 

@@ -1,6 +1,5 @@
 -- `dock::calls::standing` meets its contract: only a job that is over has an account.
 -- Assumes nothing.
-use borrow.Author.Rules.{rules}
 use Rattle.dock.specs.Calls.{standing}
 use Rattle.dock.proofs.calls.standing.Goals as goal
 

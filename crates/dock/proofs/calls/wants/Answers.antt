@@ -1,7 +1,6 @@
 -- `dock::calls::wants` meets its contract.
 -- Assumes nothing.
 use Rattle.dock.specs.Calls.{wants_of, wants_by}
-use borrow.Author.Rules.{rules}
 use Rattle.dock.proofs.calls.wants.Goals as goal
 
 pub returns-in-Refused : goal.returns-in-Refused

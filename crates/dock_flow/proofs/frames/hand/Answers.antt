@@ -5,7 +5,6 @@ use mathlib.Core.Path.{◌∙◌, sym}
 use lib.ListN.{length}
 use Rattle.dock_job.proofs.Laws.{Accepts, accepts, asked_is}
 use Rattle.dock_job.specs.declared.refusals.Call.TheVariants.{Asks}
-use borrow.Author.Rules.{rules}
 use Rattle.dock_flow.proofs.frames.hand.Goals as goal
 
 pub put-n-requires : goal.put-n-requires

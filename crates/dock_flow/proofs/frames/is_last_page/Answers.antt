@@ -1,6 +1,5 @@
 -- `dock_flow::frames::is_last_page` meets its contract: the sum cannot wrap.
 -- Assumes nothing.
-use borrow.Author.Rules.{rules}
 use Rattle.dock_flow.specs.Frames.{last_page}
 use Rattle.dock_flow.proofs.frames.is_last_page.Goals as goal
 

@@ -2,7 +2,6 @@
 -- Assumes nothing.
 use Prim.Native.Nat.{◌≤◌}
 use native.Mathlib.Omega.{arith}
-use borrow.Author.Rules.{rules}
 use Rattle.dock_flow.specs.Frames.{last_of_block}
 use Rattle.dock_job.specs.Job.{area_of}
 use Rattle.part.proofs.Laws.{block_size-small, positive}

@@ -1,6 +1,5 @@
 -- `dock_flow::frames::page_footer` meets its contract: each test is the definition's, in its order.
 -- Assumes nothing.
-use borrow.Author.Rules.{rules}
 use Rattle.dock_flow.specs.Frames.{page_footer}
 use Rattle.words.specs.Words.{if◌then◌else◌}
 use Rattle.dock_flow.proofs.frames.page_footer.Goals as goal

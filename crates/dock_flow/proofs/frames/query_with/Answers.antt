@@ -1,6 +1,5 @@
 -- `dock_flow::frames::query_with` meets its contract: a row for each frame.
 -- Assumes nothing.
-use borrow.Author.Rules.{rules}
 use Rattle.dock_flow.specs.Frames.{query_with}
 use Rattle.dock_flow.proofs.frames.query_with.Goals as goal
 

@@ -1,6 +1,5 @@
 -- `dock_flow::frames::send_page` meets its contract: a page of a block of the job lies in the image, and its frame at the room's start.
 -- Assumes nothing.
-use borrow.Author.Rules.{rules}
 use Rattle.dock_flow.proofs.LawsFrames.{page-placed}
 use Rattle.dock_flow.proofs.frames.send_page.Goals as goal
 

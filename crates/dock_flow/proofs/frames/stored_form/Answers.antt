@@ -2,7 +2,6 @@
 -- Assumes nothing.
 use Rattle.dock_flow.specs.Frames.{stored_form}
 use Rattle.words.specs.Words.{if◌then◌else◌}
-use borrow.Author.Rules.{rules}
 use Rattle.dock_flow.proofs.frames.stored_form.Goals as goal
 
 pub returns-then-is_last_page : goal.returns-then-is_last_page

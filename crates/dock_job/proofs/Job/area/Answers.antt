@@ -1,6 +1,5 @@
 -- `dock_job::Job::area` meets its contract: the range's area, or the one that stands for none.
 -- Assumes nothing.
-use borrow.Author.Rules.{rules}
 use Rattle.dock_job.specs.Job.{area_in}
 use Rattle.dock_job.proofs.Job.area.Goals as goal
 

@@ -1,6 +1,5 @@
 -- `dock_job::Job::blocks` meets its contract: the range's count, or 0.
 -- Assumes nothing.
-use borrow.Author.Rules.{rules}
 use Rattle.dock_job.specs.Job.{blocks_in}
 use Rattle.dock_job.proofs.Job.blocks.Goals as goal
 

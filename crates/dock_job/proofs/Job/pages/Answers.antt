@@ -1,6 +1,5 @@
 -- `dock_job::Job::pages` meets its contract: those of the part, in the job's area.
 -- Assumes nothing.
-use borrow.Author.Rules.{rules}
 use Rattle.dock_job.specs.Job.{area_in}
 use Rattle.dock_job.proofs.Job.pages.Goals as goal
 

@@ -1,6 +1,5 @@
 -- `dock_job::Stage::is_over` meets its contract: only the last variant is over.
 -- Assumes nothing.
-use borrow.Author.Rules.{rules}
 use Rattle.dock_job.specs.Job.{is_over}
 use Rattle.dock_job.proofs.Stage.is_over.Goals as goal
 

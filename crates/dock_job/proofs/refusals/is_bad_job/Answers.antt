@@ -1,6 +1,5 @@
 -- `dock_job::refusals::is_bad_job` meets its contract: each test is the definition's, in its order.
 -- Assumes nothing.
-use borrow.Author.Rules.{rules}
 use Rattle.dock_job.specs.Refusals.{bad_job}
 use Rattle.words.specs.Words.{◌or◌}
 use Rattle.dock_job.proofs.refusals.is_bad_job.Goals as goal

@@ -1,6 +1,5 @@
 -- `dock_job::refusals::is_bad_range` meets its contract: the variant decides.
 -- Assumes nothing.
-use borrow.Author.Rules.{rules}
 use Rattle.dock_job.specs.Refusals.{is_bad}
 use Rattle.dock_job.proofs.refusals.is_bad_range.Goals as goal
 

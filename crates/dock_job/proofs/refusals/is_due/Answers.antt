@@ -1,6 +1,5 @@
 -- `dock_job::refusals::is_due` meets its contract: each test is the definition's, in its order.
 -- Assumes nothing.
-use borrow.Author.Rules.{rules}
 use Rattle.dock_job.specs.Refusals.{due}
 use Rattle.words.specs.Words.{◌and◌}
 use Rattle.dock_job.proofs.refusals.is_due.Goals as goal

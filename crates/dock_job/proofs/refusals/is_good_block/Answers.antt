@@ -1,6 +1,5 @@
 -- `dock_job::refusals::is_good_block` meets its contract: the number is compared as it is handed in.
 -- Assumes nothing.
-use borrow.Author.Rules.{rules}
 use Rattle.dock_job.specs.Refusals.{good_block}
 use Rattle.dock_job.proofs.refusals.is_good_block.Goals as goal
 

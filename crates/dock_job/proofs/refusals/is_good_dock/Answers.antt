@@ -1,6 +1,5 @@
 -- `dock_job::refusals::is_good_dock` meets its contract: each test is the definition's, in its order.
 -- Assumes nothing.
-use borrow.Author.Rules.{rules}
 use borrow.Author.Tests.{le-leb, lt-leb}
 use Rattle.dock_job.specs.Refusals.{good_dock}
 use Rattle.words.specs.Words.{◌and◌}

@@ -1,6 +1,5 @@
 -- `dock_job::refusals::is_good_ending` meets its contract: only a failure names something.
 -- Assumes nothing.
-use borrow.Author.Rules.{rules}
 use Rattle.dock_job.specs.Refusals.{good_ending}
 use Rattle.dock_job.proofs.refusals.is_good_ending.Goals as goal
 

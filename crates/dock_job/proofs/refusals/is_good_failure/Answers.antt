@@ -1,6 +1,5 @@
 -- `dock_job::refusals::is_good_failure` meets its contract: each test is the definition's, in its order.
 -- Assumes nothing.
-use borrow.Author.Rules.{rules}
 use Rattle.dock_job.specs.Refusals.{good_failure}
 use Rattle.words.specs.Words.{◌and◌}
 use Rattle.dock_job.proofs.refusals.is_good_failure.Goals as goal

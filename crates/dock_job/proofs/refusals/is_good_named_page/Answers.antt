@@ -1,6 +1,5 @@
 -- `dock_job::refusals::is_good_named_page` meets its contract: what is not named has nothing to test.
 -- Assumes nothing.
-use borrow.Author.Rules.{rules}
 use Rattle.dock_job.specs.Refusals.{good_named_page}
 use Rattle.dock_job.proofs.refusals.is_good_named_page.Goals as goal
 

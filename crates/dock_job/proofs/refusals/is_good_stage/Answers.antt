@@ -1,6 +1,5 @@
 -- `dock_job::refusals::is_good_stage` meets its contract: each variant has its own test.
 -- Assumes nothing.
-use borrow.Author.Rules.{rules}
 use Rattle.dock_job.specs.Refusals.{good_stage}
 use Rattle.words.specs.Words.{◌and◌}
 use Rattle.dock_job.proofs.refusals.is_good_stage.Goals as goal

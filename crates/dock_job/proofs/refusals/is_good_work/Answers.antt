@@ -1,6 +1,5 @@
 -- `dock_job::refusals::is_good_work` meets its contract: only a page has a number to test.
 -- Assumes nothing.
-use borrow.Author.Rules.{rules}
 use Rattle.dock_job.specs.Refusals.{good_work}
 use Rattle.dock_job.proofs.refusals.is_good_work.Goals as goal
 

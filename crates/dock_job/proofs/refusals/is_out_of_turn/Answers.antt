@@ -1,6 +1,5 @@
 -- `dock_job::refusals::is_out_of_turn` meets its contract: each test is the definition's, in its order.
 -- Assumes nothing.
-use borrow.Author.Rules.{rules}
 use Rattle.dock_job.specs.Refusals.{out_of_turn}
 use Rattle.words.specs.Words.{◌or◌}
 use Rattle.dock_job.proofs.refusals.is_out_of_turn.Goals as goal

@@ -1,6 +1,5 @@
 -- `dock_job::refusals::is_short_room` meets its contract: only a frame needs room.
 -- Assumes nothing.
-use borrow.Author.Rules.{rules}
 use Rattle.dock_job.specs.Refusals.{short_room}
 use Rattle.dock_job.proofs.refusals.is_short_room.Goals as goal
 

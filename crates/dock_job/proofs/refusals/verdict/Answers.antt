@@ -1,6 +1,5 @@
 -- `dock_job::refusals::verdict` meets its contract: 1, 5, 6, 7, 9, 4, 8: the first that holds decides.
 -- Assumes nothing.
-use borrow.Author.Rules.{rules}
 use borrow.Author.Tests.{eq-eqb, le-ltb, lt-ltb, ne_eqb}
 use Rattle.dock_job.specs.Refusals.{call_verdict}
 use Rattle.part.proofs.Laws.{first-row, none-held}

@@ -1,7 +1,6 @@
 -- `dock_layout::job::job_in` meets its contract.
 -- Assumes nothing.
 use Rattle.dock_layout.proofs.Laws.{job_is}
-use borrow.Author.Rules.{rules}
 use Rattle.dock_layout.proofs.job.job_in.Goals as goal
 
 pub returns : goal.returns

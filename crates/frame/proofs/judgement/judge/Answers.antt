@@ -1,6 +1,6 @@
 -- `frame::judgement::judge` meets its contract: each test is the definition's, in its order; a complete frame has its footer, its SUM and the bytes summed.
 -- Assumes nothing.
-use Rattle.std.proofs.Common.{sym, ◌∙◌, arith, rules}
+use Rattle.std.proofs.Common.{sym, ◌∙◌, arith}
 use Rattle.frame.proofs.Laws.Judgement.{frame-long, frame-short, judged-footer, judged-good, judged-sum, judged-unfit, summed-part}
 use Rattle.frame.proofs.judgement.judge.Goals as goal
 

@@ -1,6 +1,6 @@
 -- `frame::judgement::judge_fit` meets its contract: the length is looked at only where all else is good.
 -- Assumes nothing.
-use Rattle.std.proofs.Common.{◌≡◌, ℕ, ◌+◌, ◌-◌, ◌≤◌, true, false, eqb, length, sym, ap, ◌∙◌, arith, rules, eq-eqb, ne_eqb}
+use Rattle.std.proofs.Common.{◌≡◌, ℕ, ◌+◌, ◌-◌, ◌≤◌, true, false, eqb, sym, ap, ◌∙◌, arith, eq-eqb, ne_eqb}
 use Rattle.frame.proofs.Laws.Judgement.{good-long}
 use Rattle.frame.specs.Judgement.{fitting, is_good}
 use Rattle.words.specs.Words.{◌and◌, if◌then◌else◌}

@@ -1,7 +1,7 @@
 -- `frame::sum::sum8` meets its contract: what the bytes still to come leave of the sum stays the same from turn to turn.
 -- Assumes nothing.
-use Rattle.std.proofs.Common.{◌≡◌, ◌-◌, ◌≤◌, length, arith, rules}
-use Rattle.frame.proofs.Laws.Sum.{From, from_end, from_start, from-turn}
+use Rattle.std.proofs.Common.{◌≡◌, ◌-◌, ◌≤◌, length}
+use Rattle.frame.proofs.Laws.Sum.{From}
 use Rattle.frame.specs.Sum.{less_all}
 use Rattle.frame.proofs.sum.sum8.Given as goal
 

@@ -1,6 +1,6 @@
 -- `frame::wire::is_unfit` meets its contract: each test is the definition's, in its order.
 -- Assumes nothing.
-use Rattle.std.proofs.Common.{ℕ, ◌+◌, true, false, sym, ap, ◌∙◌, arith, rules}
+use Rattle.std.proofs.Common.{ℕ, ◌+◌, true, false, sym, ap, ◌∙◌, arith}
 use Rattle.frame.proofs.Laws.Wire.{unfit-cut, unfit-len, unfit-over}
 use Rattle.frame.specs.Frame.{counted}
 use Rattle.words.specs.Words.{◌and◌}

@@ -1,6 +1,6 @@
 -- `frame::wire::judge_reply` meets its contract: first byte, then LEN, then the frame that LEN counts.
 -- Assumes nothing.
-use Rattle.std.proofs.Common.{ℕ, ◌+◌, sym, ap, ◌∙◌, arith, rules}
+use Rattle.std.proofs.Common.{ℕ, ◌+◌, sym, ap, ◌∙◌, arith}
 use Rattle.frame.proofs.Laws.Wire.{fit-counted, fit-long, reply-first, reply-judged, reply-unfit}
 use Rattle.frame.specs.Frame.{counted}
 use Rattle.frame.proofs.wire.judge_reply.Goals as goal

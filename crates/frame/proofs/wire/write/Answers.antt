@@ -1,6 +1,6 @@
 -- `frame::wire::write` meets its contract: each answer is the definition's, in its order.
 -- Assumes nothing.
-use Rattle.std.proofs.Common.{arith, length-append, rules}
+use Rattle.std.proofs.Common.{arith, length-append}
 use Rattle.frame.proofs.Laws.Wire.{write-laid, write-none, write-over, write-short}
 use Rattle.frame.proofs.wire.write.Goals as goal
 

@@ -1,6 +1,5 @@
 -- `part::Area::first` meets its contract: each area has its own first address. (A file of its own, so that a wrong address is refused here.)
 -- Assumes nothing.
-use borrow.Author.Rules.{rules}
 use Rattle.part.proofs.Area.first.Goals as goal
 
 pub returns-in-CodeFlash : goal.returns-in-CodeFlash

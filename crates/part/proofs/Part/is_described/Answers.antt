@@ -1,6 +1,5 @@
 -- `part::Part::is_described` meets its contract: each test is the definition's, in its order.
 -- Assumes nothing.
-use borrow.Author.Rules.{rules}
 use Rattle.part.specs.Part.{described}
 use Rattle.words.specs.Words.{◌and◌}
 use Rattle.part.proofs.Part.is_described.Goals as goal

@@ -1,6 +1,5 @@
 -- `part::Part::pages` meets its contract: a page is not empty.
 -- Assumes nothing.
-use borrow.Author.Rules.{rules}
 use Rattle.part.proofs.Part.pages.Goals as goal
 
 pub returns : goal.returns

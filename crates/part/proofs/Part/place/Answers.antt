@@ -1,7 +1,6 @@
 -- `part::Part::place` meets its contract: each test is the definition's, in its order.
 -- Assumes nothing.
 use mathlib.Core.Path.{◌∙◌, sym}
-use borrow.Author.Rules.{rules}
 use Rattle.part.specs.Part.{place_of}
 use Rattle.words.specs.Words.{if◌then◌else◌}
 use Rattle.part.proofs.Part.place.Goals as goal

@@ -1,7 +1,6 @@
 -- `part::Part::place_in` meets its contract: an address in an area is no lower than its first.
 -- Assumes nothing.
 use native.Mathlib.Omega.{arith}
-use borrow.Author.Rules.{rules}
 use Rattle.part.proofs.Laws.{lies, positive}
 use Rattle.part.specs.Part.{block_of, page_of, place_in}
 use Rattle.part.proofs.Part.place_in.Goals as goal

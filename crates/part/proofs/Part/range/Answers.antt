@@ -1,7 +1,6 @@
 -- `part::Part::range` meets its contract: each test is the definition's, in its order.
 -- Assumes nothing.
 use mathlib.Core.Path.{◌∙◌, sym}
-use borrow.Author.Rules.{rules}
 use borrow.Author.Tests.{le-ltb, lt-ltb}
 use Rattle.part.specs.Part.{range_of}
 use Rattle.words.specs.Words.{if◌then◌else◌}

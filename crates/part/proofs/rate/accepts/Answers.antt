@@ -1,6 +1,5 @@
 -- `part::rate::accepts` meets its contract: both tests are the definition's.
 -- Assumes nothing.
-use borrow.Author.Rules.{rules}
 use borrow.Author.Tests.{le-leb, lt-leb}
 use Rattle.part.specs.Rate.{accepts_rate}
 use Rattle.words.specs.Words.{◌and◌}

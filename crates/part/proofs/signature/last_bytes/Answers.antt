@@ -1,6 +1,5 @@
 -- `part::signature::last_bytes` meets its contract: each variant's bytes are the definition's.
 -- Assumes nothing.
-use borrow.Author.Rules.{rules}
 use Rattle.part.proofs.signature.last_bytes.Goals as goal
 
 pub returns-in-At : goal.returns-in-At

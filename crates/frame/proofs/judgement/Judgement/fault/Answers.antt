@@ -1,6 +1,5 @@
 -- `frame::judgement::Judgement::fault` meets its contract: each case is the definition's.
 -- Assumes nothing.
-use Rattle.std.proofs.Common.{rules}
 use Rattle.frame.proofs.judgement.Judgement.fault.Goals as goal
 
 pub returns-in-Good : goal.returns-in-Good
