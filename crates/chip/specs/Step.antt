@@ -1,6 +1,6 @@
 -- One step: document 01, "Phases", "Collecting" and "Refusal numbers" (chip). An event comes; what was heard becomes what is heard now, a complete
 -- frame does its work, replies become bytes in the room. Refusals come first.
-use Rattle.std.specs.Prelude.{List, [], ℕ, length}
+use Rattle.std.specs.Prelude.{List, [], ℕ, length, if◌then◌else◌}
 use Rattle.chip.specs.declared.Answer.{Answer}
 use Rattle.chip.specs.declared.Answer.TheVariants.{Replied}
 use Rattle.chip.specs.declared.Answer.TheVariants as Answer
@@ -30,7 +30,6 @@ use Rattle.part.specs.declared.refusal.Verdict.TheVariants.{Accepted}
 use Rattle.part.specs.declared.refusal.Verdict.TheVariants as Verdict
 use Rattle.chip_reply.specs.Reply.{fault_in, payloads, said_of}
 use Rattle.chip_reply.specs.declared.Sent.{Sent}
-use Rattle.words.specs.Words.{if◌then◌else◌}
 
 -- What is heard now, and what was done.
 pub record Reaction : Type 0 where

@@ -1,5 +1,5 @@
 -- The command frames: document 01, "Phases" and "Commands", in the judging order of "Frames"; 000, chapter 3.
-use Rattle.std.specs.Prelude.{Bool, false, not, List, ℕ, eqb, get_or}
+use Rattle.std.specs.Prelude.{Bool, false, not, List, ℕ, eqb, get_or, if◌then◌else◌}
 use Rattle.chip_core.specs.Effect.{Effect, Memory, acknowledge, awaiting, command_error, effect, says, told}
 use Rattle.chip_core.specs.declared.Core.{Core}
 use Rattle.chip_core.specs.declared.Phase.{Phase}
@@ -18,7 +18,6 @@ use Rattle.frame.specs.declared.Footer.TheVariants.{Last}
 use Rattle.frame.specs.declared.judgement.Judgement.TheVariants.{UnfitLength}
 use Rattle.part.specs.Part.{place_of, range_of}
 use Rattle.part.specs.declared.Part.{Part}
-use Rattle.words.specs.Words.{if◌then◌else◌}
 
 -- "2. Only 9Ah. 3. Ready: all but 9Ah.", by COM.
 unfoldable pub allowed_in : Phase → ℕ → Bool

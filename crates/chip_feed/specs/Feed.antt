@@ -1,5 +1,5 @@
 -- A stretch of bytes: document 01's step for each, up to the first that is answered. A recording and a caller with more than one byte stand on it.
-use Rattle.std.specs.Prelude.{List, [], ◌∷◌, ◌+◌, ℕ, eqb}
+use Rattle.std.specs.Prelude.{List, [], ◌∷◌, ◌+◌, ℕ, eqb, if◌then◌else◌}
 use Rattle.chip.specs.Run.{onward}
 use Rattle.chip.specs.Step.{Outcome}
 use Rattle.chip.specs.declared.Answer.{Answer}
@@ -8,7 +8,6 @@ use Rattle.chip.specs.declared.Event.TheVariants.{Byte}
 use Rattle.chip_core.specs.Effect.{Memory}
 use Rattle.chip_feed.specs.declared.Fed.{Fed}
 use Rattle.part.specs.declared.Part.{Part}
-use Rattle.words.specs.Words.{if◌then◌else◌}
 
 -- Bytes one after the other, up to the first that is answered: how many were taken, and what the last step left. A byte that is refused is not taken.
 pub record Feeding : Type 0 where

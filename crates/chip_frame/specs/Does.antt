@@ -1,6 +1,6 @@
 -- What the chip does with a mode byte and with a complete frame, by its phase: document 01, "Phases". Whoever splits bytes into frames, one by one or a stretch at
 -- once, stands on it.
-use Rattle.std.specs.Prelude.{List, ℕ, eqb}
+use Rattle.std.specs.Prelude.{List, ℕ, eqb, if◌then◌else◌}
 use Rattle.chip_commands.specs.Commands.{command_does}
 use Rattle.chip_core.specs.Effect.{Effect, Memory, effect, entered, told}
 use Rattle.chip_core.specs.declared.Core.{Core}
@@ -10,7 +10,7 @@ use Rattle.chip_core.specs.declared.Phase.TheVariants.{Setup}
 use Rattle.chip_pages.specs.Pages.{data_does}
 use Rattle.chip_reply.specs.declared.Reply.TheVariants.{Silence}
 use Rattle.part.specs.declared.Part.{Part}
-use Rattle.words.specs.Words.{◌or◌, if◌then◌else◌}
+use Rattle.words.specs.Words.{◌or◌}
 
 abbrev pub silent : Core → Memory → Effect
 silent k m = effect (told Silence k) m

@@ -1,9 +1,8 @@
 -- What is written where a state lies, when an event only drops what is collected or only adds a byte to it: document 01, "Frames", "Collecting". Every other byte
 -- stays.
-use Rattle.std.specs.Prelude.{Bool, List, ◌++◌, ◌+◌, ℕ, ltb, drop, get_or, set, take}
+use Rattle.std.specs.Prelude.{Bool, List, ◌++◌, ◌+◌, ℕ, ltb, drop, get_or, set, take, if◌then◌else◌}
 use Rattle.frame.specs.Frame.{lacking_of, longest}
 use Rattle.numbers.specs.Numbers.{low_first, number_at}
-use Rattle.words.specs.Words.{if◌then◌else◌}
 
 -- Another count of what is collected.
 unfoldable pub count_laid : ℕ → List ℕ → List ℕ

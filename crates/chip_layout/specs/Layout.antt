@@ -1,5 +1,5 @@
 -- How a chip's state crosses the door as bytes: one layout of 294 bytes. Numbers cross as the crate `numbers` says, a part as `part` says.
-use Rattle.std.specs.Prelude.{Bool, false, List, [], ◌++◌, ◌∷◌, ℕ, eqb, leb, drop, get_or, take}
+use Rattle.std.specs.Prelude.{Bool, false, List, [], ◌++◌, ◌∷◌, ℕ, eqb, leb, drop, get_or, take, if◌then◌else◌}
 use Rattle.chip_state.specs.declared.Chip.{Chip}
 use Rattle.chip_core.specs.declared.Awaited.{Awaited}
 use Rattle.chip_core.specs.declared.Core.{Core}
@@ -10,7 +10,7 @@ use Rattle.numbers.specs.Numbers.{bit, low_first, number_at}
 use Rattle.lent.specs.Lent.{all_are}
 use Rattle.chip_options.specs.Options.{option_bytes, options_in}
 use Rattle.chip_options.specs.declared.Options.{Options}
-use Rattle.words.specs.Words.{◌and◌, ◌from◌to◌, ◌or◌, if◌then◌else◌}
+use Rattle.words.specs.Words.{◌and◌, ◌from◌to◌, ◌or◌}
 
 -- The phases by the document's numbers, 1 to 4.
 abbrev pub phase_number : Phase → ℕ

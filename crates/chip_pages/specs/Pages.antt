@@ -1,5 +1,5 @@
 -- The data frames of phase 4: document 01, "Commands", the paragraphs on A0h's data and on the pages of 40h and 13h.
-use Rattle.std.specs.Prelude.{Bool, not, List, [], ◌+◌, ℕ, eqb, ltb, drop, get_or, take}
+use Rattle.std.specs.Prelude.{Bool, not, List, [], ◌+◌, ℕ, eqb, ltb, drop, get_or, take, if◌then◌else◌}
 use Rattle.chip_core.specs.Effect.{Effect, Flash, Memory, bytes_in, effect, entered, says, told, with_bytes, with_flash}
 use Rattle.chip_core.specs.Effect.{acknowledge, parameter_error, protect_error, verify_error, write_error}
 use Rattle.chip_core.specs.declared.Awaited.{Awaited}
@@ -21,7 +21,7 @@ use Rattle.part.specs.declared.Place.{Place}
 use Rattle.part.specs.declared.Place.TheVariants.{In, Outside}
 use Rattle.chip_reply.specs.declared.Reply.{Reply}
 use Rattle.chip_reply.specs.declared.Reply.TheVariants.{BadFrame, BadPage, LastStored, Pair}
-use Rattle.words.specs.Words.{◌and◌, ◌or◌, if◌then◌else◌}
+use Rattle.words.specs.Words.{◌and◌, ◌or◌}
 
 abbrev pub ready : Core → Core
 ready k = entered k Ready

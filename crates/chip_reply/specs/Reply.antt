@@ -1,5 +1,5 @@
 -- The replies: document 01, "Commands" and the paragraphs on pages. A reply is a value; what it says on the wire is a list of data frames' payloads.
-use Rattle.std.specs.Prelude.{not, List, [], ◌++◌, ◌∷◌, ℕ, ltb, drop, length}
+use Rattle.std.specs.Prelude.{not, List, [], ◌++◌, ◌∷◌, ℕ, ltb, drop, length, if◌then◌else◌}
 use Rattle.frame.specs.Frame.{data_frame}
 use Rattle.frame.specs.Framing.{frames}
 use Rattle.frame.specs.Judgement.{status_of}
@@ -15,7 +15,7 @@ use Rattle.part.specs.declared.Part.{Part}
 use Rattle.chip_reply.specs.declared.Reply.{Reply}
 use Rattle.chip_reply.specs.declared.Reply.TheVariants.{BadFrame, BadPage, LastStored, Pair, Rate, Security, Signature, Silence, Status, Sum}
 use Rattle.chip_reply.specs.declared.Sent.{Sent}
-use Rattle.words.specs.Words.{◌or◌, if◌then◌else◌}
+use Rattle.words.specs.Words.{◌or◌}
 
 -- The payload of each reply frame, in order.
 unfoldable pub payloads : Part → Options → Reply → List (List ℕ)

@@ -1,5 +1,5 @@
 -- Each block's sum, kept beside the chip's lasting record: document 02, §1. Where it is kept, what it is, when it is right, and all of them worked out at once.
-use Rattle.std.specs.Prelude.{not, List, [], ◌∷◌, ◌≡◌, ◌*◌, ◌+◌, ◌<◌, suc, zero, ℕ, eqb, ltb, drop, get_or, length, set, take}
+use Rattle.std.specs.Prelude.{not, List, [], ◌∷◌, ◌≡◌, ◌*◌, ◌+◌, ◌<◌, suc, zero, ℕ, eqb, ltb, drop, get_or, length, set, take, if◌then◌else◌}
 use Rattle.chip_core.specs.Effect.{Flash, Memory, bytes_in}
 use Rattle.chip_flash.specs.Flash.{sum_of_bytes}
 use Rattle.part.specs.Part.{block_size, blocks, described, size}
@@ -12,7 +12,6 @@ use Rattle.part.specs.declared.Place.TheVariants.{In, Outside}
 use Rattle.part.specs.declared.refusal.Refusal.TheVariants.{BadPart, CodeLength, DataLength}
 use Rattle.part.specs.declared.refusal.Verdict.{Verdict}
 use Rattle.part.specs.declared.refusal.Verdict.TheVariants.{Accepted, Refused}
-use Rattle.words.specs.Words.{if◌then◌else◌}
 
 -- A slot for each block that a part can have: "Code flash: 8 to 64 blocks .. Data flash: 0 to 8 blocks".
 abbrev pub slots : ℕ

@@ -1,5 +1,5 @@
 -- The work of each command: document 01, "Commands"; 000, chapter 3. Parameters before protection, then the work.
-use Rattle.std.specs.Prelude.{Bool, false, not, ◌%◌, ℕ, eqb, ltb}
+use Rattle.std.specs.Prelude.{Bool, false, not, ◌%◌, ℕ, eqb, ltb, if◌then◌else◌}
 use Rattle.chip_core.specs.Effect.{Effect, Flash, Memory, awaiting, bytes_in, effect, says, told, with_bytes, with_flash}
 use Rattle.chip_core.specs.Effect.{acknowledge, not_blank, parameter_error, protect_error}
 use Rattle.chip_core.specs.declared.Core.{Core}
@@ -18,7 +18,7 @@ use Rattle.part.specs.declared.Place.TheVariants.{In, Outside}
 use Rattle.part.specs.declared.Range.{Range}
 use Rattle.part.specs.declared.Range.TheVariants.{Bad, Blocks}
 use Rattle.chip_reply.specs.declared.Reply.TheVariants.{Rate, Sum}
-use Rattle.words.specs.Words.{◌and◌, ◌or◌, if◌then◌else◌}
+use Rattle.words.specs.Words.{◌and◌, ◌or◌}
 
 -- 9Ah: rate and supply, "else 05h. Reply holds 06h, clock, mode .. Then ready"
 unfoldable pub rate_set : Part → Core → ℕ → ℕ → Done

@@ -1,6 +1,6 @@
 -- The chip before document 02, §1: the rules that it replaced, without the sums. None is read or written here; those that are lent pass through.
 -- What §1 did not replace is the chip's own, used by its name: so is how a page of 40h is written, which is §6's matter (specs/Stored).
-use Rattle.std.specs.Prelude.{not, List, ◌%◌, ℕ, eqb}
+use Rattle.std.specs.Prelude.{not, List, ◌%◌, ℕ, eqb, if◌then◌else◌}
 use Rattle.chip.specs.Run.{Spoken}
 use Rattle.chip.specs.Step.{Outcome}
 use Rattle.chip.specs.declared.Event.{Event}
@@ -21,7 +21,6 @@ use Rattle.part.specs.declared.Place.{Place}
 use Rattle.part.specs.declared.Place.TheVariants.{In, Outside}
 use Rattle.part.specs.declared.Range.{Range}
 use Rattle.part.specs.declared.Range.TheVariants.{Bad, Blocks}
-use Rattle.words.specs.Words.{if◌then◌else◌}
 
 -- B0h: "range; 06h, then a two-byte data frame, low first: 0000h less each byte, 16 bits", worked out from flash over every range.
 unfoldable pub checksum_before : Part → Core → Range → Flash → Done

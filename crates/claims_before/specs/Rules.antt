@@ -1,6 +1,6 @@
 -- The chip under given rules: the rules that requests of document 02 replace are an argument, and what calls them stands here once, as the chip has it
 -- (chip_commands/specs/Commands, chip_pages/specs/Pages, chip/specs/Step, chip/specs/Run). All else is the chip's, by its name.
-use Rattle.std.specs.Prelude.{not, List, [], ◌∷◌, ◌≡◌, ℕ, eqb, get_or, length}
+use Rattle.std.specs.Prelude.{not, List, [], ◌∷◌, ◌≡◌, ℕ, eqb, get_or, length, if◌then◌else◌}
 use Rattle.chip.specs.Run.{Spoken, spoken_in}
 use Rattle.chip.specs.Step.{Outcome, Reaction, heard_byte, powered_on, reaction, settled, step_of}
 use Rattle.chip_frame.specs.Does.{mode_byte, silent}
@@ -37,7 +37,6 @@ use Rattle.part.specs.Part.{place_of, range_of}
 use Rattle.part.specs.declared.Part.{Part}
 use Rattle.part.specs.declared.Place.{Place}
 use Rattle.part.specs.declared.Range.{Range}
-use Rattle.words.specs.Words.{if◌then◌else◌}
 
 -- 22h's rule, B0h's, those of a good page of 40h and of 13h, and how a bad frame and a bad page are answered. §1 replaces the first three, §2 the fourth, §4 the
 -- last two, §6 the third again.

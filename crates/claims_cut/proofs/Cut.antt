@@ -1,5 +1,6 @@
 -- The proofs of `OneEvent` and `PowerOnKeeps`.
 -- Assumes nothing.
+use Rattle.std.specs.Prelude.{if◌then◌else◌}
 use mathlib.Core.Bool.{Bool, false, false≢true, not, true}
 use mathlib.Core.List.{List}
 use mathlib.Core.Path.{◌∙◌, ◌≡◌, ap, refl, sym}
@@ -54,7 +55,7 @@ use Rattle.part.specs.declared.Part.{Part}
 use Rattle.part.specs.declared.Place.{Place}
 use Rattle.part.specs.declared.Place.TheVariants.{In, Outside}
 use Rattle.words.proofs.Laws.{and_right, if-all}
-use Rattle.words.specs.Words.{◌and◌, if◌then◌else◌}
+use Rattle.words.specs.Words.{◌and◌}
 
 record Does (p : Part) (m : Memory) (x : Effect) : Type 0 where
   change : Change p m x.memory
@@ -87,7 +88,7 @@ page-inside p w s =
 
 -- A good page has 256 bytes.
 fitting-long : (n : ℕ) (bs : List ℕ) (j : Judgement) → is_good (fitting n bs j) ≡ true → length bs ≡ n + 4
-unfolding fitting if◌then◌else◌ ◌and◌
+unfolding fitting ◌and◌
 fitting-long n bs j e = go (is_good j) refl (eqb (length bs) (n + 4)) refl e
   where
     go : (t : Bool) → is_good j ≡ t → (u : Bool) → eqb (length bs) (n + 4) ≡ u → is_good (if t and not u then UnfitLength else j) ≡ true → length bs ≡ n + 4
@@ -97,7 +98,7 @@ fitting-long n bs j e = go (is_good j) refl (eqb (length bs) (n + 4)) refl e
 
 pub page-long : (w : Awaited) (f : List ℕ) → eqb w.command 0xA0 ≡ false → is_good (fitting (length_of w) f (judge_of (footer_of w) f)) ≡ true
     → length (payload f) ≡ 256
-unfolding length_of if◌then◌else◌
+unfolding length_of
 page-long w f n g =
     let l : length_of w ≡ 256 = ap (λ (t : Bool). if t then 8 else 256) n in
     let e : length f ≡ length_of w + 4 = fitting-long (length_of w) f (judge_of (footer_of w) f) g in

@@ -1,6 +1,7 @@
 -- Over every history the retries stay within the allowance and the frames within 3 + 12(B + R); and for every state handed in, each accepted call leaves
 -- a state that is accepted again, while a refused one leaves everything as it was.
 -- Assumes nothing.
+use Rattle.std.specs.Prelude.{if◌then◌else◌}
 use mathlib.Core.Bool.{Bool, false, true}
 use mathlib.Core.List.{List, [], ◌∷◌}
 use mathlib.Core.Path.{◌≡◌, refl}
@@ -28,7 +29,6 @@ use Rattle.part.specs.declared.refusal.Refusal.{Refusal}
 use Rattle.part.specs.declared.refusal.Verdict.{Verdict}
 use Rattle.part.specs.declared.refusal.Verdict.TheVariants.{Accepted}
 use Rattle.part.specs.declared.refusal.Verdict.TheVariants as Verdict
-use Rattle.words.specs.Words.{if◌then◌else◌}
 
 -- "at most 3 + 12(B + R) frames": the bound, with the setup's three commands and four pages to a block.
 pub bound-12 : (j : Job) → bound j ≡ most_frames j
@@ -38,7 +38,7 @@ bound-12 j = refl
 -- From any good stage of any job.
 frames-paid : (j : Job) (image : List ℕ) (used : ℕ) (st : Stage) (hs : List Heard) → used ≤ j.retries → good_stage j st ≡ true
     → length (frames_in (exchanges j image used st hs)) ≤ needs j st + per_block j * (j.retries - used)
-unfolding exchanges frames_in if◌then◌else◌
+unfolding exchanges frames_in
 frames-paid j image used st [] u g = omega arith
 frames-paid j image used st (h ∷ hs) u g =
     go (is_over st) refl
@@ -63,7 +63,7 @@ frames-within j image hs =
 
 spent-allowed : (j : Job) (image : List ℕ) (used : ℕ) (st : Stage) (hs : List Heard) → used ≤ j.retries
     → used + spent_in (exchanges j image used st hs) ≤ j.retries
-unfolding exchanges spent_in if◌then◌else◌
+unfolding exchanges spent_in
 spent-allowed j image used st [] u = omega arith
 spent-allowed j image used st (h ∷ hs) u =
     go (is_over st)

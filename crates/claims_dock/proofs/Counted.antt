@@ -1,5 +1,6 @@
 -- The retries of the flow are the restarts counted by what was heard, and the one result that the stepped dock reports has that number.
 -- Assumes nothing.
+use Rattle.std.specs.Prelude.{if◌then◌else◌}
 use mathlib.Core.Bool.{Bool, false, not, true}
 use mathlib.Core.List.{List, [], ◌∷◌}
 use mathlib.Core.Path.{◌∙◌, ◌≡◌, ap, refl}
@@ -30,7 +31,7 @@ use Rattle.frame.specs.declared.judgement.Judgement.{Judgement}
 use Rattle.frame.specs.declared.judgement.Judgement.TheVariants.{Good}
 use Rattle.part.specs.declared.refusal.Verdict.TheVariants.{Accepted}
 use Rattle.words.proofs.Laws.{and_right, if-both}
-use Rattle.words.specs.Words.{◌and◌, ◌or◌, if◌then◌else◌}
+use Rattle.words.specs.Words.{◌and◌, ◌or◌}
 
 -- What an answer spends, by whether it asks again and whether the job goes on after it.
 record Counts (again : Bool) (t : Turned) : Type 0 where
@@ -38,11 +39,11 @@ record Counts (again : Bool) (t : Turned) : Type 0 where
 
 -- An answer that does not ask again spends nothing; nor does one after which the job is over.
 not-again : (again : Bool) (st : Stage) → again ≡ false → Counts again (leads st 0)
-unfolding ◌and◌ if◌then◌else◌
+unfolding ◌and◌
 not-again again st e = record { spends = rw e }
 
 over-after : (again : Bool) (j : Job) (c : Cause) (s : ℕ) (fault : Judgement) (st : Stage) → Counts again (fails j c s fault st)
-unfolding is_over ◌and◌ if◌then◌else◌
+unfolding is_over ◌and◌
 over-after true j c s fault st = record { spends = refl }
 over-after false j c s fault st = record { spends = refl }
 
@@ -53,7 +54,7 @@ restart-goes-on (InBlock k w) o = refl
 restart-goes-on (Over e) o = o
 
 retried-counts : (j : Job) (used : ℕ) (st : Stage) (s : ℕ) → is_over st ≡ false → Counts true (retried j used st s)
-unfolding retried ◌and◌ if◌then◌else◌
+unfolding retried ◌and◌
 retried-counts j used st s o = go (ltb used j.retries)
   where
     go : (t : Bool) → Counts true (if t then leads (in_block Blank st) 1 else fails j UnexpectedStatus s Good st)
@@ -68,7 +69,7 @@ other-status : (s n : ℕ) → eqb s n ≡ true → again n ≡ false → again 
 other-status s n e f = ap again (eqb-true s n e) ∙ f
 
 status-counts : (j : Job) (used : ℕ) (st : Stage) (s : ℕ) (m : Bool) → is_over st ≡ false → Counts (again s) (after_status j used st s m)
-unfolding after_status says_not_blank ◌or◌ if◌then◌else◌
+unfolding after_status says_not_blank ◌or◌
 status-counts j used st s m o = expected (eqb s 0x06) refl
   where
     asked : (t : Bool) → again s ≡ t → Counts (again s) (if t then retried j used st s else fails j UnexpectedStatus s Good st)
@@ -100,7 +101,7 @@ heard-counts j used st (answered bs) o = let a = read_answer j.part j.supply (qu
 heard-counts j used st silence o = (over-after false j TimedOut 0x00 Good st).spends
 
 spent-counted : (j : Job) (image : List ℕ) (used : ℕ) (st : Stage) (hs : List Heard) → spent_in (exchanges j image used st hs) ≡ restarts j used st hs
-unfolding exchanges spent_in restarts if◌then◌else◌
+unfolding exchanges spent_in restarts
 spent-counted j image used st [] = refl
 spent-counted j image used st (h ∷ hs) =
     go (is_over st) refl (spent-counted j image (used + (after_heard j used st h).spent) (after_heard j used st h).stage hs)

@@ -1,6 +1,6 @@
 -- Retries counted by what was heard, without the flow's own count: document 01, "The dock's flow", "A status 07h or 15h spends one retry and restarts the block
 -- (or the setup command); with none left the job fails."
-use Rattle.std.specs.Prelude.{Bool, false, not, List, [], ◌∷◌, ◌+◌, ℕ, eqb}
+use Rattle.std.specs.Prelude.{Bool, false, not, List, [], ◌∷◌, ◌+◌, ℕ, eqb, if◌then◌else◌}
 use Rattle.dock_answer.specs.Answer.{read_answer}
 use Rattle.dock_answer.specs.declared.Decoded.{Decoded}
 use Rattle.dock_answer.specs.declared.Decoded.TheVariants.{Garbled, Said}
@@ -9,7 +9,7 @@ use Rattle.dock_flow.specs.Frames.{query_at}
 use Rattle.dock_job.specs.Job.{is_over}
 use Rattle.dock_job.specs.declared.Job.{Job}
 use Rattle.dock_job.specs.declared.Stage.{Stage}
-use Rattle.words.specs.Words.{◌and◌, ◌or◌, if◌then◌else◌}
+use Rattle.words.specs.Words.{◌and◌, ◌or◌}
 
 -- The status that decides an answer is 07h or 15h.
 unfoldable pub asks_again : Decoded → Bool

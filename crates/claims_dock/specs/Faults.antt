@@ -1,6 +1,6 @@
 -- Document 02, §4: "The dock's failure result also names the fault of an unreadable reply, from its first faulty frame". Which answers are readable has not changed:
 -- what made one readable before stands here as it was.
-use Rattle.std.specs.Prelude.{Bool, false, not, true, List, [], ◌∷◌, ◌≡◌, ◌+◌, ℕ, eqb, drop, get_or, length, take}
+use Rattle.std.specs.Prelude.{Bool, false, not, true, List, [], ◌∷◌, ◌≡◌, ◌+◌, ℕ, eqb, drop, get_or, length, take, if◌then◌else◌}
 use Rattle.claims_frame.specs.Faults.{BlamedReply, good_before, judge_before}
 use Rattle.dock_answer.specs.Answer.{deciding, in_first, judge_answer, judge_frames, matching, none_left, read_answer, readable, shape, statuses}
 use Rattle.dock_answer.specs.declared.Decoded.{Decoded}
@@ -23,7 +23,7 @@ use Rattle.frame.specs.declared.Header.TheVariants.{Data}
 use Rattle.frame.specs.declared.judgement.Judgement.{Judgement}
 use Rattle.frame.specs.declared.judgement.Judgement.TheVariants.{Good}
 use Rattle.part.specs.declared.Part.{Part}
-use Rattle.words.specs.Words.{◌and◌, if◌then◌else◌}
+use Rattle.words.specs.Words.{◌and◌}
 
 -- Before §4: how many bytes the frame at the front carries, "with 02h, fitting LEN, right SUM and 03h", 0 where there is none; and an answer that is exactly such
 -- frames, with nothing after them.

@@ -1,5 +1,5 @@
 -- Document 01, "Refusal numbers", "Order .. for the dock: 1, 5, 6, 7, 9, 4, 8": calls with two faults at once, and the number that each is refused with.
-use Rattle.std.specs.Prelude.{Bool, false, not, List, [], ◌++◌, ◌∷◌, ℕ, eqb, replicate}
+use Rattle.std.specs.Prelude.{Bool, false, not, List, [], ◌++◌, ◌∷◌, ℕ, eqb, replicate, if◌then◌else◌}
 use Rattle.claims_dock.specs.Examples.{RefusalRow, job_with, say}
 use Rattle.dock.specs.Calls.{ask_of, begin_of, hear_of}
 use Rattle.dock.specs.declared.Report.{Report}
@@ -10,7 +10,7 @@ use Rattle.dock_job.specs.declared.Job.{Job}
 use Rattle.dock_job.specs.declared.Stage.TheVariants.{InBlock}
 use Rattle.dock_job.specs.declared.Work.TheVariants.{Blank}
 use Rattle.part.specs.Refusal.{number}
-use Rattle.words.specs.Words.{◌or◌, if◌then◌else◌}
+use Rattle.words.specs.Words.{◌or◌}
 
 -- Faults are named by the numbers of their refusals.
 unfoldable pub has : ℕ → List ℕ → Bool

@@ -20,7 +20,7 @@ use Rattle.part.specs.declared.Part.{Part}
 use Rattle.part_layout.proofs.Laws.{bytes-are}
 use Rattle.part_layout.specs.Layout.{bytes_at, part_in, part_size}
 use Rattle.words.proofs.Laws.{and_left, and_right}
-use Rattle.words.specs.Words.{◌and◌, ◌from◌to◌}
+use Rattle.words.specs.Words.{◌from◌to◌}
 
 whole : {k : ℕ} (bs : List ℕ) → length bs ≡ k → bytes_at k 0 bs ≡ bs
 whole {k} bs h = bytes-are k 0 bs (omega arith) ∙ take_all k bs (omega arith)

@@ -1,5 +1,5 @@
 -- What the door tells of a job's end, in numbers: document 01, "Frames and retries used are numbers in the result, equal to those in the flow's definition".
-use Rattle.std.specs.Prelude.{List, [], ◌∷◌, ℕ, eqb}
+use Rattle.std.specs.Prelude.{List, [], ◌∷◌, ℕ, eqb, if◌then◌else◌}
 use Rattle.dock.specs.declared.Report.{Report}
 use Rattle.dock_door.specs.Calls.{figures_of, figures_with}
 use Rattle.dock_door.specs.declared.Figures.{Figures}
@@ -7,7 +7,6 @@ use Rattle.dock_job.specs.declared.Ending.{Ending}
 use Rattle.dock_job.specs.declared.Ending.TheVariants.{Failed, Finished}
 use Rattle.dock_job.specs.declared.Stage.{Stage}
 use Rattle.dock_job.specs.declared.Stage.TheVariants.{InBlock, Over, SetUp}
-use Rattle.words.specs.Words.{if◌then◌else◌}
 
 -- The numbers of a call that tells an end: its `ended` is not 0.
 unfoldable pub end_told : Report → List Figures

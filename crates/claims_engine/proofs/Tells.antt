@@ -1,5 +1,6 @@
 -- What a list of utterances says in all, and how the engine's sums of replies and faults grow by it (document 02, §7 and §4).
 -- Assumes nothing.
+use Rattle.std.specs.Prelude.{if◌then◌else◌}
 use mathlib.Core.Bool.{Bool, false, true}
 use mathlib.Core.List.{List, [], ◌++◌, ◌∷◌, append_assoc, append-nil, map}
 use mathlib.Core.Path.{◌∙◌, ◌≡◌, ap, refl, sym}
@@ -14,7 +15,6 @@ use Rattle.engine.specs.Engine.{Stand}
 use Rattle.frame.specs.Judgement.{is_good}
 use Rattle.frame.specs.declared.judgement.Judgement.{Judgement}
 use Rattle.frame.specs.declared.judgement.Judgement.TheVariants.{Good, UnfitLength, WrongFirst, WrongFooter, WrongSum}
-use Rattle.words.specs.Words.{if◌then◌else◌}
 
 -- The bytes, the frames and the faults of a list of utterances.
 unfoldable pub said_by : List Utterance → List ℕ
@@ -49,7 +49,6 @@ abbrev pub or_else : Judgement → Judgement → Judgement
 or_else j k = if is_good j then k else j
 
 or_assoc : (i j k : Judgement) → or_else (or_else i j) k ≡ or_else i (or_else j k)
-unfolding if◌then◌else◌
 or_assoc Good j k = refl
 or_assoc (WrongFooter at) j k = refl
 or_assoc (WrongSum at) j k = refl
@@ -57,7 +56,6 @@ or_assoc UnfitLength j k = refl
 or_assoc WrongFirst j k = refl
 
 pub or-good : (j : Judgement) → or_else j Good ≡ j
-unfolding if◌then◌else◌
 or-good Good = refl
 or-good (WrongFooter at) = refl
 or-good (WrongSum at) = refl
@@ -81,7 +79,7 @@ faults-append [] vs = refl
 faults-append (u ∷ us) vs = rw (faults-append us vs, append_assoc)
 
 first-joined : (j : Judgement) (js : List Judgement) → first_fault (fault_if_bad j ++ js) ≡ or_else j (first_fault js)
-unfolding first_fault if◌then◌else◌
+unfolding first_fault
 first-joined Good js = refl
 first-joined (WrongFooter at) js = refl
 first-joined (WrongSum at) js = refl
@@ -89,7 +87,7 @@ first-joined UnfitLength js = refl
 first-joined WrongFirst js = refl
 
 pub first-append : (us vs : List Utterance) → first_fault (faults_by (us ++ vs)) ≡ or_else (first_fault (faults_by us)) (first_fault (faults_by vs))
-unfolding faults_by first_fault if◌then◌else◌
+unfolding faults_by first_fault
 first-append [] vs = refl
 first-append (u ∷ us) vs =
     first-joined u.fault (faults_by (us ++ vs)) ∙ ap (or_else u.fault) (first-append us vs) ∙ sym (or_assoc u.fault _ _)
@@ -102,7 +100,7 @@ pub record Silent (us : List Utterance) : Type 0 where
   pub faults : faults_by us ≡ []
 
 pub silence-says : (n : ℕ) → Silent (replicate n silence)
-unfolding said_by frames_by faults_by if◌then◌else◌
+unfolding said_by frames_by faults_by
 silence-says zero = record { said = refl; frames = refl; faults = refl }
 silence-says (suc n) = let r = silence-says n in record { said = r.said; frames = omega (arith, r.frames); faults = r.faults }
 
@@ -138,7 +136,7 @@ tells-silent {s} {t} us q a b c d =
 -- One utterance.
 pub tells-one : {s t : Stand} (u : Utterance) → t.said ≡ s.said ++ u.bytes → t.frames ≡ s.frames + frame_count u.answer
     → t.faults ≡ (if is_good u.fault then s.faults else s.faults + 1) → t.first ≡ or_else s.first u.fault → Tells s (u ∷ []) t
-unfolding said_by frames_by faults_by first_fault if◌then◌else◌
+unfolding said_by frames_by faults_by first_fault
 tells-one {s} {t} u a b c d =
     record {
       said = a ∙ rw append-nil;

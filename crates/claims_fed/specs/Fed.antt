@@ -1,5 +1,5 @@
 -- What a frame does that is fed to the chip byte by byte, and what one does that is not good: demand 2's judgement, as noise, recordings and a whole cable need it.
-use Rattle.std.specs.Prelude.{List, [], ◌++◌, ◌∷◌, map, ◌≡◌, ◌-◌, ℕ, eqb, length, replicate}
+use Rattle.std.specs.Prelude.{List, [], ◌++◌, ◌∷◌, map, ◌≡◌, ◌-◌, ℕ, eqb, length, replicate, if◌then◌else◌}
 use Rattle.chip.specs.Run.{run, spoken_in}
 use Rattle.chip.specs.Step.{Outcome, reaction}
 use Rattle.chip_frame.specs.Does.{frame_does}
@@ -19,7 +19,6 @@ use Rattle.frame.specs.declared.Footer.TheVariants.{Last}
 use Rattle.frame.specs.declared.judgement.Judgement.{Judgement}
 use Rattle.frame.specs.declared.judgement.Judgement.TheVariants.{Good}
 use Rattle.part.specs.declared.Part.{Part}
-use Rattle.words.specs.Words.{if◌then◌else◌}
 
 -- A frame does its work in its phase.
 unfoldable pub does : Phase → Part → Core → Memory → List ℕ → Effect

@@ -1,6 +1,6 @@
 -- The undisturbed flow of a job, written out: document 01, "The dock's flow". "Frames: 9Ah .., 00h, C0h .. Then per block, ascending: 32h with 00h; 22h if
 -- that said 1Bh; 40h and four pages; 13h and four pages." Of each block a boolean says whether it was blank.
-use Rattle.std.specs.Prelude.{Bool, false, true, List, [], ◌++◌, ◌∷◌, ◌≡◌, ◌*◌, ◌+◌, ◌≤◌, ℕ, leb, drop, length, take}
+use Rattle.std.specs.Prelude.{Bool, false, true, List, [], ◌++◌, ◌∷◌, ◌≡◌, ◌*◌, ◌+◌, ◌≤◌, ℕ, leb, drop, length, take, if◌then◌else◌}
 use Rattle.claims_dock.specs.Examples.{both, rate_said, say, signed_as, third}
 use Rattle.claims_dock.specs.Stepping.{Course, results_in, stepping}
 use Rattle.dock.specs.Calls.{begin_of}
@@ -19,7 +19,6 @@ use Rattle.numbers.specs.Numbers.{low_first}
 use Rattle.part.specs.Part.{Arrays}
 use Rattle.part.specs.Signature.{signature}
 use Rattle.part.specs.declared.refusal.Verdict.TheVariants.{Accepted}
-use Rattle.words.specs.Words.{if◌then◌else◌}
 
 -- A command's frame by COM and information.
 abbrev pub command_frame : List ℕ → List ℕ

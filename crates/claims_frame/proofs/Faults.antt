@@ -1,5 +1,6 @@
 -- The place told is the place of the byte that is wrong, and the wire says what it said before: specs/Faults.
 -- Assumes nothing.
+use Rattle.std.specs.Prelude.{if◌then◌else◌}
 use mathlib.Core.Bool.{Bool, false, not, true, true≢false}
 use mathlib.Core.List.{List}
 use mathlib.Core.Path.{◌∙◌, ◌≡◌, ap, refl, sym}
@@ -25,7 +26,7 @@ use Rattle.frame.specs.declared.Header.TheVariants.{Data}
 use Rattle.frame.specs.declared.judgement.Judgement.{Judgement}
 use Rattle.frame.specs.declared.judgement.Judgement.TheVariants.{Good, UnfitLength, WrongFirst, WrongFooter, WrongSum}
 use Rattle.words.proofs.Laws.{and_both, and_left, and_right, if-all}
-use Rattle.words.specs.Words.{◌and◌, if◌then◌else◌}
+use Rattle.words.specs.Words.{◌and◌}
 
 pub place_is : PlaceIs
 unfolding judge_of
@@ -44,7 +45,7 @@ place_is f bs =
     (λ x. nothing w (eqb-true _ _ (not-false _ v)) (eqb-true _ _ (not-false _ x))))))
 
 pub data-place-is : DataPlaceIs
-unfolding fitting ◌and◌ if◌then◌else◌
+unfolding fitting ◌and◌
 data-place-is n f bs = go (judge_of f bs) (place_is f bs)
   where
     good-frame : Blamed f bs Good → is_frame bs ≡ true
@@ -113,7 +114,7 @@ reply-place-is n last bs =
     (λ v. frame e (fit_is n last bs v) (fit-counted n last bs v) (front-frame n last bs v) (place_is Last (take (n + 4) bs))))
 
 pub judged-as-before : FrameJudgedAsBefore
-unfolding judge_of judge_before if◌then◌else◌ status_before good_before
+unfolding judge_of judge_before status_before good_before
 judged-as-before f bs = go (is_frame bs) (eqb (get_or bs (length bs - 1) 0) (footer_byte f)) (eqb (get_or bs (length bs - 2) 0) (sum_of (summed bs)))
   where
     go : (t u v : Bool)
@@ -125,7 +126,7 @@ judged-as-before f bs = go (is_frame bs) (eqb (get_or bs (length bs - 1) 0) (foo
     go true true true = record { status = refl; good = refl }
 
 pub data-judged-as-before : DataJudgedAsBefore
-unfolding fitting fitting_before ◌and◌ if◌then◌else◌ status_before good_before
+unfolding fitting fitting_before ◌and◌ status_before good_before
 data-judged-as-before n f bs = go (judge_of f bs) (judge_before f bs) (judged-as-before f bs)
   where
     fitted : (t : Bool) → AsJudgedBefore (if not t then UnfitLength else Good) (if t then good else unfit_length)

@@ -1,11 +1,10 @@
 -- The collector's way with sounds, on the list of what it has heard: a byte is heard, and a frame that it completes is taken and the
 -- collector emptied; a gap empties it.
-use Rattle.std.specs.Prelude.{List, [], ◌++◌, ◌∷◌, ℕ}
+use Rattle.std.specs.Prelude.{List, [], ◌++◌, ◌∷◌, ℕ, if◌then◌else◌}
 use Rattle.frame.specs.Collector.{hear}
 use Rattle.frame.specs.Frame.{complete}
 use Rattle.frame.specs.Framing.{Sound, byte, gap}
 use Rattle.frame.specs.declared.Header.{Header}
-use Rattle.words.specs.Words.{if◌then◌else◌}
 
 pub record Collected : Type 0 where
   pub holds : List ℕ

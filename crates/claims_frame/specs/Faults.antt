@@ -1,6 +1,6 @@
 -- Document 02, §4, "Which fault, and at which byte?": that the place told is the place of the byte that is wrong, and that none is wrong before it in the order of
 -- judging; and that the wire says what it said before. The judgement before it stands here as it was.
-use Rattle.std.specs.Prelude.{Bool, false, not, true, List, ◌≢◌, ◌≡◌, ◌+◌, ◌-◌, ◌<◌, ◌≤◌, ℕ, eqb, get_or, length, take}
+use Rattle.std.specs.Prelude.{Bool, false, not, true, List, ◌≢◌, ◌≡◌, ◌+◌, ◌-◌, ◌<◌, ◌≤◌, ℕ, eqb, get_or, length, take, if◌then◌else◌}
 use Rattle.frame.specs.Frame.{counted, footer_byte, header_byte, is_frame, overhead}
 use Rattle.frame.specs.Judgement.{fault_of, fitting, is_good, judge_of, status_of, summed}
 use Rattle.frame.specs.Sum.{sum_of}
@@ -10,7 +10,6 @@ use Rattle.frame.specs.declared.Footer.TheVariants.{Last}
 use Rattle.frame.specs.declared.Header.TheVariants.{Data}
 use Rattle.frame.specs.declared.judgement.Judgement.{Judgement}
 use Rattle.frame.specs.declared.judgement.Judgement.TheVariants.{Good, UnfitLength, WrongFirst, WrongFooter, WrongSum}
-use Rattle.words.specs.Words.{if◌then◌else◌}
 
 -- Where a frame's SUM and its footer lie, counted from the header.
 abbrev pub sum_place : List ℕ → ℕ

@@ -1,12 +1,11 @@
 -- Demand 3: "A good frame with exactly one byte after its length byte changed is not good".
-use Rattle.std.specs.Prelude.{true, List, ◌≢◌, ◌≡◌, ◌-◌, ◌<◌, ◌≤◌, ℕ, eqb, get_or, length, set}
+use Rattle.std.specs.Prelude.{true, List, ◌≢◌, ◌≡◌, ◌-◌, ◌<◌, ◌≤◌, ℕ, eqb, get_or, length, set, if◌then◌else◌}
 use Rattle.frame.proofs.Laws.Sum.{Below}
 use Rattle.frame.specs.Frame.{is_frame}
 use Rattle.frame.specs.Judgement.{judge_of}
 use Rattle.frame.specs.declared.Footer.{Footer}
 use Rattle.frame.specs.declared.judgement.Judgement.{Judgement}
 use Rattle.frame.specs.declared.judgement.Judgement.TheVariants.{Good, WrongFooter, WrongSum}
-use Rattle.words.specs.Words.{if◌then◌else◌}
 
 -- The frame is good, and its byte i, one after LEN, becomes v.
 pub record AfterLen (f : Footer) (bs : List ℕ) (i v : ℕ) : Type 0 where

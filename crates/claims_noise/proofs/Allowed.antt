@@ -1,5 +1,6 @@
 -- The premise with one frame allowed: the proof of `AllowedOrNone`.
 -- Assumes nothing.
+use Rattle.std.specs.Prelude.{if◌then◌else◌}
 use mathlib.Core.Bool.{Bool, false, false≢true, not, true}
 use mathlib.Core.List.{List, [], ◌++◌, ◌∷◌}
 use mathlib.Core.Path.{◌∙◌, ◌≡◌, ap, refl, sym}
@@ -15,7 +16,7 @@ use Rattle.frame.specs.Frame.{header_byte}
 use Rattle.frame.specs.Framing.{Framed, Framing, Sound, begun, byte, completes, framing, gap, idle, inside, quiet}
 use Rattle.frame.specs.declared.Header.{Header}
 use Rattle.words.proofs.Laws.{and_both, and_left, and_right}
-use Rattle.words.specs.Words.{◌and◌, ◌or◌, if◌then◌else◌}
+use Rattle.words.specs.Words.{◌and◌, ◌or◌}
 
 empty-is : {A : Type 0} (xs : List A) → empty xs ≡ true → xs ≡ []
 unfolding empty
@@ -41,7 +42,7 @@ bad-permitted g gs a end e = rw e
 
 -- A sound completes one frame at most, and nothing is begun then.
 pub done-completes : (h : Header) (w : Framing) (v : Sound) (g : List ℕ) (gs : List (List ℕ)) → (framing h w v).done ≡ g ∷ gs → framing h w v ≡ completes g
-unfolding framing if◌then◌else◌
+unfolding framing
 done-completes h w gap g gs e = absurd (let z : ◌≡◌ {A = ℕ} 0 1 = cc in omega arith)
 done-completes h idle (byte b) g gs e = go (eqb b (header_byte h)) e
   where

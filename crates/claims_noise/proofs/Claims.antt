@@ -1,6 +1,7 @@
 -- Demand 3's first two claims, for the definition of demand 2: noise while a command is awaited, and while a data frame is; and both where something was
 -- collected before the noise.
 -- Assumes nothing.
+use Rattle.std.specs.Prelude.{if◌then◌else◌}
 use mathlib.Core.Bool.{Bool, false, not, true}
 use mathlib.Core.List.{List, map}
 use mathlib.Core.Path.{◌∙◌, ◌≡◌, ap, refl, subst, sym}
@@ -34,7 +35,6 @@ use Rattle.frame.specs.Framing.{Sound, frames, idle}
 use Rattle.frame.specs.declared.Header.TheVariants.{Data}
 use Rattle.part.specs.declared.Part.{Part}
 use Rattle.words.proofs.Laws.{and_both, and_right}
-use Rattle.words.specs.Words.{if◌then◌else◌}
 
 command-left : (k : Core) (vs : List Sound) → AwaitsCommand k.phase → left_core k idle vs ≡ k
 unfolding left_core left_in
@@ -77,7 +77,7 @@ pub record LeftAt (p : Part) (o : Outcome) (us : List Sound) (q : Outcome) : Typ
 
 left-data : (p : Part) (o : Outcome) (us : List Sound) (w : Awaited) → Stands p o → o.chip.collector.len ≡ 0 → o.chip.core.phase ≡ Awaiting w
     → LeftAt p o us (left_by us o)
-unfolding left_by data_completed left_core left_in command_over if◌then◌else◌
+unfolding left_by data_completed left_core left_in command_over
 left-data p o us w s n e = go (empty (frames Data idle us)) refl
   where
     core-is-left : (t : Bool) → empty (frames Data idle us) ≡ t
@@ -143,7 +143,7 @@ gap-ends-noise p o vs a n =
 
 -- Power-on drops the phase with it.
 powered-left : (k : Core) (us : List Sound) → powered_on (left_core k idle us) ≡ powered_on k
-unfolding left_core left_in if◌then◌else◌
+unfolding left_core left_in
 powered-left k us = go k.phase
   where
     over : (t : Bool) → powered_on (if t then k else ready k) ≡ powered_on k
@@ -183,7 +183,7 @@ power-on-ends-noise p o vs a n =
 
 -- The phase that noise leaves.
 left-phase : (k : Core) (w : Awaited) (us : List Sound) → k.phase ≡ Awaiting w → (left_core k idle us).phase ≡ (if data_completed us then Ready else Awaiting w)
-unfolding left_core left_in data_completed if◌then◌else◌
+unfolding left_core left_in data_completed
 left-phase k w us e = ap (λ (f : Phase). (left_in f k idle us).phase) e ∙ go (empty (frames Data idle us))
   where
     go : (t : Bool) → (if t then k else ready k).phase ≡ (if not t then Ready else Awaiting w)
@@ -194,17 +194,14 @@ apart : (w : Awaited) → Ready ≡ Awaiting w → ⊥
 apart w e = let z : ◌≡◌ {A = ℕ} 0 1 = cc in omega arith
 
 phase-branch : (w : Awaited) (t : Bool) → (if t then Ready else Awaiting w) ≡ Awaiting w → t ≡ false
-unfolding if◌then◌else◌
 phase-branch w true e = absurd (apart w e)
 phase-branch w false e = refl
 
 phase-ended : (w : Awaited) (t : Bool) → (if t then Ready else Awaiting w) ≡ Ready → t ≡ true
-unfolding if◌then◌else◌
 phase-ended w true e = refl
 phase-ended w false e = absurd (apart w (sym e))
 
 pub noise-branches : NoiseBranches step_of
-unfolding if◌then◌else◌
 noise-branches p o w vs e n =
     let us = with_collected o vs in
     let f : (run_by step_of p (then_gap vs) o).chip.core.phase ≡ (if data_completed us then Ready else Awaiting w) =

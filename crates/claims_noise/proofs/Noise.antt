@@ -1,5 +1,6 @@
 -- Noise changes nothing: the proofs of `NoiseAtCommand`, `NoiseAtData` and `NoiseBranches` for the definition of demand 2.
 -- Assumes nothing.
+use Rattle.std.specs.Prelude.{if◌then◌else◌}
 use mathlib.Core.Bool.{Bool, false, false≢true, not, true}
 use mathlib.Core.List.{List, [], ◌++◌, ◌∷◌, map}
 use mathlib.Core.Path.{◌∙◌, ◌≡◌, ap, refl, subst, sym}
@@ -29,7 +30,7 @@ use Rattle.frame.specs.Framing.{Framing, Sound, byte, frames, framing, idle}
 use Rattle.frame.specs.declared.Header.TheVariants.{Data}
 use Rattle.part.specs.declared.Part.{Part}
 use Rattle.words.proofs.Laws.{and_left, and_right}
-use Rattle.words.specs.Words.{◌and◌, ◌or◌, if◌then◌else◌}
+use Rattle.words.specs.Words.{◌and◌, ◌or◌}
 
 -- The record that noise leaves, from a place in a frame.
 unfoldable pub left_in : Phase → Core → Framing → List Sound → Core
@@ -62,7 +63,7 @@ left-on k w v vs a e = go k.phase a e
 -- A sound that completes a bad frame.
 left-bad : (k : Core) (w x : Framing) (v : Sound) (vs : List Sound) (f : List ℕ) (fs : List (List ℕ)) → AwaitsFrame k.phase
     → (framing (header_in k.phase) w v).done ≡ f ∷ fs → left_core k w (v ∷ vs) ≡ left_core (bad_core k.phase k) x vs
-unfolding left_core left_in frames bad_core empty if◌then◌else◌
+unfolding left_core left_in frames bad_core empty
 left-bad k w x v vs f fs a e = go k.phase refl a e
   where
     go : (g : Phase) → k.phase ≡ g → AwaitsFrame g → (framing (header_in g) w v).done ≡ f ∷ fs → left_in g k w (v ∷ vs) ≡ left_in (bad_core g k).phase (bad_core g k) x vs
@@ -92,7 +93,7 @@ bad-next f k g gs (command in_ready) e = rw e
 bad-next f k g gs (page w) e = refl
 
 left-none : (k : Core) (w : Framing) → left_core k w [] ≡ k
-unfolding left_core left_in frames empty if◌then◌else◌
+unfolding left_core left_in frames empty
 left-none k w = go k.phase
   where
     go : (f : Phase) → left_in f k w [] ≡ k

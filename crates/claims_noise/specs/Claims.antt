@@ -1,6 +1,6 @@
 -- The statements of demand 3, each proved in proofs/ under its own name. They speak of any chip M, that is, of what a chip does with an event; the one
 -- that they are proved of is `step_of`, the definition of demand 2.
-use Rattle.std.specs.Prelude.{false, true, List, [], ◌++◌, ◌∷◌, map, ◌≢◌, ◌≡◌, ◌-◌, ◌<◌, ◌≤◌, ℕ, get_or, length, replicate, set}
+use Rattle.std.specs.Prelude.{false, true, List, [], ◌++◌, ◌∷◌, map, ◌≢◌, ◌≡◌, ◌-◌, ◌<◌, ◌≤◌, ℕ, get_or, length, replicate, set, if◌then◌else◌}
 use Rattle.claims_frame.specs.OneByte.{fault_changed}
 use Rattle.claims_fed.specs.Fed.{blames, silence}
 use Rattle.chip.specs.Run.{Spoken, spoken_in}
@@ -25,7 +25,6 @@ use Rattle.frame.specs.declared.judgement.Judgement.{Judgement}
 use Rattle.frame.specs.declared.judgement.Judgement.TheVariants.{Good}
 use Rattle.part.specs.declared.Part.{Part}
 use Rattle.part.specs.declared.refusal.Refusal.TheVariants.{ShortRoom}
-use Rattle.words.specs.Words.{if◌then◌else◌}
 
 -- A chip, its runs, and what it says to each event.
 abbrev pub Machine : Type 0

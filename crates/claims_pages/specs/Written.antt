@@ -1,6 +1,6 @@
 -- What a page of 40h does to a chip, whatever stood where it goes: document 02, §6. What is said, the record, every byte of flash and every kept sum; and that
 -- "Pages answered 1Ch also stand in demand 3".
-use Rattle.std.specs.Prelude.{List, [], ◌++◌, ◌∷◌, ◌≢◌, ◌≡◌, ◌<◌, ℕ, get_or, length}
+use Rattle.std.specs.Prelude.{List, [], ◌++◌, ◌∷◌, ◌≢◌, ◌≡◌, ◌<◌, ℕ, get_or, length, if◌then◌else◌}
 use Rattle.chip.specs.Run.{onward, spoken_in}
 use Rattle.chip.specs.Step.{Outcome, step_of}
 use Rattle.chip.specs.declared.Answer.TheVariants.{Replied}
@@ -26,7 +26,6 @@ use Rattle.part.specs.Part.{blocks, place_of}
 use Rattle.part.specs.declared.Area.{Area}
 use Rattle.part.specs.declared.Part.{Part}
 use Rattle.part.specs.declared.Place.TheVariants.{In}
-use Rattle.words.specs.Words.{if◌then◌else◌}
 
 -- Flash and sums, whatever the status: the page is old AND new, every other byte is as it was; its block's sum is worked out afresh, every other slot is as it was.
 pub record WrittenThere (p : Part) (w : Awaited) (ds : List ℕ) (m n : Memory) : Type 0 where

@@ -1,6 +1,6 @@
 -- The two ends of an undamaged cable: document 01, "The dock's flow". "a gap precedes every frame"; the frame's bytes come one by one, and the replies
 -- to them, one after the other, are the whole answer.
-use Rattle.std.specs.Prelude.{List, [], ◌++◌, ◌∷◌, map, suc, zero, ℕ, take}
+use Rattle.std.specs.Prelude.{List, [], ◌++◌, ◌∷◌, map, suc, zero, ℕ, take, if◌then◌else◌}
 use Rattle.chip.specs.Run.{bytes_said, onward}
 use Rattle.chip.specs.Step.{Outcome}
 use Rattle.chip.specs.declared.Event.{Event}
@@ -13,7 +13,6 @@ use Rattle.dock_job.specs.Job.{is_over}
 use Rattle.dock_job.specs.declared.Dock.{Dock}
 use Rattle.dock_job.specs.declared.Job.{Job}
 use Rattle.part.specs.declared.Part.{Part}
-use Rattle.words.specs.Words.{if◌then◌else◌}
 
 pub record Ends : Type 0 where
   pub dock : Dock

@@ -1,6 +1,7 @@
 -- Seat 1 is skipped: the proofs of `SkipsSeatOne`, `OtherSeatStays` and `LeastOutput`. A record of seat 1 adds one to the records and nothing else to an upshot, and no
 -- line of good records tells their number.
 -- Assumes nothing.
+use Rattle.std.specs.Prelude.{if◌then◌else◌}
 use mathlib.Core.Bool.{Bool, false, true}
 use mathlib.Core.List.{List, [], ◌++◌, ◌∷◌, append-nil}
 use mathlib.Core.Path.{◌∙◌, ◌≡◌, ap, refl, sym}
@@ -31,7 +32,6 @@ use Rattle.replay_records.specs.Records.{replay_part}
 use Rattle.replay_records.specs.declared.Ended.{Ended}
 use Rattle.replay_records.specs.declared.Ended.TheVariants.{AtBadRecord, OutputFull, Whole}
 use Rattle.replay_records.specs.declared.Ended.TheVariants as Ended
-use Rattle.words.specs.Words.{if◌then◌else◌}
 
 pub other-seat-stays : OtherSeatStays
 other-seat-stays form p r c m room output e h = sym (other-quiet form p r c m room output h e)
@@ -41,7 +41,7 @@ least-output = (refl, refl)
 
 -- The records of seat 0 end to end are these records.
 zero-cut : (form : Form) (rs : List (List ℕ)) → AllPass (good_record form) rs → Cut (record_size form) (end_to_end (seat_zero form rs)) (seat_zero form rs)
-unfolding end_to_end seat_zero if◌then◌else◌
+unfolding end_to_end seat_zero
 zero-cut form [] a = none refl
 zero-cut form (r ∷ rs) a = go (eqb (seat_of form r) 0) (zero-cut form rs (λ i h. a (suc i) (omega arith)))
   where
@@ -118,7 +118,7 @@ other-of form r h s = go (record_of form r) (record-of-is form r)
 -- Without the records of seat 1 the upshot is the same, but for their number.
 skipped : (form : Form) (p : Part) (rs : List (List ℕ)) (g : Upshot) → AllPass (good_record form) rs → g.ended ≡ Whole
     → uncounted (upshot_from form p rs g) ≡ uncounted (upshot_from form p (seat_zero form rs) g)
-unfolding upshot_from seat_zero while_on if◌then◌else◌
+unfolding upshot_from seat_zero while_on
 skipped form p [] g a w = refl
 skipped form p (r ∷ rs) g a w = go (eqb (seat_of form r) 0) refl (λ v. skipped form p rs k (λ i h. a (suc i) (omega arith)) v)
   where
@@ -159,7 +159,7 @@ shown-uncounted : (x : Upshot) → (x.ended ≡ AtBadRecord → ⊥) → shown x
 shown-uncounted x h = ap (λ (l : List ℕ). lines x.said ++ l) (last-uncounted x x.ended h)
 
 zero-good : (form : Form) (rs : List (List ℕ)) → AllPass (good_record form) rs → AllPass (good_record form) (seat_zero form rs)
-unfolding seat_zero if◌then◌else◌
+unfolding seat_zero
 zero-good form [] a = a
 zero-good form (r ∷ rs) a = go (eqb (seat_of form r) 0) (zero-good form rs (λ i h. a (suc i) (omega arith)))
   where

@@ -1,5 +1,5 @@
 -- What the replay of a capture, of either form, prints: document 01, "Replay", and 02, section 5, from the capture's bytes to the characters on standard output.
-use Rattle.std.specs.Prelude.{List, [], ◌++◌, ◌∷◌, ◌%◌, ◌*◌, ◌+◌, ◌/◌, suc, zero, ℕ, ltb, drop, get_or, length, replicate, take}
+use Rattle.std.specs.Prelude.{List, [], ◌++◌, ◌∷◌, ◌%◌, ◌*◌, ◌+◌, ◌/◌, suc, zero, ℕ, ltb, drop, get_or, length, replicate, take, if◌then◌else◌}
 use Rattle.chip.specs.Step.{fresh_chip}
 use Rattle.chip_state.specs.declared.Chip.{Chip}
 use Rattle.chip_core.specs.Effect.{Memory}
@@ -11,7 +11,6 @@ use Rattle.replay_records.specs.Records.{Replaying, replay_of, replay_part}
 use Rattle.replay_play.specs.Play.{output_least}
 use Rattle.replay_records.specs.declared.Ended.{Ended}
 use Rattle.replay_records.specs.declared.Ended.TheVariants.{AtBadRecord, OutputFull, Refused, Whole}
-use Rattle.words.specs.Words.{if◌then◌else◌}
 
 -- "Each reply frame is one line of hex": frames end to end, cut by their LEN bytes. (No frames are more than their bytes.)
 unfoldable pub lines_in : ℕ → List ℕ → List ℕ

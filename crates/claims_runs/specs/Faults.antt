@@ -1,5 +1,5 @@
 -- Which fault is told, and when: document 02, §4, in document 01's order of judging a complete frame.
-use Rattle.std.specs.Prelude.{false, not, List, [], ◌∷◌, ◌≡◌, ℕ, get_or}
+use Rattle.std.specs.Prelude.{false, not, List, [], ◌∷◌, ◌≡◌, ℕ, get_or, if◌then◌else◌}
 use Rattle.chip.specs.Run.{onward}
 use Rattle.chip.specs.Step.{Outcome}
 use Rattle.chip.specs.declared.Event.{Event}
@@ -27,7 +27,6 @@ use Rattle.frame.specs.declared.judgement.Judgement.TheVariants.{Good, UnfitLeng
 use Rattle.part.specs.declared.Part.{Part}
 use Rattle.part.specs.declared.refusal.Verdict.{Verdict}
 use Rattle.part.specs.declared.refusal.Verdict.TheVariants.{Accepted, Refused}
-use Rattle.words.specs.Words.{if◌then◌else◌}
 
 -- "command unknown .. 04h; LEN unfit for the command 15h": an unknown command has no LEN to fit, and no fault.
 unfoldable pub fault_read : Reading → Judgement

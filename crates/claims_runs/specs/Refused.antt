@@ -1,6 +1,6 @@
 -- "A refused command changes nothing.": document 01, "Frames", of every frame and every status but 06h, and but 1Ch: that is no refusal any more, since the page that it
 -- is said of was written, and "the mixed bytes stay" (document 02, §6; claims_pages/specs/Written).
-use Rattle.std.specs.Prelude.{Bool, not, true, List, [], ◌∷◌, ◌≡◌, ℕ, eqb, drop, get_or, take}
+use Rattle.std.specs.Prelude.{Bool, not, true, List, [], ◌∷◌, ◌≡◌, ℕ, eqb, drop, get_or, take, if◌then◌else◌}
 use Rattle.chip.specs.Run.{onward, spoken_in}
 use Rattle.chip.specs.Step.{Outcome, reaction}
 use Rattle.chip.specs.declared.Event.{Event}
@@ -14,7 +14,7 @@ use Rattle.claims_good.specs.Good.{Stands, Utterance, uttered}
 use Rattle.commands.specs.declared.Command.{Command}
 use Rattle.lent.specs.Lent.{all_are, same}
 use Rattle.part.specs.declared.Part.{Part}
-use Rattle.words.specs.Words.{◌and◌, if◌then◌else◌}
+use Rattle.words.specs.Words.{◌and◌}
 
 -- The statuses that are said: the first reply frame begins with one, and the answer to a page, of two bytes, holds two.
 unfoldable pub statuses_said : List ℕ → List ℕ

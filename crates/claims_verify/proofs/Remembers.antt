@@ -1,5 +1,6 @@
 -- The proof of `Remembers`.
 -- Assumes nothing.
+use Rattle.std.specs.Prelude.{if◌then◌else◌}
 use mathlib.Core.Bool.{Bool, false, false≢true, not, true}
 use mathlib.Core.List.{List, [], ◌∷◌}
 use mathlib.Core.Logic.{◌≢◌}
@@ -50,7 +51,7 @@ use Rattle.part.specs.declared.Place.TheVariants.{In, Outside}
 use Rattle.part.specs.declared.Range.{Range}
 use Rattle.part.specs.declared.Range.TheVariants.{Bad, Blocks}
 use Rattle.words.proofs.Laws.{if-all, if-both, or_right}
-use Rattle.words.specs.Words.{◌or◌, if◌then◌else◌}
+use Rattle.words.specs.Words.{◌or◌}
 
 -- The phase after a command: the one before, ready, or data awaited without a difference.
 data Begins (k : Core) (f : Phase) : Type 0 where
@@ -163,7 +164,7 @@ module _ (p : Part) (k : Core) (w : Awaited) (g : List ℕ) (m : Memory) (good :
 
 -- An event that completes no frame leaves data awaited as it was.
 quiet-phase : (v : Event) (k : Core) (u : Awaited) → (quiet_core v k).phase ≡ Awaiting u → k.phase ≡ Awaiting u
-unfolding quiet_core quiet_in mode_byte if◌then◌else◌
+unfolding quiet_core quiet_in mode_byte
 quiet-phase (Byte b) k u e = go (hearing k.phase) e
   where
     mode : (t : Bool) → (if t then entered k Setup else k).phase ≡ Awaiting u → k.phase ≡ Awaiting u

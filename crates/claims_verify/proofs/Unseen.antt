@@ -1,5 +1,6 @@
 -- The proofs of `NoNewRefusal` and `NeverLookedAt`: two chips that differ at most in what a command other than 13h remembers go on so, and say the same.
 -- Assumes nothing.
+use Rattle.std.specs.Prelude.{if◌then◌else◌}
 use mathlib.Core.Bool.{Bool, false, true}
 use mathlib.Core.List.{List, [], ◌∷◌}
 use mathlib.Core.Logic.{◌≢◌}
@@ -38,7 +39,6 @@ use Rattle.part.specs.Part.{page_size, place_of}
 use Rattle.part.specs.declared.Part.{Part}
 use Rattle.part.specs.declared.Place.{Place}
 use Rattle.part.specs.declared.refusal.Verdict.TheVariants.{Accepted}
-use Rattle.words.specs.Words.{if◌then◌else◌}
 
 -- Nothing of it is judged.
 state-so : (p : Part) (k : Core) (d : Bool) (f : Phase) (count head len : ℕ)
@@ -62,7 +62,6 @@ data Like (d : Bool) (x y : Effect) : Type 0 where
   apart : (w : Awaited) → y.core.phase ≡ Awaiting w → w.command ≢ 0x13 → x ≡ flagged d y → Like d x y
 
 like-if : {d : Bool} {a b x y : Effect} (t : Bool) → (t ≡ true → Like d a x) → (t ≡ false → Like d b y) → Like d (if t then a else b) (if t then x else y)
-unfolding if◌then◌else◌
 like-if true f g = f refl
 like-if false f g = g refl
 
@@ -75,7 +74,7 @@ recalling_core d w k = entered k (Awaiting (recalling d w))
 module _ (p : Part) (k : Core) (d : Bool) (w : Awaited) (c : w.command ≢ 0x13) (m : Memory) where
   stores-like : (n : Memory)
       → Like d (effect (told (stored_reply (recalling d w)) (next_page (recalling d w) (recalling_core d w k))) n) (effect (told (stored_reply w) (next_page w k)) n)
-  unfolding stored_reply next_page is_last_page remembering if◌then◌else◌
+  unfolding stored_reply next_page is_last_page remembering
   stores-like n = go (ltb w.last (w.next + page_size))
     where
       reply : Bool → Reply
@@ -112,7 +111,7 @@ module _ (p : Part) (k : Core) (d : Bool) (w : Awaited) (c : w.command ≢ 0x13)
   silent-like = apart w refl c refl
 
   heard-like : (hs : List ℕ) {x y : Effect} → Like d x y → LikeReaction d (heard_byte hs x (recalling_core d w k) m) (heard_byte hs y (entered k (Awaiting w)) m)
-  unfolding heard_byte if◌then◌else◌
+  unfolding heard_byte
   heard-like hs {x} {y} l = go (complete hs)
     where
       go : (t : Bool) → LikeReaction d (if t then reaction [] x else reaction hs (silent (recalling_core d w k) m)) (if t then reaction [] y else reaction hs (silent (entered k (Awaiting w)) m))

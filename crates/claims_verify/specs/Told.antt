@@ -1,6 +1,6 @@
 -- What the pages of 13h are told: document 02, §2, "a verify error shows only at the end: every earlier good page gets 06h in its second status, and the last one
 -- gets 0Fh if any page differed." Said of all of a command's pages, as bytes on the line.
-use Rattle.std.specs.Prelude.{Bool, false, not, true, List, [], ◌++◌, ◌∷◌, map, ◌≡◌, ◌*◌, ◌+◌, ◌-◌, ℕ, drop, get_or, length, replicate, take}
+use Rattle.std.specs.Prelude.{Bool, false, not, true, List, [], ◌++◌, ◌∷◌, map, ◌≡◌, ◌*◌, ◌+◌, ◌-◌, ℕ, drop, get_or, length, replicate, take, if◌then◌else◌}
 use Rattle.chip.specs.Run.{run}
 use Rattle.chip.specs.Step.{Outcome}
 use Rattle.chip.specs.declared.Event.TheVariants.{Byte}
@@ -28,7 +28,7 @@ use Rattle.part.specs.declared.Part.{Part}
 use Rattle.part.specs.declared.Place.{Place}
 use Rattle.part.specs.declared.Place.TheVariants.{In, Outside}
 use Rattle.part.specs.declared.Range.TheVariants.{Blocks}
-use Rattle.words.specs.Words.{◌or◌, if◌then◌else◌}
+use Rattle.words.specs.Words.{◌or◌}
 
 -- "Pages for 40h and 13h carry 256 bytes".
 pub record Page (ds : List ℕ) : Type 0 where

@@ -1,12 +1,11 @@
 -- The eleven commands and their bytes: document 01, "Commands", the table in its order; 000, chapter 3. The dock writes a command by it, and the chip reads it.
-use Rattle.std.specs.Prelude.{List, [], ◌++◌, ◌∷◌, ℕ, eqb, get_or, length}
+use Rattle.std.specs.Prelude.{List, [], ◌++◌, ◌∷◌, ℕ, eqb, get_or, length, if◌then◌else◌}
 use Rattle.commands.specs.declared.Command.{Command}
 use Rattle.commands.specs.declared.Command.TheVariants.{BlankCheck, BlockErase, Checksum, Programming, RateSet, Reset, Verify}
 use Rattle.commands.specs.declared.Command.TheVariants.{SecurityGet, SecurityRelease, SecuritySet, SignatureGet}
 use Rattle.commands.specs.declared.Reading.{Reading}
 use Rattle.commands.specs.declared.Reading.TheVariants.{Meant, UnfitLen, Unknown}
 use Rattle.numbers.specs.Numbers.{low_first, number_at}
-use Rattle.words.specs.Words.{if◌then◌else◌}
 
 -- Column "COM".
 unfoldable pub com_of : Command → ℕ

@@ -1,5 +1,6 @@
 -- How far the search for a record that does not pass has come, over the form and what is asked.
 -- Assumes nothing.
+use Rattle.std.specs.Prelude.{if◌then◌else◌}
 use mathlib.Core.Bool.{Bool, false, true}
 use mathlib.Core.List.{List, ◌∷◌}
 use mathlib.Core.Path.{◌∙◌, ◌≡◌, ap, refl, sym}
@@ -14,7 +15,6 @@ use Rattle.replay_capture.proofs.Laws.{records_is, records-none, size-least}
 use Rattle.replay_capture.proofs.Records.{end_after, end-within, records-cut}
 use Rattle.replay_capture.specs.Capture.{record_end, record_size, records_in, records_of}
 use Rattle.replay_capture.specs.declared.Form.{Form}
-use Rattle.words.specs.Words.{if◌then◌else◌}
 
 -- What is found among records that so many stand before.
 abbrev pub later : ℕ → Found → Found
@@ -62,7 +62,6 @@ module _ {form : Form} {asked : Asked} {bs : List ℕ} {at k : ℕ} {t : Found} 
 
   pub found_turn : {end : ℕ} {r : Bool} → FoundFrom form asked bs at k t → at < length bs → end ≡ record_end (record_size form) at (length bs)
       → r ≡ passes form asked (take (end - at) (drop at bs)) → r ≡ true → FoundFrom form asked bs end (k + 1) t
-  unfolding if◌then◌else◌
   found_turn {end} {r} q h g e p =
       let l : length (drop end bs) ≡ length bs - end = length-drop end bs in
       let m : length (drop at bs) ≡ length bs - at = length-drop at bs in
@@ -83,7 +82,6 @@ module _ {form : Form} {asked : Asked} {bs : List ℕ} {at k : ℕ} {t : Found} 
 
   pub found_here : {end : ℕ} {r : Bool} → FoundFrom form asked bs at k t → at < length bs → end ≡ record_end (record_size form) at (length bs)
       → r ≡ passes form asked (take (end - at) (drop at bs)) → r ≡ false → At k ≡ t
-  unfolding if◌then◌else◌
   found_here {end} {r} q h g e p =
       let no : passes form asked (take (end - at) (drop at bs)) ≡ false = sym e ∙ p in
       let rs : ℕ → Found = λ (i : ℕ). one_later (first_not form asked (records_in (record_size form) (q.most - 1) (drop i bs))) in
@@ -106,7 +104,7 @@ later-nowhere (At n) e = absurd (let z : ◌≡◌ {A = ℕ} 0 1 = cc in omega a
 
 pub none_found : (form : Form) (asked : Asked) (r : List ℕ) (rs : List (List ℕ)) → first_not form asked (r ∷ rs) ≡ Nowhere
     → (passes form asked r ≡ true) × (first_not form asked rs ≡ Nowhere)
-unfolding first_not if◌then◌else◌
+unfolding first_not
 none_found form asked r rs e = go (passes form asked r) refl e
   where
     go : (t : Bool) → passes form asked r ≡ t → (if t then one_later (first_not form asked rs) else At 0) ≡ Nowhere

@@ -1,5 +1,5 @@
 -- Conversion of a capture from one form to the other: document 02, section 5.
-use Rattle.std.specs.Prelude.{Bool, List, [], ◌++◌, ◌∷◌, ◌-◌, suc, ℕ, eqb, leb, ltb, drop, length, replicate, take}
+use Rattle.std.specs.Prelude.{Bool, List, [], ◌++◌, ◌∷◌, ◌-◌, suc, ℕ, eqb, leb, ltb, drop, length, replicate, take, if◌then◌else◌}
 use Rattle.conversion.specs.declared.Asked.{Asked}
 use Rattle.conversion.specs.declared.Asked.TheVariants.{Good, Held}
 use Rattle.conversion.specs.declared.Converted.{Converted}
@@ -9,7 +9,7 @@ use Rattle.conversion.specs.declared.Found.TheVariants.{At, Nowhere}
 use Rattle.replay_capture.specs.Capture.{bad_record_number, count, data_in, data_size, head_size, good_record, record_size, records_of, seat_of, tick_of}
 use Rattle.replay_capture.specs.declared.Form.{Form}
 use Rattle.replay_capture.specs.declared.Form.TheVariants.{New, Old}
-use Rattle.words.specs.Words.{◌and◌, if◌then◌else◌}
+use Rattle.words.specs.Words.{◌and◌}
 
 -- The form that a capture is converted to.
 abbrev pub other : Form → Form

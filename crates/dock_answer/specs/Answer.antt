@@ -1,5 +1,5 @@
 -- The answer to one frame: document 01, "The dock's flow". "The whole answer to one frame is handed in at once". Which fault it has: document 02, §4.
-use Rattle.std.specs.Prelude.{Bool, false, true, List, [], ◌∷◌, ◌+◌, ◌-◌, ℕ, eqb, drop, get_or, length, take}
+use Rattle.std.specs.Prelude.{Bool, false, true, List, [], ◌∷◌, ◌+◌, ◌-◌, ℕ, eqb, drop, get_or, length, take, if◌then◌else◌}
 use Rattle.dock_answer.specs.declared.Decoded.TheVariants.{Garbled, Said}
 use Rattle.dock_answer.specs.declared.Form.{Form}
 use Rattle.dock_answer.specs.declared.Form.TheVariants.{OfLastPage, OfPage, OneStatus, WithRate, WithSignature}
@@ -13,7 +13,7 @@ use Rattle.lent.specs.Lent.{same}
 use Rattle.part.specs.Rate.{mode_of}
 use Rattle.part.specs.Signature.{signature}
 use Rattle.part.specs.declared.Part.{Part}
-use Rattle.words.specs.Words.{◌and◌, if◌then◌else◌}
+use Rattle.words.specs.Words.{◌and◌}
 
 -- Of the frames of an answer the last is the one behind which none is left.
 abbrev pub none_left : List ℕ → Bool

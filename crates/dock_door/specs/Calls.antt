@@ -1,6 +1,6 @@
 -- What each call on the dock does and tells through the door: the dock's own definitions on the state that crossed as bytes, refusals by document 01's numbers.
 -- A refused call leaves the state and the numbers told as they are.
-use Rattle.std.specs.Prelude.{Bool, false, true, List, [], ◌∷◌, ℕ, eqb, length}
+use Rattle.std.specs.Prelude.{Bool, false, true, List, [], ◌∷◌, ℕ, eqb, length, if◌then◌else◌}
 use Rattle.dock.specs.Calls.{Asking, ask_of, begin_of, hear_of, wants_of}
 use Rattle.dock.specs.declared.Report.{Report}
 use Rattle.dock.specs.declared.Report.TheVariants.{Due, Ended, Put}
@@ -19,7 +19,6 @@ use Rattle.part.specs.declared.refusal.Refusal.TheVariants.{BadState}
 use Rattle.part.specs.declared.refusal.Verdict.{Verdict}
 use Rattle.part.specs.declared.refusal.Verdict.TheVariants.{Accepted}
 use Rattle.part.specs.declared.refusal.Verdict.TheVariants as Verdict
-use Rattle.words.specs.Words.{if◌then◌else◌}
 
 -- "for the dock: 1, 5, 6, 7, 9, 4, 8": bytes that are no state are refused as a job's refusals come first, with 9 where there is none. On a state the dock
 -- itself judges.

@@ -1,5 +1,6 @@
 -- Laws about the flow: pages that are not the last, and retries within the allowance.
 -- Assumes nothing.
+use Rattle.std.specs.Prelude.{if◌then◌else◌}
 use mathlib.Core.Bool.{Bool, false, true}
 use mathlib.Core.Path.{◌≡◌, refl}
 use Prim.Native.Nat.{◌+◌, ◌<◌, ◌^◌, ◌≤◌, ℕ}
@@ -21,7 +22,7 @@ use Rattle.frame.specs.declared.judgement.Judgement.{Judgement}
 use Rattle.frame.specs.declared.judgement.Judgement.TheVariants.{Good}
 use Rattle.part.proofs.Laws.{pages-small}
 use Rattle.words.proofs.Laws.{if-both}
-use Rattle.words.specs.Words.{◌or◌, if◌then◌else◌}
+use Rattle.words.specs.Words.{◌or◌}
 
 -- A page that is not the last has one after it, which is a number of 32 bits.
 pub not_last : (j : Job) (p : ℕ) → last_page j p ≡ false → p + 1 < pages_of j
@@ -39,7 +40,7 @@ within_none : (j : Job) (used : ℕ) (st : Stage) → used ≤ j.retries → Wit
 within_none j used st h = record { allowed = omega arith }
 
 retried-within : (j : Job) (used : ℕ) (st : Stage) (s : ℕ) → used ≤ j.retries → Within j used (retried j used st s)
-unfolding retried if◌then◌else◌
+unfolding retried
 retried-within j used st s h = go (ltb used j.retries) refl
   where
     go : (t : Bool) → ltb used j.retries ≡ t → Within j used (if t then leads (in_block Blank st) 1 else fails j UnexpectedStatus s Good st)

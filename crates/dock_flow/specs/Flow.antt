@@ -1,6 +1,6 @@
 -- Document 01, "The dock's flow": which answer follows which frame and what it leads to; and from a job, its image and the history of answers the frames
 -- sent, the retries spent and the place. Which fault a failure names: document 02, §4.
-use Rattle.std.specs.Prelude.{Bool, List, [], ◌∷◌, ◌+◌, ℕ, eqb, ltb}
+use Rattle.std.specs.Prelude.{Bool, List, [], ◌∷◌, ◌+◌, ℕ, eqb, ltb, if◌then◌else◌}
 use Rattle.commands.specs.Commands.{com_of}
 use Rattle.dock_answer.specs.Answer.{read_answer, wanted}
 use Rattle.dock_answer.specs.declared.Decoded.{Decoded}
@@ -21,7 +21,7 @@ use Rattle.dock_job.specs.declared.Work.{Work}
 use Rattle.dock_job.specs.declared.Work.TheVariants.{Blank, Erase, Program, ProgramPage, VerifyBlock, VerifyPage}
 use Rattle.frame.specs.declared.judgement.Judgement.{Judgement}
 use Rattle.frame.specs.declared.judgement.Judgement.TheVariants.{Good}
-use Rattle.words.specs.Words.{◌and◌, ◌or◌, if◌then◌else◌}
+use Rattle.words.specs.Words.{◌and◌, ◌or◌}
 
 -- "Then per block, ascending": the first block that is left from k on, or the end.
 unfoldable pub block_from : Job → ℕ → Stage

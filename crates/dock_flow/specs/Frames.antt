@@ -1,5 +1,5 @@
 -- Document 01, "The dock's flow", "Frames": which frame is sent at a stage, what its answer looks like, and how it is handed out.
-use Rattle.std.specs.Prelude.{Bool, List, [], ◌++◌, ◌*◌, ◌+◌, ◌-◌, ℕ, leb, drop, length, take}
+use Rattle.std.specs.Prelude.{Bool, List, [], ◌++◌, ◌*◌, ◌+◌, ◌-◌, ℕ, leb, drop, length, take, if◌then◌else◌}
 use Rattle.commands.specs.Commands.{payload_of}
 use Rattle.commands.specs.declared.Command.{Command}
 use Rattle.commands.specs.declared.Command.TheVariants.{BlankCheck, BlockErase, Programming, RateSet, Reset, SignatureGet, Verify}
@@ -28,7 +28,6 @@ use Rattle.part.specs.Part.{page_size}
 use Rattle.part.specs.declared.refusal.Verdict.{Verdict}
 use Rattle.part.specs.declared.refusal.Verdict.TheVariants.{Accepted}
 use Rattle.part.specs.declared.refusal.Verdict.TheVariants as Verdict
-use Rattle.words.specs.Words.{if◌then◌else◌}
 
 -- The block's last page is the one after which none is left.
 unfoldable pub last_page : Job → ℕ → Bool

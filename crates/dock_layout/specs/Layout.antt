@@ -1,5 +1,5 @@
 -- How a dock's state crosses the door as bytes: one layout of 26 bytes. Numbers cross as the crate `numbers` says.
-use Rattle.std.specs.Prelude.{Bool, List, ◌++◌, ◌∷◌, ℕ, eqb, ltb, get_or}
+use Rattle.std.specs.Prelude.{Bool, List, ◌++◌, ◌∷◌, ℕ, eqb, ltb, get_or, if◌then◌else◌}
 use Rattle.dock_layout.specs.declared.Flat.{Flat}
 use Rattle.dock_job.specs.declared.Cause.{Cause}
 use Rattle.dock_job.specs.declared.Cause.TheVariants.{Mismatch, TimedOut, UnexpectedStatus, Unreadable}
@@ -20,7 +20,6 @@ use Rattle.frame.specs.declared.judgement.Judgement.{Judgement}
 use Rattle.frame.specs.declared.judgement.Judgement.TheVariants.{Good, UnfitLength, WrongFirst, WrongFooter, WrongSum}
 use Rattle.numbers.specs.Numbers.{bit, low_first, number_at}
 use Rattle.lent.specs.Lent.{same}
-use Rattle.words.specs.Words.{if◌then◌else◌}
 
 -- "cause (status, mismatch, unreadable, timeout)": 1 to 4 in this order.
 unfoldable pub cause_number : Cause → ℕ

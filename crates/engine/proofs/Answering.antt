@@ -1,5 +1,6 @@
 -- Laws of what is told: a reply goes into the room behind those before it, and the room past it stays.
 -- Assumes nothing.
+use Rattle.std.specs.Prelude.{if◌then◌else◌}
 use mathlib.Core.Bool.{Bool, false, true}
 use mathlib.Core.List.{List, [], ◌++◌, append_assoc, append-nil}
 use mathlib.Core.Path.{◌∙◌, ◌≡◌, ap, refl, sym}
@@ -31,7 +32,6 @@ use Rattle.frame.specs.Judgement.{is_good}
 use Rattle.frame.specs.declared.judgement.Judgement.{Judgement}
 use Rattle.part.specs.Part.{Arrays, described}
 use Rattle.part.specs.declared.Part.{Part}
-use Rattle.words.specs.Words.{if◌then◌else◌}
 
 -- What is sent into the room from a place on, which is lent as a part to the end, and comes back in this form.
 pub record SentPast (at : ℕ) (rs : List (List ℕ)) (s : Sent) (room room' : List ℕ) : Type 0 where
@@ -97,7 +97,6 @@ pub grown : (p : Part) (o : Options) (r : Reply) (t : ToldSoFar) (room l : List 
     × Past t (record { bytes = t.bytes + s.bytes; frames = t.frames + s.frames; faults = n; first = g })
     (take t.bytes room ++ (l ++ drop (length room - t.bytes) (drop t.bytes room))) room
     × (t.bytes + s.bytes ≤ t.bytes + 31) × (n ≤ t.faults + 1)
-unfolding if◌then◌else◌
 grown p o r t room l s j g n se ne de a h =
     let x = sent-past p o r t.bytes s room l de a (omega (arith, h.left)) se in (
       record { left = omega (arith, x.long, x.short, h.left); framed = omega (arith, x.framed, h.framed) },

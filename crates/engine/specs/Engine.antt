@@ -1,6 +1,6 @@
 -- A plain engine: document 02, §7. A second software chip, to be read before the first. All bytes of a stretch lie ahead at once, those that the chip held from
 -- before first; turn by turn the front of them is taken: a mode byte, a byte before a header, or a whole frame where it lies. Nothing is collected.
-use Rattle.std.specs.Prelude.{not, List, [], ◌++◌, ◌∷◌, ◌+◌, ◌/◌, suc, zero, ℕ, eqb, ltb, drop, get_or, length, take}
+use Rattle.std.specs.Prelude.{not, List, [], ◌++◌, ◌∷◌, ◌+◌, ◌/◌, suc, zero, ℕ, eqb, ltb, drop, get_or, length, take, if◌then◌else◌}
 use Rattle.chip_core.specs.Effect.{Memory}
 use Rattle.chip_core.specs.Hearing.{hearing}
 use Rattle.chip_core.specs.declared.Core.{Core}
@@ -26,7 +26,6 @@ use Rattle.frame.specs.declared.judgement.Judgement.TheVariants.{Good}
 use Rattle.part.specs.declared.Part.{Part}
 use Rattle.part.specs.declared.refusal.Verdict.{Verdict}
 use Rattle.part.specs.declared.refusal.Verdict.TheVariants.{Accepted, Refused}
-use Rattle.words.specs.Words.{if◌then◌else◌}
 
 -- What lies at the front of the bytes ahead, by what the phase hears. Before the header that is awaited bytes are skipped; from it on a frame is whole at LEN + 4
 -- bytes; where fewer lie ahead, all of them are held.

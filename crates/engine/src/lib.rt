@@ -2,7 +2,7 @@
 // frame that the chip held the begin of is joined first. What a frame does is one definition for both chips.
 #![tactic(auto)]
 
-ghost use Rattle.std.specs.Prelude.{◌≡◌, true, ◌++◌, ◌+◌, ◌-◌, ◌*◌, ◌≤◌, ◌<◌, ltb, drop, get_or, length, take};
+ghost use Rattle.std.specs.Prelude.{◌≡◌, true, ◌++◌, ◌+◌, ◌-◌, ◌*◌, ◌≤◌, ◌<◌, ltb, drop, get_or, length, take, if◌then◌else◌};
 ghost use Rattle.chip_core.specs.Effect.{memory};
 ghost use Rattle.chip_state.specs.Refusals.{verdict_on};
 ghost use Rattle.engine.specs.Engine.{after_frame, begins, engine_left, engine_of, front_for, front_of, leaves, facing, played_out};
@@ -10,7 +10,6 @@ ghost use Rattle.engine.specs.Inner.Answering.{Ample, Past, RoomAhead, ended_of,
 ghost use Rattle.frame.specs.Collector.{heard};
 ghost use Rattle.frame.specs.Frame.{counted};
 ghost use Rattle.frame.specs.Judgement.{is_good};
-ghost use Rattle.words.specs.Words.{if◌then◌else◌};
 ghost use Rattle.part.specs.Part.{described};
 ghost use Rattle.part.specs.declared.refusal.Verdict.TheVariants.{Accepted};
 

@@ -1,9 +1,8 @@
 -- The collector: document 01, "Frames", "Collecting". What it has heard is a list; its bytes past the count are spare, and nothing touches them.
-use Rattle.std.specs.Prelude.{ℕ, ◌+◌, List, [], ◌∷◌, ◌++◌, length, take, drop, replicate, ◌==◌, nat_le}
+use Rattle.std.specs.Prelude.{ℕ, ◌+◌, List, [], ◌∷◌, ◌++◌, length, take, drop, replicate, ◌==◌, nat_le, if◌then◌else◌}
 use Rattle.frame.specs.Frame.{complete, header_byte, longest}
 use Rattle.frame.specs.declared.Header.{Header}
 use Rattle.frame.specs.declared.collector.Collector.{Collector}
-use Rattle.words.specs.Words.{if◌then◌else◌}
 
 abbrev pub collecting : List ℕ → ℕ → Collector
 collecting bs n = record { bytes = bs; len = n }

@@ -1,9 +1,8 @@
 -- The framing rule as a machine of its own: document 01, "Frames", "Collecting". It knows the awaited header, bytes and gaps, and says
 -- which frames they complete; it counts down what is still to come, and knows nothing of a collector, flash or options.
-use Rattle.std.specs.Prelude.{ℕ, ◌+◌, ◌-◌, List, [], ◌∷◌, ◌++◌, ◌==◌, nat_le}
+use Rattle.std.specs.Prelude.{ℕ, ◌+◌, ◌-◌, List, [], ◌∷◌, ◌++◌, ◌==◌, nat_le, if◌then◌else◌}
 use Rattle.frame.specs.Frame.{counted, header_byte}
 use Rattle.frame.specs.declared.Header.{Header}
-use Rattle.words.specs.Words.{if◌then◌else◌}
 
 pub data Sound : Type 0 where
   byte : ℕ → Sound

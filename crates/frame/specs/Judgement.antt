@@ -1,12 +1,12 @@
 -- The judgement of a complete frame: document 01, "Frames", third paragraph; the faults that it tells apart, and where they lie: document 02, §4.
-use Rattle.std.specs.Prelude.{ℕ, ◌+◌, ◌-◌, Bool, true, false, not, List, length, take, drop, ◌==◌, slice_index}
+use Rattle.std.specs.Prelude.{ℕ, ◌+◌, ◌-◌, Bool, true, false, not, List, length, take, drop, ◌==◌, slice_index, if◌then◌else◌}
 use Rattle.frame.specs.Frame.{footer_byte, is_frame, overhead}
 use Rattle.frame.specs.Sum.{sum_of}
 use Rattle.frame.specs.declared.Footer.{Footer}
 use Rattle.frame.specs.declared.judgement.Fault.{Fault}
 use Rattle.frame.specs.declared.judgement.Judgement.{Judgement}
 use Rattle.frame.specs.declared.judgement.Judgement.TheVariants.{Good, UnfitLength, WrongFirst, WrongFooter, WrongSum}
-use Rattle.words.specs.Words.{◌and◌, if◌then◌else◌}
+use Rattle.words.specs.Words.{◌and◌}
 
 -- LEN and each byte after it, up to SUM.
 unfoldable pub summed : List ℕ → List ℕ

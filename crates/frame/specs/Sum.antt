@@ -1,7 +1,6 @@
 -- SUM: document 01, "Frames" ("SUM starts at 00h; LEN and each byte after it are subtracted, borrow dropped"), and 000, table 2-1.
 -- Stated over the modulus m: 256 for a frame's SUM, 65536 for the sum of command B0h.
-use Rattle.std.specs.Prelude.{ℕ, ◌+◌, ◌-◌, List, [], ◌∷◌, nat_le}
-use Rattle.words.specs.Words.{if◌then◌else◌}
+use Rattle.std.specs.Prelude.{ℕ, ◌+◌, ◌-◌, List, [], ◌∷◌, nat_le, if◌then◌else◌}
 
 -- a less b, the borrow dropped.
 unfoldable pub less : ℕ → ℕ → ℕ → ℕ

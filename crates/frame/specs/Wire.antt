@@ -1,5 +1,5 @@
 -- Frames written into lent room: document 01, "Frames"; and reply frames judged: "The dock's flow" (what makes a reply frame readable) and document 02, §4.
-use Rattle.std.specs.Prelude.{ℕ, ◌+◌, Bool, not, ltb, List, ◌++◌, length, take, drop, ◌==◌, nat_lt, slice_index}
+use Rattle.std.specs.Prelude.{ℕ, ◌+◌, Bool, not, ltb, List, ◌++◌, length, take, drop, ◌==◌, nat_lt, slice_index, if◌then◌else◌}
 use Rattle.frame.specs.Frame.{counted, framed, header_byte, overhead}
 use Rattle.frame.specs.Judgement.{judge_of}
 use Rattle.frame.specs.declared.Footer.{Footer}
@@ -10,7 +10,7 @@ use Rattle.frame.specs.declared.judgement.Judgement.{Judgement}
 use Rattle.frame.specs.declared.judgement.Judgement.TheVariants.{UnfitLength, WrongFirst}
 use Rattle.frame.specs.declared.wire.Wrote.{Wrote}
 use Rattle.frame.specs.declared.wire.Wrote.TheVariants.{Long, NoRoom, UnfitPayload}
-use Rattle.words.specs.Words.{◌and◌, ◌from◌to◌, ◌or◌, if◌then◌else◌}
+use Rattle.words.specs.Words.{◌and◌, ◌from◌to◌, ◌or◌}
 
 -- What writing leaves: its answer, and the whole room.
 pub record Writing : Type 0 where

@@ -1,8 +1,8 @@
 -- Bytes put at a place in lent room: what is there afterwards, and the answer. Bytes that all have one value; whether two stretches are equal.
-use Rattle.std.specs.Prelude.{Bool, false, true, List, [], ◌++◌, ◌∷◌, ◌+◌, ℕ, eqb, leb, drop, length, take}
+use Rattle.std.specs.Prelude.{Bool, false, true, List, [], ◌++◌, ◌∷◌, ◌+◌, ℕ, eqb, leb, drop, length, take, if◌then◌else◌}
 use Rattle.lent.specs.declared.Room.{Room}
 use Rattle.lent.specs.declared.Room.TheVariants.{Enough, Short}
-use Rattle.words.specs.Words.{◌and◌, if◌then◌else◌}
+use Rattle.words.specs.Words.{◌and◌}
 
 -- l with the bytes s from the place at on; every other byte stays.
 unfoldable pub put_at : List ℕ → ℕ → List ℕ → List ℕ

@@ -1,5 +1,6 @@
 -- Laws about a part's areas, addresses and ranges: what chip and dock use instead of the definitions' text.
 -- Assumes nothing.
+use Rattle.std.specs.Prelude.{if◌then◌else◌}
 use mathlib.Core.Bool.{Bool, false, true}
 use mathlib.Core.List.{List, [], ◌++◌, ◌∷◌}
 use mathlib.Core.Path.{◌∙◌, ◌≡◌, ap, refl, sym}
@@ -23,7 +24,7 @@ use Rattle.part.specs.declared.refusal.Refusal.{Refusal}
 use Rattle.part.specs.declared.refusal.Refusal.TheVariants.{BadPart, BadRange, BadState, CodeLength, DataLength, ImageLength, ManyRetries, OutOfTurn, ShortRoom}
 use Rattle.part.specs.declared.refusal.Verdict.TheVariants.{Accepted, Refused}
 use Rattle.words.proofs.Laws.{and_both, and_left, and_right}
-use Rattle.words.specs.Words.{◌and◌, ◌from◌to◌, if◌then◌else◌}
+use Rattle.words.specs.Words.{◌and◌, ◌from◌to◌}
 
 pub block_size-pos : (p : Part) (a : Area) → 0 < block_size p a
 unfolding block_size
@@ -124,7 +125,7 @@ bad-good : (a : Area) (i m : ℕ) → Bad ≡ Blocks a i m → ⊥
 bad-good a i m e = let z : ◌≡◌ {A = ℕ} 0 1 = cc in omega arith
 
 pub range-good : (p : Part) (start end : ℕ) (a : Area) (block count : ℕ) → range_of p start end ≡ Blocks a block count → Stretch p start end a block count
-unfolding range_of if◌then◌else◌ stretch
+unfolding range_of stretch
 range-good p start end a block count e = go (ltb end start) refl (whole_blocks p CodeFlash start end) refl (whole_blocks p DataFlash start end) refl e
   where
     in_area : (b : Area) → ltb end start ≡ false → whole_blocks p b start end ≡ true
@@ -189,7 +190,7 @@ module _ (p : Part) (start end : ℕ) (a : Area) (block count : ℕ) (st : Stret
 -- A range is good exactly when it is such a stretch.
 pub good-range : (p : Part) (start end : ℕ) (a : Area) (block count : ℕ) → described p ≡ true → Stretch p start end a block count
     → range_of p start end ≡ Blocks a block count
-unfolding range_of if◌then◌else◌
+unfolding range_of
 good-range p start end CodeFlash block count d st =
     simp (le-ltb _ _ (in_order p start end CodeFlash block count st), whole-yes p start end CodeFlash block count st, stretch-is p start end CodeFlash block count st)
 good-range p start end DataFlash block count d st =
@@ -216,7 +217,7 @@ spot-law p a at l =
     }
 
 pub place-lies : (p : Part) (at : ℕ) (a : Area) (offset block page : ℕ) → place_of p at ≡ In a offset block page → Spot p at a offset block page
-unfolding place_of place_in if◌then◌else◌
+unfolding place_of place_in
 place-lies p at a offset block page e = go (lies_in p CodeFlash at) refl (lies_in p DataFlash at) refl e
   where
     in_area : (b : Area) → lies_in p b at ≡ true → In b (at - first b) (block_of p b at) (page_of p b at) ≡ In a offset block page → Spot p at a offset block page
@@ -239,7 +240,7 @@ outside-code p at h = simp (leb-zero at, le-ltb _ _ (let z : 0 + size p CodeFlas
 
 -- An address that lies in an area has its place there.
 pub lies-place : (p : Part) (a : Area) (at : ℕ) → described p ≡ true → LiesIn p a at → place_of p at ≡ place_in p a at
-unfolding place_of if◌then◌else◌
+unfolding place_of
 lies-place p CodeFlash at d l = simp (lies-yes l)
 lies-place p DataFlash at d l = simp (outside-code p at (omega (arith, areas-apart p d, l.low)), lies-yes l)
 
@@ -285,11 +286,9 @@ unfolding first_of
 first-row x xs = refl
 
 pub first-here : (r : Refusal) (t : Bool) (xs : List Condition) → t ≡ true → first_of (r when t ∷ xs) ≡ Refused r
-unfolding if◌then◌else◌
 first-here r t xs h = rw (first-row, h)
 
 pub first_on : (r : Refusal) (t : Bool) (xs : List Condition) → t ≡ false → first_of (r when t ∷ xs) ≡ first_of xs
-unfolding if◌then◌else◌
 first_on r t xs h = rw (first-row, h)
 
 pub none-held : first_of [] ≡ Accepted
@@ -305,7 +304,6 @@ barred : (r : Refusal) → Refused r ≡ Accepted → ⊥
 barred r e = let z : ◌≡◌ {A = ℕ} 0 1 = cc in omega arith
 
 pub passed : (x : Condition) (xs : List Condition) → first_of (x ∷ xs) ≡ Accepted → Passed x xs
-unfolding if◌then◌else◌
 passed x xs e = go x.holds refl (sym (first-row x xs) ∙ e)
   where
     go : (t : Bool) → x.holds ≡ t → (if t then Refused x.refusal else first_of xs) ≡ Accepted → Passed x xs
@@ -317,7 +315,7 @@ passes x xs h e = first_on x.refusal x.holds xs h ∙ e
 
 -- A row before another: where one of its conditions holds, the other is not reached; where none does, the other decides.
 pub row_ends : (xs ys : List Condition) (r : Refusal) → first_of xs ≡ Refused r → first_of (xs ++ ys) ≡ Refused r
-unfolding first_of if◌then◌else◌
+unfolding first_of
 row_ends [] ys r e = absurd (barred r (sym e))
 row_ends (x ∷ xs) ys r e = go x.holds e (row_ends xs ys r)
   where

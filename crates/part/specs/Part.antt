@@ -1,6 +1,6 @@
 -- Document 01, "The part": the description, the two areas of flash, their blocks and pages; and from "Commands" what a good range is.
-use Rattle.std.specs.Prelude.{ℕ, ◌+◌, ◌-◌, ◌*◌, ◌/◌, ◌%◌, Bool, ◌≡◌, leb, ltb, eqb, length, replicate}
-use Rattle.words.specs.Words.{◌and◌, ◌from◌to◌, if◌then◌else◌}
+use Rattle.std.specs.Prelude.{ℕ, ◌+◌, ◌-◌, ◌*◌, ◌/◌, ◌%◌, Bool, ◌≡◌, leb, ltb, eqb, length, replicate, if◌then◌else◌}
+use Rattle.words.specs.Words.{◌and◌, ◌from◌to◌}
 use Rattle.part.specs.declared.Part.{Part}
 use Rattle.part.specs.declared.Area.{Area}
 use Rattle.part.specs.declared.Area.TheVariants.{CodeFlash, DataFlash}

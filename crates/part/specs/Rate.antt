@@ -1,7 +1,7 @@
 -- What 9Ah accepts and answers: document 01, "Commands", 9Ah.
-use Rattle.std.specs.Prelude.{Bool, ℕ, leb}
+use Rattle.std.specs.Prelude.{Bool, ℕ, leb, if◌then◌else◌}
 use Rattle.part.specs.declared.Part.{Part}
-use Rattle.words.specs.Words.{◌and◌, ◌from◌to◌, if◌then◌else◌}
+use Rattle.words.specs.Words.{◌and◌, ◌from◌to◌}
 
 -- "rate 00h to 03h (115,200, 250,000, 500,000, 1,000,000); supply 18 to 55 in 100 m_v"
 unfoldable pub accepts_rate : Part → ℕ → ℕ → Bool

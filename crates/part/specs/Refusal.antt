@@ -1,10 +1,9 @@
 -- Document 01, "Refusal numbers": the number of each refusal.
-use Rattle.std.specs.Prelude.{Bool, List, [], ◌∷◌, ℕ}
+use Rattle.std.specs.Prelude.{Bool, List, [], ◌∷◌, ℕ, if◌then◌else◌}
 use Rattle.part.specs.declared.refusal.Refusal.{Refusal}
 use Rattle.part.specs.declared.refusal.Refusal.TheVariants.{BadPart, BadRange, BadState, CodeLength, DataLength, ImageLength, ManyRetries, OutOfTurn, ShortRoom}
 use Rattle.part.specs.declared.refusal.Verdict.{Verdict}
 use Rattle.part.specs.declared.refusal.Verdict.TheVariants.{Accepted, Refused}
-use Rattle.words.specs.Words.{if◌then◌else◌}
 
 abbrev pub number : Refusal → ℕ
 number BadPart = 1  -- part description outside its numbers, or rate or supply of a job outside 9Ah's

@@ -1,5 +1,6 @@
 -- Laws about capture records, over their form.
 -- Assumes nothing.
+use Rattle.std.specs.Prelude.{if◌then◌else◌}
 use mathlib.Core.Bool.{Bool, false, false≢true, not, true}
 use mathlib.Core.List.{List, [], ◌∷◌}
 use mathlib.Core.Path.{◌∙◌, ◌≡◌, ap, refl, sym}
@@ -15,7 +16,7 @@ use Rattle.replay_capture.specs.declared.Form.TheVariants.{New, Old}
 use Rattle.replay_capture.specs.declared.Record.TheVariants.{BadRecord, BytesRecord, GapRecord, OtherSeat}
 use Rattle.lent.specs.Lent.{all_are}
 use Rattle.words.proofs.Laws.{and_left, and_right}
-use Rattle.words.specs.Words.{◌and◌, ◌from◌to◌, if◌then◌else◌}
+use Rattle.words.specs.Words.{◌and◌, ◌from◌to◌}
 
 -- The two forms' numbers: whatever is said of sizes below is said by these, over the form.
 pub record Sizes (form : Form) : Type 0 where
@@ -84,7 +85,7 @@ good-is form bs e =
 
 -- The count of a good record: 0 of a gap, else 1 to as many as there are data bytes.
 pub count_most : (form : Form) (kind n : ℕ) → good_count form kind n ≡ true → n ≤ data_size form
-unfolding good_count ◌and◌ ◌from◌to◌ if◌then◌else◌
+unfolding good_count ◌and◌ ◌from◌to◌
 count_most form kind n e = gaps (eqb kind 0x00) e
   where
     bytes : (t : Bool) → t and leb 1 n and leb n (data_size form) ≡ true → n ≤ data_size form
@@ -96,7 +97,7 @@ count_most form kind n e = gaps (eqb kind 0x00) e
     gaps false h = bytes (eqb kind 0x01) h
 
 pub count-least : (form : Form) (kind n : ℕ) → good_count form kind n ≡ true → eqb kind 0x00 ≡ false → 1 ≤ n
-unfolding good_count ◌and◌ ◌from◌to◌ if◌then◌else◌
+unfolding good_count ◌and◌ ◌from◌to◌
 count-least form kind n e h = bytes (eqb kind 0x01) (sym (ap (λ (t : Bool). if t then eqb n 0 else eqb kind 0x01 and leb 1 n and leb n (data_size form)) h) ∙ e)
   where
     bytes : (t : Bool) → t and leb 1 n and leb n (data_size form) ≡ true → 1 ≤ n
@@ -110,7 +111,7 @@ pub record Carries (form : Form) (n : ℕ) (bs : List ℕ) : Type 0 where
   pub most : n ≤ data_size form
 
 pub carries-is : (form : Form) (n : ℕ) (bs : List ℕ) → record_of form bs ≡ BytesRecord n → Carries form n bs
-unfolding record_of if◌then◌else◌
+unfolding record_of
 carries-is form n bs e = judged (good_record form bs) refl e
   where
     kinds : (t : Bool) → eqb (kind bs) 0x00 ≡ t → Sound form bs → (if t then GapRecord else BytesRecord (count bs)) ≡ BytesRecord n → Carries form n bs

@@ -1,13 +1,13 @@
 -- Capture records, of the old form and of the new: document 01, "Replay", and 02, section 5. What a good record is, over its form and its bytes; its seat and its
 -- tick; what it is to a replay, and what it carries.
-use Rattle.std.specs.Prelude.{Bool, not, List, [], ◌∷◌, ◌+◌, ◌-◌, suc, zero, ℕ, eqb, leb, drop, get_or, length, take}
+use Rattle.std.specs.Prelude.{Bool, not, List, [], ◌∷◌, ◌+◌, ◌-◌, suc, zero, ℕ, eqb, leb, drop, get_or, length, take, if◌then◌else◌}
 use Rattle.replay_capture.specs.declared.Form.{Form}
 use Rattle.replay_capture.specs.declared.Form.TheVariants.{New, Old}
 use Rattle.replay_capture.specs.declared.Record.{Record}
 use Rattle.replay_capture.specs.declared.Record.TheVariants.{BadRecord, BytesRecord, GapRecord, OtherSeat}
 use Rattle.lent.specs.Lent.{all_are}
 use Rattle.numbers.specs.Numbers.{number_at}
-use Rattle.words.specs.Words.{◌and◌, ◌from◌to◌, if◌then◌else◌}
+use Rattle.words.specs.Words.{◌and◌, ◌from◌to◌}
 
 -- "Capture records are 8 bytes, no header: kind, count, six bytes." "New records are 16 bytes, no header: kind, count, seat (0 or 1), 00h, tick as four bytes
 -- low first, eight data bytes"

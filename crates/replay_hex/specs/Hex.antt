@@ -1,6 +1,5 @@
 -- A line of hex: document 01, "Replay" ("Each reply frame is one line of hex"). Upper-case digits, single spaces, a newline at the end.
-use Rattle.std.specs.Prelude.{List, [], ◌∷◌, ◌%◌, ◌+◌, ◌/◌, ℕ, ltb}
-use Rattle.words.specs.Words.{if◌then◌else◌}
+use Rattle.std.specs.Prelude.{List, [], ◌∷◌, ◌%◌, ◌+◌, ◌/◌, ℕ, ltb, if◌then◌else◌}
 
 -- '0' is 30h, 'A' is 41h.
 unfoldable pub digit_of : ℕ → ℕ

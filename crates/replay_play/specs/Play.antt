@@ -1,6 +1,6 @@
 -- The play of one record, of either form: document 01, "Replay", and 02, section 5. The events of a good record go to the chip one after the other;
 -- its reply frames are kept in order, end to end.
-use Rattle.std.specs.Prelude.{List, [], ◌++◌, ◌∷◌, map, ◌*◌, ◌+◌, ℕ, ltb, drop, length, take}
+use Rattle.std.specs.Prelude.{List, [], ◌++◌, ◌∷◌, map, ◌*◌, ◌+◌, ℕ, ltb, drop, length, take, if◌then◌else◌}
 use Rattle.replay_capture.specs.Capture.{carried_bytes, data_size, record_of}
 use Rattle.replay_capture.specs.declared.Form.{Form}
 use Rattle.replay_capture.specs.declared.Record.{Record}
@@ -19,7 +19,6 @@ use Rattle.replay_play.specs.declared.PlayedRecord.{PlayedRecord}
 use Rattle.replay_play.specs.declared.RecordEnded.{RecordEnded}
 use Rattle.replay_play.specs.declared.RecordEnded.TheVariants.{NotGood, OutputShort, Played}
 use Rattle.replay_play.specs.declared.RecordEnded.TheVariants as RecordEnded
-use Rattle.words.specs.Words.{if◌then◌else◌}
 
 -- What has been played so far: what the last event left, and all reply frames with their number.
 pub record Playing : Type 0 where

@@ -2,11 +2,6 @@
 -- They are `unfoldable`: a proof that looks into one says so.
 use Rattle.std.specs.Prelude.{Bool, true, false, ℕ, leb}
 
-infix 5 if◌then◌else◌
-unfoldable pub if◌then◌else◌ : {A : Type 0} → Bool → A → A → A
-if true then a else b = a
-if false then a else b = b
-
 infixr 8 ◌and◌
 unfoldable pub ◌and◌ : Bool → Bool → Bool
 true and b = b

@@ -1,13 +1,12 @@
 -- `chip_pages::page_status` meets its contract: 06h where programming leaves what was sent.
 -- Assumes nothing.
 use Rattle.chip_pages.specs.Pages.{page_status}
-use Rattle.words.specs.Words.{if◌then◌else◌}
 use Rattle.chip_pages.proofs.page_status.Goals as goal
 
 pub returns-then-lands : goal.returns-then-lands
-unfolding page_status if◌then◌else◌
+unfolding page_status
 returns-then-lands c = simp (← c.lands.ensures, c.if-lands.true)
 
 pub returns : goal.returns
-unfolding page_status if◌then◌else◌
+unfolding page_status
 returns c = simp (← c.lands.ensures, c.if-lands.false)

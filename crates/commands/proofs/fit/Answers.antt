@@ -2,13 +2,12 @@
 -- Assumes nothing.
 use borrow.Author.Tests.{eq-eqb, ne_eqb}
 use Rattle.commands.specs.Commands.{fitted}
-use Rattle.words.specs.Words.{if◌then◌else◌}
 use Rattle.commands.proofs.fit.Goals as goal
 
 pub returns-then-n-len : goal.returns-then-n-len
-unfolding fitted if◌then◌else◌
+unfolding fitted
 returns-then-n-len c = simp (eq-eqb _ _ c.if-n-len.true)
 
 pub returns : goal.returns
-unfolding fitted if◌then◌else◌
+unfolding fitted
 returns c = simp (ne_eqb _ _ c.if-n-len.false)

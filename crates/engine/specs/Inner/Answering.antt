@@ -1,5 +1,5 @@
 -- Where the engine stands, as the code has it: the chip's record and the numbers told, beside flash, the sums and the room that are lent.
-use Rattle.std.specs.Prelude.{List, ◌≡◌, ◌*◌, ◌+◌, ◌-◌, ◌<◌, ◌≤◌, ℕ, drop, get_or, length, take}
+use Rattle.std.specs.Prelude.{List, ◌≡◌, ◌*◌, ◌+◌, ◌-◌, ◌<◌, ◌≤◌, ℕ, drop, get_or, length, take, if◌then◌else◌}
 use Rattle.chip_core.specs.Effect.{Memory}
 use Rattle.chip_core.specs.Hearing.{hearing}
 use Rattle.chip_core.specs.declared.Core.{Core}
@@ -11,7 +11,6 @@ use Rattle.engine.specs.declared.ToldSoFar.{ToldSoFar}
 use Rattle.frame.specs.Collector.{holding}
 use Rattle.frame.specs.Frame.{complete, counted, overhead}
 use Rattle.frame.specs.declared.collector.Collector.{Collector}
-use Rattle.words.specs.Words.{if◌then◌else◌}
 
 abbrev pub stand_of : Core → ToldSoFar → Memory → List ℕ → Stand
 stand_of k t m room =

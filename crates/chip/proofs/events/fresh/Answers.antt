@@ -1,13 +1,12 @@
 -- `chip::events::fresh` meets its contract: each field is the definition's.
 -- Assumes nothing.
 use Rattle.chip.specs.Step.{fresh_chip, fresh_of}
-use Rattle.words.specs.Words.{if◌then◌else◌}
 use Rattle.chip.proofs.events.fresh.Goals as goal
 
 pub returns-then-is_described : goal.returns-then-is_described
-unfolding fresh_of fresh_chip if◌then◌else◌
+unfolding fresh_of fresh_chip
 returns-then-is_described c = simp (← c.fresh-options.ensures, ← c.new.ensures, ← c.is_described.ensures, c.if-is_described.true)
 
 pub returns : goal.returns
-unfolding fresh_of fresh_chip if◌then◌else◌
+unfolding fresh_of fresh_chip
 returns c = simp (← c.fresh-options.ensures, ← c.new.ensures, ← c.is_described.ensures, c.if-is_described.false)
