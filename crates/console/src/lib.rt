@@ -48,7 +48,7 @@ pub struct Filled {
     pub error: Option<io::Error>,
 }
 
-// One read, and once more where a signal cut it short.
+// One read, and again as often as a signal cuts it short.
 fn read_some<R: Read>(from: &mut R, buf: &mut [u8]) -> io::Result<usize>
     ensures bound { ReadsAtMost result buf.new }
     ensures ok { IfOk result (λ n. Consumes (R.remaining from.old) (R.remaining from.new) (take n buf.new)) }

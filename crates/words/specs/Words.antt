@@ -1,4 +1,4 @@
--- The words that every definition of the house is written with: if-then-else, and, or, a number in a range.
+-- The words that every definition of the house is written with, beside the library's if-then-else: and, or, a number in a range.
 -- They are `unfoldable`: a proof that looks into one says so.
 use Rattle.std.specs.Prelude.{Bool, true, false, ℕ, leb}
 
