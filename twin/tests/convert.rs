@@ -1,7 +1,9 @@
 //! The built program `convert` and bin/convert beside the twin: random captures of both forms, what is refused, and what is left where it is (02 §5).
 
+use std::ffi::OsStr;
 use std::fs::{self, File};
 use std::io::{self, Write};
+use std::os::unix::ffi::OsStrExt;
 use std::os::unix::fs::{symlink, PermissionsExt};
 use std::path::{Path, PathBuf};
 use std::process::{Child, Command, Output, Stdio};
@@ -411,6 +413,26 @@ fn both_ways() {
     script.put("a name; with $(odd) 'signs'", &old());
     script.done(&["--to-new", "a name; with $(odd) 'signs'", "and out * too"]);
     assert_eq!(script.get("and out * too"), new());
+}
+
+/// The program's library opens no file whose name is not UTF-8; the script has such captures converted all the same.
+#[test]
+fn names_that_are_no_text() {
+    let script = Script::new("no-text");
+    let folder = script.at.join(OsStr::from_bytes(b"folder-\xFF"));
+    fs::create_dir(&folder).unwrap();
+    fs::write(folder.join(OsStr::from_bytes(b"old-\xFF")), old()).unwrap();
+    let name = |bytes: &'static [u8]| OsStr::from_bytes(bytes);
+    let mut command = script.command(&["--to-new"]);
+    command.args([name(b"folder-\xFF/old-\xFF"), name(b"folder-\xFF/out")]);
+    assert_eq!(
+        said(command.output().unwrap()),
+        (Some(0), String::new(), String::new())
+    );
+    assert_eq!(fs::read(folder.join("out")).unwrap(), new());
+    assert_eq!(fs::read_dir(&folder).unwrap().count(), 2);
+    fs::remove_dir_all(&folder).unwrap();
+    script.nothing_left();
 }
 
 /// One line, status 1, and OUT as it was, or not made.

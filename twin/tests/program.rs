@@ -2,9 +2,11 @@
 //! same by the plain engine, which must print the same lines (02 §7).
 
 use std::collections::BTreeSet;
+use std::ffi::OsString;
 use std::fs::{self, File};
 use std::io::{self, Write};
 use std::ops::RangeInclusive;
+use std::os::unix::ffi::OsStringExt;
 use std::path::{Path, PathBuf};
 use std::process::{Command, Output, Stdio};
 use std::sync::atomic::{AtomicU64, Ordering};
@@ -512,6 +514,24 @@ fn by_script(words: &[&str]) -> (Option<i32>, String, String) {
         String::from_utf8(output.stdout).unwrap(),
         String::from_utf8(output.stderr).unwrap(),
     )
+}
+
+/// The program's library opens no file whose name is not UTF-8; the script hands such a one on all the same.
+#[test]
+fn a_name_that_is_no_text() {
+    program();
+    let captures = top().join("captures");
+    let mut name = scratch("no-text-").into_os_string().into_vec();
+    name.push(0xFF);
+    let file = OsString::from_vec(name);
+    fs::write(&file, make(&captures.join("whole-case.txt")).unwrap()).unwrap();
+    let output = Command::new(top().join("bin/replay"))
+        .arg(&file)
+        .stdin(Stdio::null())
+        .output()
+        .unwrap();
+    let must = fs::read(captures.join("whole-case.out")).unwrap();
+    assert_eq!((output.status.code(), output.stdout), (Some(0), must));
 }
 
 /// A text is replayed as what it is, a capture as what is told, and as old where nothing is.
