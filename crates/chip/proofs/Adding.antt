@@ -33,7 +33,7 @@ use Rattle.frame.specs.declared.collector.Collector.{Collector}
 use Rattle.part.specs.declared.Part.{Part}
 use Rattle.part.specs.declared.refusal.Verdict.{Verdict}
 use Rattle.part.specs.declared.refusal.Verdict.TheVariants.{Accepted}
-use Rattle.words.specs.Words.{◌and◌}
+use Rattle.words.specs.Words.{◌and◌, if◌then◌otherwise◌}
 
 -- The verdict depends on what is collected only by whether the state is good.
 abbrev pub verdict_at : Part → Chip → Memory → List ℕ → Verdict
@@ -61,7 +61,7 @@ record HeardAs (f : Hearing) (c : Collector) (b : ℕ) : Type 0 where
 
 heard-as : (f : Hearing) (c : Collector) (b : ℕ) → length c.bytes ≡ 260 → (c.len ≡ 0 → Opens f b) → completes_at c.len (get_or c.bytes 1 0) ≡ false
     → good_collected f c.len (get_or c.bytes 0 0) (get_or c.bytes 1 0) ≡ true → HeardAs f c b
-unfolding way_of way_on
+unfolding way_of way_on if◌then◌otherwise◌
 heard-as HearsNothing c b l o s e = absurd (o (none-collected _ _ _ e))
 heard-as HearsCommands c b l o s e = record { header = Command; way = simp s; adds = adds-byte c Command b l (begun Command c l (sym (command-collected _ _ _) ∙ e)) o }
 heard-as (HearsData w) c b l o s e = record { header = Data; way = simp s; adds = adds-byte c Data b l (begun Data c l (sym (data-collected w _ _ _) ∙ e)) o }

@@ -1,6 +1,5 @@
 -- Laws of a step, over plain variables: what an accepted state gives, when a byte completes a frame, and how each way of a step settles.
 -- Assumes nothing.
-use Rattle.std.specs.Prelude.{if◌then◌else◌}
 use mathlib.Core.Bool.{Bool, false, true}
 use mathlib.Core.List.{List, [], ◌++◌, ◌∷◌}
 use mathlib.Core.Path.{◌∙◌, ◌≡◌, ap, refl, sym}
@@ -45,7 +44,7 @@ use Rattle.chip_reply.proofs.Laws.{fault-silence, said-silence, send-said}
 use Rattle.chip_reply.specs.Reply.{Said, fault_in, payloads, said, said_of, send_of}
 use Rattle.chip_reply.specs.declared.Sent.{Sent}
 use Rattle.words.proofs.Laws.{and_both}
-use Rattle.words.specs.Words.{◌and◌}
+use Rattle.words.specs.Words.{◌and◌, if◌then◌otherwise◌}
 
 -- When a byte completes a frame, by count and LEN byte.
 completes-early : (n x : ℕ) → n < 2 → completes_at n x ≡ false
@@ -121,11 +120,11 @@ next-within c d h b l g e =
     omega (arith, hear-long h (heard c) b, length-heard c (omega (arith, g.within)), g.within)
 
 heard-done : (hs f : List ℕ) (x : List ℕ → Effect) (k : Core) (m : Memory) → f ≡ hs → complete hs ≡ true → reaction [] (x f) ≡ heard_byte hs (x hs) k m
-unfolding heard_byte
+unfolding heard_byte if◌then◌otherwise◌
 heard-done hs f x k m e t = rw t (ap (λ (g : List ℕ). reaction [] (x g)) e)
 
 heard-on : (hs : List ℕ) (x : Effect) (k : Core) (m : Memory) → complete hs ≡ false → reaction hs (silent k m) ≡ heard_byte hs x k m
-unfolding heard_byte
+unfolding heard_byte if◌then◌otherwise◌
 heard-on hs x k m t = rw t
 
 -- A byte that completes a frame, and one that does not. x is what a complete frame does.
@@ -158,26 +157,26 @@ begun-in p c k f h code flash room l a e g =
 
 -- What the way of a byte says.
 hears-is : (h g : Header) (n x : ℕ) → way_on h n x ≡ Hears g → (completes_at n x ≡ false) × (h ≡ g)
-unfolding way_on
+unfolding way_on if◌then◌otherwise◌
 hears-is h g n x e = go (completes_at n x) refl e
   where
-    go : (t : Bool) → completes_at n x ≡ t → (if t then Completes h else Hears h) ≡ Hears g → (completes_at n x ≡ false) × (h ≡ g)
+    go : (t : Bool) → completes_at n x ≡ t → (if t then Completes h otherwise Hears h) ≡ Hears g → (completes_at n x ≡ false) × (h ≡ g)
     go true u e = absurd (let z : ◌≡◌ {A = ℕ} 0 1 = cc in omega arith)
     go false u e = (u, cc)
 
 completes-way : (h g : Header) (n x : ℕ) → way_on h n x ≡ Completes g → (completes_at n x ≡ true) × (h ≡ g)
-unfolding way_on
+unfolding way_on if◌then◌otherwise◌
 completes-way h g n x e = go (completes_at n x) refl e
   where
-    go : (t : Bool) → completes_at n x ≡ t → (if t then Completes h else Hears h) ≡ Completes g → (completes_at n x ≡ true) × (h ≡ g)
+    go : (t : Bool) → completes_at n x ≡ t → (if t then Completes h otherwise Hears h) ≡ Completes g → (completes_at n x ≡ true) × (h ≡ g)
     go true u e = (u, cc)
     go false u e = absurd (let z : ◌≡◌ {A = ℕ} 0 1 = cc in omega arith)
 
 no_mode : (h : Header) (n x : ℕ) → way_on h n x ≡ Mode → ⊥
-unfolding way_on
+unfolding way_on if◌then◌otherwise◌
 no_mode h n x e = go (completes_at n x) e
   where
-    go : (t : Bool) → (if t then Completes h else Hears h) ≡ Mode → ⊥
+    go : (t : Bool) → (if t then Completes h otherwise Hears h) ≡ Mode → ⊥
     go true e = let z : ◌≡◌ {A = ℕ} 0 1 = cc in omega arith
     go false e = let z : ◌≡◌ {A = ℕ} 0 1 = cc in omega arith
 

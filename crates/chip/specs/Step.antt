@@ -1,6 +1,6 @@
 -- One step: document 01, "Phases", "Collecting" and "Refusal numbers" (chip). An event comes; what was heard becomes what is heard now, a complete
 -- frame does its work, replies become bytes in the room. Refusals come first.
-use Rattle.std.specs.Prelude.{List, [], ℕ, length, if◌then◌else◌}
+use Rattle.std.specs.Prelude.{List, [], ℕ, length}
 use Rattle.chip.specs.declared.Answer.{Answer}
 use Rattle.chip.specs.declared.Answer.TheVariants.{Replied}
 use Rattle.chip.specs.declared.Answer.TheVariants as Answer
@@ -30,6 +30,7 @@ use Rattle.part.specs.declared.refusal.Verdict.TheVariants.{Accepted}
 use Rattle.part.specs.declared.refusal.Verdict.TheVariants as Verdict
 use Rattle.chip_reply.specs.Reply.{fault_in, payloads, said_of}
 use Rattle.chip_reply.specs.declared.Sent.{Sent}
+use Rattle.words.specs.Words.{if◌then◌otherwise◌}
 
 -- What is heard now, and what was done.
 pub record Reaction : Type 0 where
@@ -41,7 +42,7 @@ reaction hs x = record { hears = hs; does = x }
 
 -- A byte while a frame is awaited: a complete frame does its work, and nothing is collected then.
 unfoldable pub heard_byte : List ℕ → Effect → Core → Memory → Reaction
-heard_byte hs x k m = if complete hs then reaction [] x else reaction hs (silent k m)
+heard_byte hs x k m = if complete hs then reaction [] x otherwise reaction hs (silent k m)
 
 -- A byte: the mode byte where no frame is awaited, else one more byte of a frame.
 unfoldable pub byte_in : Hearing → Part → Core → List ℕ → ℕ → Memory → Reaction
@@ -99,4 +100,4 @@ fresh_chip p = record { core = record { options = fresh_options p; rate = 0x00; 
 unfoldable pub fresh_of : Part → Step
 fresh_of p =
     if described p then record { answer = Replied 0 0; fault = Good; chip = fresh_chip p }
-    else record { answer = Answer.Refused BadPart; fault = Good; chip = fresh_chip p }
+    otherwise record { answer = Answer.Refused BadPart; fault = Good; chip = fresh_chip p }

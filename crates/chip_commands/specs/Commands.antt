@@ -1,5 +1,5 @@
 -- The command frames: document 01, "Phases" and "Commands", in the judging order of "Frames"; 000, chapter 3.
-use Rattle.std.specs.Prelude.{Bool, false, not, List, ℕ, eqb, get_or, if◌then◌else◌}
+use Rattle.std.specs.Prelude.{Bool, false, not, List, ℕ, eqb, get_or}
 use Rattle.chip_core.specs.Effect.{Effect, Memory, acknowledge, awaiting, command_error, effect, says, told}
 use Rattle.chip_core.specs.declared.Core.{Core}
 use Rattle.chip_core.specs.declared.Phase.{Phase}
@@ -18,6 +18,7 @@ use Rattle.frame.specs.declared.Footer.TheVariants.{Last}
 use Rattle.frame.specs.declared.judgement.Judgement.TheVariants.{UnfitLength}
 use Rattle.part.specs.Part.{place_of, range_of}
 use Rattle.part.specs.declared.Part.{Part}
+use Rattle.words.specs.Words.{if◌then◌otherwise◌}
 
 -- "2. Only 9Ah. 3. Ready: all but 9Ah.", by COM.
 unfoldable pub allowed_in : Phase → ℕ → Bool
@@ -50,5 +51,5 @@ reading_does (Meant c) p k m = work c p k m
 unfoldable pub command_does : Part → Core → List ℕ → Memory → Effect
 command_does p k f m =
     if not (is_good (judge_of Last f)) then effect (told (BadFrame (judge_of Last f)) k) m
-    else if not (allowed_in k.phase (get_or (payload f) 0 0)) then effect (says command_error k) m
-    else reading_does (read_command (payload f)) p k m
+    otherwise if not (allowed_in k.phase (get_or (payload f) 0 0)) then effect (says command_error k) m
+    otherwise reading_does (read_command (payload f)) p k m

@@ -1,6 +1,5 @@
 -- Laws of a stretch of bytes: how far a loop over it has come, and how many bytes are taken.
 -- Assumes nothing.
-use Rattle.std.specs.Prelude.{if◌then◌else◌}
 use mathlib.Core.Bool.{Bool, false, true}
 use mathlib.Core.List.{List, [], ◌∷◌}
 use mathlib.Core.Path.{◌∙◌, ◌≡◌, ap, refl, sym}
@@ -23,6 +22,7 @@ use Rattle.chip_state.specs.declared.Chip.{Chip}
 use Rattle.part.specs.Part.{Arrays}
 use Rattle.part.specs.declared.Part.{Part}
 use Rattle.part.specs.declared.refusal.Refusal.{Refusal}
+use Rattle.words.specs.Words.{if◌then◌otherwise◌}
 
 -- How far a loop over bytes has come: t is what the bytes still to come make of o.
 pub record FedFrom (p : Part) (bs : List ℕ) (i : ℕ) (o : Outcome) (t : Feeding) : Type 0 where
@@ -53,11 +53,11 @@ unfolding feed_from
 fed-byte p bs i o x t f e h = rw (e, add-one) (rw (drop-cons bs i 0 h, add-one) at f.rest)
 
 pub on-silent : (a : Answer) (i n k : ℕ) (x : Outcome) (rest : Feeding) → a ≡ Replied n k → k ≤ 0 → fed_on a i x rest ≡ rest
-unfolding fed_on
+unfolding fed_on if◌then◌otherwise◌
 on-silent a i n k x rest e z = rw (e, eq-eqb k 0 (omega arith))
 
 pub on-said : (a : Answer) (i n k : ℕ) (x : Outcome) (rest : Feeding) → a ≡ Replied n k → 0 < k → feeding (i + 1) x ≡ fed_on a i x rest
-unfolding fed_on
+unfolding fed_on if◌then◌otherwise◌
 on-said a i n k x rest e z = rw (e, ne_eqb k 0 (λ q. omega arith))
 
 pub on-refused : (a : Answer) (i : ℕ) (r : Refusal) (x : Outcome) (rest : Feeding) → a ≡ Refused r → feeding i x ≡ fed_on a i x rest
@@ -87,11 +87,11 @@ fed-end {p} {bs} {i} {o} {t} f h = rw (drop_of_length-le bs h) at f.rest
 -- How many bytes are taken: none twice, none that is not there, and at least one where there is one and it is not refused.
 on-taken : (a : Answer) (n h : ℕ) (x : Outcome) (rest : Feeding) → n < h → n + 1 ≤ rest.taken → rest.taken ≤ h
     → (n ≤ (fed_on a n x rest).taken) × ((fed_on a n x rest).taken ≤ h)
-unfolding fed_on
+unfolding fed_on if◌then◌otherwise◌
 on-taken (Refused r) n h x rest l u v = (omega arith, omega arith)
 on-taken (Replied m k) n h x rest l u v = go (eqb k 0)
   where
-    go : (t : Bool) → (n ≤ (if t then rest else feeding (n + 1) x).taken) × ((if t then rest else feeding (n + 1) x).taken ≤ h)
+    go : (t : Bool) → (n ≤ (if t then rest otherwise feeding (n + 1) x).taken) × ((if t then rest otherwise feeding (n + 1) x).taken ≤ h)
     go true = (omega arith, v)
     go false = (omega arith, omega arith)
 
@@ -104,11 +104,11 @@ feed-within p n (b ∷ bs) o =
 
 on-takes : (a : Answer) (n m k : ℕ) (x : Outcome) (rest : Feeding) → x.answer ≡ a → n + 1 ≤ rest.taken → (fed_on a n x rest).left.answer ≡ Replied m k
     → n + 1 ≤ (fed_on a n x rest).taken
-unfolding fed_on
+unfolding fed_on if◌then◌otherwise◌
 on-takes (Refused r) n m k x rest e u q = absurd (let z : ◌≡◌ {A = ℕ} 0 1 = cc in omega arith)
 on-takes (Replied j i) n m k x rest e u q = go (eqb i 0)
   where
-    go : (t : Bool) → n + 1 ≤ (if t then rest else feeding (n + 1) x).taken
+    go : (t : Bool) → n + 1 ≤ (if t then rest otherwise feeding (n + 1) x).taken
     go true = u
     go false = omega arith
 
@@ -121,11 +121,11 @@ feed-takes p n m k b bs o q =
 -- What a stretch says lies in the room, as what a step says does.
 fed-on-fits : (a : Answer) (n : ℕ) (x : Outcome) (rest : Feeding) → Fitting x.answer (length x.room) → Fitting rest.left.answer (length rest.left.room)
     → Fitting (fed_on a n x rest).left.answer (length (fed_on a n x rest).left.room)
-unfolding fed_on
+unfolding fed_on if◌then◌otherwise◌
 fed-on-fits (Refused r) n x rest f g = f
 fed-on-fits (Replied b k) n x rest f g = go (eqb k 0)
   where
-    go : (t : Bool) → Fitting (if t then rest else feeding (n + 1) x).left.answer (length (if t then rest else feeding (n + 1) x).left.room)
+    go : (t : Bool) → Fitting (if t then rest otherwise feeding (n + 1) x).left.answer (length (if t then rest otherwise feeding (n + 1) x).left.room)
     go true = g
     go false = f
 

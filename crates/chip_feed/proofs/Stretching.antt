@@ -1,6 +1,5 @@
 -- A stretch of bytes that are only added to what is collected, in the loop over all: each is a step that answers nothing.
 -- Assumes nothing.
-use Rattle.std.specs.Prelude.{if◌then◌else◌}
 use mathlib.Core.Bool.{Bool, false, true}
 use mathlib.Core.List.{List, [], ◌∷◌}
 use mathlib.Core.Path.{◌∙◌, ◌≡◌, ap, refl, subst, sym}
@@ -27,6 +26,7 @@ use Rattle.frame.specs.Frame.{counted, lacking_of}
 use Rattle.frame.specs.declared.collector.Collector.{Collector}
 use Rattle.part.specs.declared.Part.{Part}
 use Rattle.part.specs.declared.refusal.Verdict.TheVariants.{Accepted}
+use Rattle.words.specs.Words.{if◌then◌otherwise◌}
 
 -- The loop over a stretch: what the bytes still to come make of it stays the same.
 any-answer : {p : Part} {bs : List ℕ} {i : ℕ} {o : Outcome} {t : Feeding} → FedFrom p bs i o t → i < length bs → FedFrom p bs i (before o.chip o.memory o.room) t
@@ -75,10 +75,10 @@ pub data Takes (count len rest n : ℕ) : Type 0 where
   the_rest : Lacks count len rest n → Takes count len rest n
 
 takes : (count len rest n : ℕ) → 0 < rest → n ≡ added_next count len rest → 0 < n → Takes count len rest n
-unfolding added_next
+unfolding added_next if◌then◌otherwise◌
 takes count len rest n r e h = go (eqb count 1) refl e
   where
-    go : (t : Bool) → eqb count 1 ≡ t → n ≡ (if t then 1 else lacking_of count len rest) → Takes count len rest n
+    go : (t : Bool) → eqb count 1 ≡ t → n ≡ (if t then 1 otherwise lacking_of count len rest) → Takes count len rest n
     go true t e = the_len (eqb-true count 1 t) e r
     go false t e = the_rest (lacks count len rest n e h)
 

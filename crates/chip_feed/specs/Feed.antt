@@ -1,5 +1,5 @@
 -- A stretch of bytes: document 01's step for each, up to the first that is answered. A recording and a caller with more than one byte stand on it.
-use Rattle.std.specs.Prelude.{List, [], ◌∷◌, ◌+◌, ℕ, eqb, if◌then◌else◌}
+use Rattle.std.specs.Prelude.{List, [], ◌∷◌, ◌+◌, ℕ, eqb}
 use Rattle.chip.specs.Run.{onward}
 use Rattle.chip.specs.Step.{Outcome}
 use Rattle.chip.specs.declared.Answer.{Answer}
@@ -8,6 +8,7 @@ use Rattle.chip.specs.declared.Event.TheVariants.{Byte}
 use Rattle.chip_core.specs.Effect.{Memory}
 use Rattle.chip_feed.specs.declared.Fed.{Fed}
 use Rattle.part.specs.declared.Part.{Part}
+use Rattle.words.specs.Words.{if◌then◌otherwise◌}
 
 -- Bytes one after the other, up to the first that is answered: how many were taken, and what the last step left. A byte that is refused is not taken.
 pub record Feeding : Type 0 where
@@ -19,7 +20,7 @@ feeding n o = record { taken = n; left = o }
 
 -- After a byte's answer, n bytes having been taken before it: the rest goes on only in silence.
 unfoldable pub fed_on : Answer → ℕ → Outcome → Feeding → Feeding
-fed_on (Replied bytes frames) n o rest = if eqb frames 0 then rest else feeding (n + 1) o
+fed_on (Replied bytes frames) n o rest = if eqb frames 0 then rest otherwise feeding (n + 1) o
 fed_on (Refused r) n o rest = feeding n o
 
 unfoldable pub feed_from : Part → ℕ → List ℕ → Outcome → Feeding

@@ -33,7 +33,7 @@ use Rattle.part.specs.declared.Part.{Part}
 use Rattle.part.specs.declared.refusal.Refusal.{Refusal}
 use Rattle.part.specs.declared.refusal.Verdict.TheVariants.{Accepted, Refused}
 use Rattle.words.proofs.Laws.{and_left, and_right}
-use Rattle.words.specs.Words.{◌from◌to◌, ◌or◌}
+use Rattle.words.specs.Words.{◌from◌to◌, ◌or◌, if◌then◌otherwise◌}
 
 -- In phases 1 to 3 nothing is awaited, in bytes as in the record.
 abbrev NothingAwaited : List ℕ → Type 0
@@ -74,7 +74,7 @@ none-awaited bs e z =
 
 -- A phase from 1 to 4 is written back, and so is what it awaits.
 phase-back : (n : ℕ) (w : Awaited) → 1 ≤ n → n ≤ 4 → phase_number (phase_in n w) ≡ n
-unfolding phase_in
+unfolding phase_in if◌then◌otherwise◌
 phase-back zero w h k = absurd (omega arith)
 phase-back (suc zero) w h k = refl
 phase-back (suc (suc zero)) w h k = refl
@@ -83,7 +83,7 @@ phase-back (suc (suc (suc (suc zero)))) w h k = refl
 phase-back (suc (suc (suc (suc (suc n))))) w h k = absurd (omega arith)
 
 awaited-back : (n : ℕ) (w : Awaited) → 1 ≤ n → n ≤ 4 → ((n ≡ 4 → ⊥) → nothing_awaited ≡ w) → awaited_of (phase_in n w) ≡ w
-unfolding phase_in
+unfolding phase_in if◌then◌otherwise◌
 awaited-back zero w h k e = absurd (omega arith)
 awaited-back (suc zero) w h k e = e (λ x. omega arith)
 awaited-back (suc (suc zero)) w h k e = e (λ x. omega arith)
@@ -214,7 +214,7 @@ set_after (x ∷ xs) ys (suc n) i b h =
     ap (λ (j : ℕ). set (x ∷ (xs ++ ys)) j b) z ∙ ap (λ (l : List ℕ). x ∷ l) (set_after xs ys n i b (omega arith))
 
 byte_put : (b : ℕ) (bs : List ℕ) → number_at 8 25 bs < 260 → byte_laid b bs ≡ set (count_laid (number_at 8 25 bs + 1) bs) (33 + number_at 8 25 bs) b
-unfolding byte_laid
+unfolding byte_laid if◌then◌otherwise◌
 byte_put b bs h = simp (lt-ltb (number_at 8 25 bs) 260 h)
 
 pub byte-laid : (bs : List ℕ) (b : ℕ) → Below 256 bs → length bs ≡ state_size → is_state bs ≡ true → number_at 8 25 bs < 260
@@ -254,7 +254,7 @@ byte-stored s l n b e f h =
     ap (λ (x : List ℕ). set x (33 + n) b) e ∙ ap (λ (i : ℕ). set (count_laid (i + 1) s) (33 + i) b) f ∙ sym (byte_put b s (omega arith))
 
 pub byte_left : (s : List ℕ) (n b : ℕ) → n ≡ number_at 8 25 s → 260 ≤ n → s ≡ byte_laid b s
-unfolding byte_laid
+unfolding byte_laid if◌then◌otherwise◌
 byte_left s n b e h = simp (le-ltb (number_at 8 25 s) 260 (omega arith))
 
 -- A verdict before the chip is asked is the call's; otherwise it is the chip's.

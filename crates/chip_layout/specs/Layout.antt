@@ -1,5 +1,5 @@
 -- How a chip's state crosses the door as bytes: one layout of 294 bytes. Numbers cross as the crate `numbers` says, a part as `part` says.
-use Rattle.std.specs.Prelude.{Bool, false, List, [], ◌++◌, ◌∷◌, ℕ, eqb, leb, drop, get_or, take, if◌then◌else◌}
+use Rattle.std.specs.Prelude.{Bool, false, List, [], ◌++◌, ◌∷◌, ℕ, eqb, leb, drop, get_or, take}
 use Rattle.chip_state.specs.declared.Chip.{Chip}
 use Rattle.chip_core.specs.declared.Awaited.{Awaited}
 use Rattle.chip_core.specs.declared.Core.{Core}
@@ -10,7 +10,7 @@ use Rattle.numbers.specs.Numbers.{bit, low_first, number_at}
 use Rattle.lent.specs.Lent.{all_are}
 use Rattle.chip_options.specs.Options.{option_bytes, options_in}
 use Rattle.chip_options.specs.declared.Options.{Options}
-use Rattle.words.specs.Words.{◌and◌, ◌from◌to◌, ◌or◌}
+use Rattle.words.specs.Words.{◌and◌, ◌from◌to◌, ◌or◌, if◌then◌otherwise◌}
 
 -- The phases by the document's numbers, 1 to 4.
 abbrev pub phase_number : Phase → ℕ
@@ -53,7 +53,7 @@ is_state bs =
     and (eqb (get_or bs 7 0) 4 or all_are 0x00 (take 17 (drop 8 bs)) and eqb (get_or bs 293 0) 0)
 
 unfoldable pub phase_in : ℕ → Awaited → Phase
-phase_in n w = if eqb n 1 then ModeByte else if eqb n 2 then Setup else if eqb n 3 then Ready else Awaiting w
+phase_in n w = if eqb n 1 then ModeByte otherwise if eqb n 2 then Setup otherwise if eqb n 3 then Ready otherwise Awaiting w
 
 unfoldable pub awaited_held : List ℕ → Awaited
 awaited_held bs = record { command = get_or bs 8 0; next = number_at 8 9 bs; last = number_at 8 17 bs; differed = eqb (get_or bs 293 0) 1 }

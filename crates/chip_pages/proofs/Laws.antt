@@ -1,6 +1,5 @@
 -- Laws of the pages.
 -- Assumes nothing.
-use Rattle.std.specs.Prelude.{if◌then◌else◌}
 use mathlib.Core.Bool.{Bool, false, true}
 use mathlib.Core.List.{List, []}
 use mathlib.Core.Path.{◌∙◌, ◌≡◌, ap, refl, sym}
@@ -25,6 +24,7 @@ use Rattle.part.specs.Part.{page_size, place_of}
 use Rattle.part.specs.declared.Part.{Part}
 use Rattle.part.specs.declared.Place.TheVariants.{In, Outside}
 use Rattle.part.specs.declared.Place.{Place}
+use Rattle.words.specs.Words.{if◌then◌otherwise◌}
 
 -- The last page's test, without a sum that could wrap.
 pub reached : (next last size : ℕ) → last ≤ next → 0 < size → true ≡ ltb last (next + size)
@@ -42,11 +42,11 @@ unfolding is_last_page
 not_last w e = ltb-false _ _ e
 
 pub last_stored : {l : Bool} (w : Awaited) → l ≡ is_last_page w → l ≡ true → LastStored ≡ stored_reply w
-unfolding stored_reply
+unfolding stored_reply if◌then◌otherwise◌
 last_stored w e t = rw (← e, t)
 
 pub one-stored : {l : Bool} (w : Awaited) → l ≡ is_last_page w → l ≡ false → Pair acknowledge acknowledge ≡ stored_reply w
-unfolding stored_reply
+unfolding stored_reply if◌then◌otherwise◌
 one-stored w e t = rw (← e, t)
 
 -- A page written: what is left where flash holds it and its block's sum is worked out after it.
@@ -62,11 +62,11 @@ page-written {at = at} {r = r} p k w ds m a o e f g n =
 pub told-either : (P : (Awaited → Core → Done) → Type 0) (old ds : List ℕ)
     → (lands old ds ≡ true → P (λ (w : Awaited) (k : Core). told (stored_reply w) (next_page w k)))
     → (lands old ds ≡ false → P (λ (w : Awaited) (k : Core). pair acknowledge write_error (ready k))) → P (told_written (page_status old ds))
-unfolding page_status told_written
+unfolding page_status told_written if◌then◌otherwise◌
 told-either P old ds y n = go (lands old ds) y n
   where
     go : (t : Bool) → (t ≡ true → P (λ (w : Awaited) (k : Core). told (stored_reply w) (next_page w k)))
-        → (t ≡ false → P (λ (w : Awaited) (k : Core). pair acknowledge write_error (ready k))) → P (told_written (if t then acknowledge else write_error))
+        → (t ≡ false → P (λ (w : Awaited) (k : Core). pair acknowledge write_error (ready k))) → P (told_written (if t then acknowledge otherwise write_error))
     go true u v = u refl
     go false u v = v refl
 

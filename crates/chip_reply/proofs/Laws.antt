@@ -31,19 +31,19 @@ use Rattle.chip_reply.specs.declared.Reply.{Reply}
 use Rattle.chip_reply.specs.declared.Sent.{Sent}
 use Rattle.chip_reply.specs.declared.Reply.TheVariants.{BadFrame, BadPage, LastStored, Pair, Rate, Security, Signature, Silence, Status, Sum}
 use Rattle.frame.specs.declared.judgement.Judgement.TheVariants.{Good}
-use Rattle.words.specs.Words.{◌or◌}
+use Rattle.words.specs.Words.{◌or◌, if◌then◌otherwise◌}
 
 -- The answers of sending.
 pub send-short : (p : Part) (o : Options) (r : Reply) (room : List ℕ) → length room < 32 → nothing_said room ≡ send_of p o r room
-unfolding send_of ◌or◌
+unfolding send_of if◌then◌otherwise◌ ◌or◌
 send-short p o r room h = simp (lt-ltb _ _ h)
 
 pub send-undescribed : (p : Part) (o : Options) (r : Reply) (room : List ℕ) → 32 ≤ length room → described p ≡ false → nothing_said room ≡ send_of p o r room
-unfolding send_of ◌or◌
+unfolding send_of if◌then◌otherwise◌ ◌or◌
 send-undescribed p o r room h d = simp (le-ltb (length room) 32 h, d)
 
 pub send-said : (p : Part) (o : Options) (r : Reply) (room : List ℕ) → 32 ≤ length room → described p ≡ true → said_of (payloads p o r) room ≡ send_of p o r room
-unfolding send_of ◌or◌
+unfolding send_of if◌then◌otherwise◌ ◌or◌
 send-said p o r room h d = simp (le-ltb (length room) 32 h, d)
 
 -- A reply of a described part in enough room is said: s and l are what its arm left.

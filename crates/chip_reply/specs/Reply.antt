@@ -1,5 +1,5 @@
 -- The replies: document 01, "Commands" and the paragraphs on pages. A reply is a value; what it says on the wire is a list of data frames' payloads.
-use Rattle.std.specs.Prelude.{not, List, [], ◌++◌, ◌∷◌, ℕ, ltb, drop, length, if◌then◌else◌}
+use Rattle.std.specs.Prelude.{not, List, [], ◌++◌, ◌∷◌, ℕ, ltb, drop, length}
 use Rattle.frame.specs.Frame.{data_frame}
 use Rattle.frame.specs.Framing.{frames}
 use Rattle.frame.specs.Judgement.{status_of}
@@ -15,7 +15,7 @@ use Rattle.part.specs.declared.Part.{Part}
 use Rattle.chip_reply.specs.declared.Reply.{Reply}
 use Rattle.chip_reply.specs.declared.Reply.TheVariants.{BadFrame, BadPage, LastStored, Pair, Rate, Security, Signature, Silence, Status, Sum}
 use Rattle.chip_reply.specs.declared.Sent.{Sent}
-use Rattle.words.specs.Words.{◌or◌}
+use Rattle.words.specs.Words.{◌or◌, if◌then◌otherwise◌}
 
 -- The payload of each reply frame, in order.
 unfoldable pub payloads : Part → Options → Reply → List (List ℕ)
@@ -67,4 +67,4 @@ said_of rs room = said (record { bytes = length (frames_of rs); frames = length 
 unfoldable pub send_of : Part → Options → Reply → List ℕ → Said
 send_of p o r room =
     if ltb (length room) 32 or not (described p) then nothing_said room
-    else said_of (payloads p o r) room
+    otherwise said_of (payloads p o r) room

@@ -1,5 +1,5 @@
 -- Each block's sum, kept beside the chip's lasting record: document 02, §1. Where it is kept, what it is, when it is right, and all of them worked out at once.
-use Rattle.std.specs.Prelude.{not, List, [], ◌∷◌, ◌≡◌, ◌*◌, ◌+◌, ◌<◌, suc, zero, ℕ, eqb, ltb, drop, get_or, length, set, take, if◌then◌else◌}
+use Rattle.std.specs.Prelude.{not, List, [], ◌∷◌, ◌≡◌, ◌*◌, ◌+◌, ◌<◌, suc, zero, ℕ, eqb, ltb, drop, get_or, length, set, take}
 use Rattle.chip_core.specs.Effect.{Flash, Memory, bytes_in}
 use Rattle.chip_flash.specs.Flash.{sum_of_bytes}
 use Rattle.part.specs.Part.{block_size, blocks, described, size}
@@ -12,6 +12,7 @@ use Rattle.part.specs.declared.Place.TheVariants.{In, Outside}
 use Rattle.part.specs.declared.refusal.Refusal.TheVariants.{BadPart, CodeLength, DataLength}
 use Rattle.part.specs.declared.refusal.Verdict.{Verdict}
 use Rattle.part.specs.declared.refusal.Verdict.TheVariants.{Accepted, Refused}
+use Rattle.words.specs.Words.{if◌then◌otherwise◌}
 
 -- A slot for each block that a part can have: "Code flash: 8 to 64 blocks .. Data flash: 0 to 8 blocks".
 abbrev pub slots : ℕ
@@ -47,7 +48,7 @@ unfoldable pub resummed : Part → Place → Memory → Memory
 resummed p Outside m = m
 resummed p (In a offset block page) m =
     if ltb block (blocks p a) then record { flash = m.flash; sums = put_sum p a block m.flash m.sums }
-    else m
+    otherwise m
 
 -- "One call works all sums out": those of the first n blocks of an area, and of both areas. The slots of blocks that the part has not stay.
 unfoldable pub summed_to : ℕ → Part → Area → Flash → List ℕ → List ℕ

@@ -1,5 +1,5 @@
 -- The work of each command: document 01, "Commands"; 000, chapter 3. Parameters before protection, then the work.
-use Rattle.std.specs.Prelude.{Bool, false, not, ◌%◌, ℕ, eqb, ltb, if◌then◌else◌}
+use Rattle.std.specs.Prelude.{Bool, false, not, ◌%◌, ℕ, eqb, ltb}
 use Rattle.chip_core.specs.Effect.{Effect, Flash, Memory, awaiting, bytes_in, effect, says, told, with_bytes, with_flash}
 use Rattle.chip_core.specs.Effect.{acknowledge, not_blank, parameter_error, protect_error}
 use Rattle.chip_core.specs.declared.Core.{Core}
@@ -18,13 +18,13 @@ use Rattle.part.specs.declared.Place.TheVariants.{In, Outside}
 use Rattle.part.specs.declared.Range.{Range}
 use Rattle.part.specs.declared.Range.TheVariants.{Bad, Blocks}
 use Rattle.chip_reply.specs.declared.Reply.TheVariants.{Rate, Sum}
-use Rattle.words.specs.Words.{◌and◌, ◌or◌}
+use Rattle.words.specs.Words.{◌and◌, ◌or◌, if◌then◌otherwise◌}
 
 -- 9Ah: rate and supply, "else 05h. Reply holds 06h, clock, mode .. Then ready"
 unfoldable pub rate_set : Part → Core → ℕ → ℕ → Done
 rate_set p k rate supply =
     if not (accepts_rate p rate supply) then says parameter_error k
-    else told (Rate (mode_of p supply)) (record { options = k.options; rate = rate; phase = Ready })
+    otherwise told (Rate (mode_of p supply)) (record { options = k.options; rate = rate; phase = Ready })
 
 -- "Boot blocks are code blocks 0 to 3."
 abbrev pub is_boot : Area → ℕ → Bool
@@ -45,24 +45,24 @@ unfoldable pub block_erase : Part → Core → Place → Memory → Effect
 block_erase p k Outside m = effect (says parameter_error k) m
 block_erase p k (In a offset block page) m =
     if not (eqb (offset % block_size p a) 0) then effect (says parameter_error k) m
-    else if forbidden (erase_allowed p k.options.flags) (is_boot a block) (boot_allowed p k.options.flags) then effect (says protect_error k) m
-    else effect (says acknowledge k) (resummed p (In a offset block page) (with_flash m (erased_in a offset (block_size p a) m.flash)))
+    otherwise if forbidden (erase_allowed p k.options.flags) (is_boot a block) (boot_allowed p k.options.flags) then effect (says protect_error k) m
+    otherwise effect (says acknowledge k) (resummed p (In a offset block page) (with_flash m (erased_in a offset (block_size p a) m.flash)))
 
 -- 32h: "range and D01. 00h: 1Bh unless all FFh. 01h: also unless flags and window are fresh. Other D01: 05h"
 unfoldable pub blank_check : Part → Core → Range → ℕ → Flash → Done
 blank_check p k Bad d01 m = says parameter_error k
 blank_check p k (Blocks a block count) d01 m =
     if not (eqb d01 0x00 or eqb d01 0x01) then says parameter_error k
-    else if not (blank (range_bytes p a block count m)) then says not_blank k
-    else if eqb d01 0x01 and not (is_fresh p k.options) then says not_blank k
-    else says acknowledge k
+    otherwise if not (blank (range_bytes p a block count m)) then says not_blank k
+    otherwise if eqb d01 0x01 and not (is_fresh p k.options) then says not_blank k
+    otherwise says acknowledge k
 
 -- 40h: "range; 06h, then pages"; 10h "if bit 4 is 0, or the range holds a boot block and bit 1 is 0"
 unfoldable pub programming : Part → Core → Range → ℕ → ℕ → Done
 programming p k Bad start end = says parameter_error k
 programming p k (Blocks a block count) start end =
     if forbidden (write_allowed p k.options.flags) (is_boot a block) (boot_allowed p k.options.flags) then says protect_error k
-    else says acknowledge (awaiting 0x40 start end k)
+    otherwise says acknowledge (awaiting 0x40 start end k)
 
 -- 13h: "range; 06h, then pages"
 unfoldable pub verify : Core → Range → ℕ → ℕ → Done
@@ -74,11 +74,11 @@ unfoldable pub checksum : Part → Core → Range → Memory → Done
 checksum p k Bad m = says parameter_error k
 checksum p k (Blocks a block count) m =
     if eqb count 1 then told (Sum (kept m.sums a block)) k
-    else told (Sum (sum_of_bytes (range_bytes p a block count m.flash))) k
+    otherwise told (Sum (sum_of_bytes (range_bytes p a block count m.flash))) k
 
 -- A2h: "fresh flags and window"; 10h "if bit 1 or bit 2 is 0. Then A2h answers 1Bh unless all flash is blank."
 unfoldable pub security_release : Part → Core → Flash → Done
 security_release p k m =
     if not (boot_allowed p k.options.flags and erase_allowed p k.options.flags) then says protect_error k
-    else if not (blank m.code_flash and blank m.data_flash) then says not_blank k
-    else says acknowledge (record { options = released p k.options; rate = k.rate; phase = k.phase })
+    otherwise if not (blank m.code_flash and blank m.data_flash) then says not_blank k
+    otherwise says acknowledge (record { options = released p k.options; rate = k.rate; phase = k.phase })

@@ -39,6 +39,7 @@ use Rattle.part.proofs.Laws.{lies-place}
 use Rattle.part.specs.Part.{first, place_in}
 use Rattle.part.specs.declared.Part.{Part}
 use Rattle.words.proofs.Laws.{and_right}
+use Rattle.words.specs.Words.{if◌then◌otherwise◌}
 
 -- There are 256 bytes to write over.
 old-long : (p : Part) (o : Outcome) (w : Awaited) → Stands p o → o.chip.core.phase ≡ Awaiting w → eqb w.command 0xA0 ≡ false → length (old_page p w o) ≡ 256
@@ -52,7 +53,7 @@ old-long p o w st ph n =
 
 -- What is taken is what was heard, and the last byte.
 taken_is : (hs g : List ℕ) → (take-up hs).taken ≡ g ∷ [] → hs ≡ g
-unfolding take-up
+unfolding take-up if◌then◌otherwise◌
 taken_is hs g e = go (complete hs) refl
   where
     go : (t : Bool) → complete hs ≡ t → hs ≡ g

@@ -47,6 +47,7 @@ use Rattle.frame.specs.declared.judgement.Judgement.TheVariants.{UnfitLength}
 use Rattle.part.specs.Part.{place_of, range_of}
 use Rattle.part.specs.declared.Part.{Part}
 use Rattle.part.specs.declared.Place.{Place}
+use Rattle.words.specs.Words.{if◌then◌otherwise◌}
 
 -- B0h is allowed in phase 3 alone.
 sum-ready : (g : List ℕ) (start end : ℕ) → read_command (payload g) ≡ Meant (Checksum start end) → (ph : Phase) → allowed_in ph (get_or (payload g) 0 0) ≡ true
@@ -63,7 +64,7 @@ only-awaiting w Ready e = cc
 only-awaiting w (Awaiting x) e = cc
 
 taken-whole : (hs : List ℕ) → complete hs ≡ true → (take-up hs).taken ≡ hs ∷ []
-unfolding take-up
+unfolding take-up if◌then◌otherwise◌
 taken-whole hs e = rw e
 
 abbrev pub lent : Flash → List ℕ → Memory

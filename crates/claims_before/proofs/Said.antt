@@ -1,6 +1,5 @@
 -- The proofs of `KeptIsSaid` and `WideIsWorked`.
 -- Assumes nothing.
-use Rattle.std.specs.Prelude.{if◌then◌else◌}
 use mathlib.Core.Bool.{Bool, false, true}
 use mathlib.Core.List.{List, [], ◌∷◌}
 use mathlib.Core.Logic.{◌≢◌}
@@ -44,11 +43,12 @@ use Rattle.part.specs.declared.Area.{Area}
 use Rattle.part.specs.declared.Part.{Part}
 use Rattle.part.specs.declared.Range.{Range}
 use Rattle.part.specs.declared.Range.TheVariants.{Blocks}
+use Rattle.words.specs.Words.{if◌then◌otherwise◌}
 
 -- A good frame of B0h in phase 3 does B0h's work.
 asked-does : (p : Part) (k : Core) (m : Memory) (g : List ℕ) (start end : ℕ) → k.phase ≡ Ready → is_good (judge_of Last g) ≡ true
     → read_command (payload g) ≡ Meant (Checksum start end) → does_in p g k m ≡ effect (checksum p k (range_of p start end) m) m
-unfolding does_in does hearing frame_does command_does reading_does work allowed_in com_of
+unfolding does_in does hearing frame_does command_does reading_does work allowed_in com_of if◌then◌otherwise◌
 asked-does p k m g start end ph good r =
     let c : get_or (payload g) 0 0 ≡ 0xB0 = com-read (payload g) _ r in
     rw (ph, good, c, r)
@@ -87,17 +87,17 @@ told-so p o v a block count n s q e =
     }
 
 pub kept-is-said : KeptIsSaid
-unfolding checksum
+unfolding checksum if◌then◌otherwise◌
 kept-is-said p o v a block s q = told-so p o v a block 1 _ s q refl
 
 -- Over another count than 1 the sum is worked out.
 worked : (p : Part) (k : Core) (a : Area) (block count : ℕ) (m : Memory) → count ≢ 1
     → checksum p k (Blocks a block count) m ≡ told (Sum (sum_of_bytes (range_bytes p a block count m.flash))) k
-unfolding checksum
+unfolding checksum if◌then◌otherwise◌
 worked p k a block count m h = go (eqb count 1) refl
   where
     go : (t : Bool) → eqb count 1 ≡ t
-        → (if t then told (Sum (kept m.sums a block)) k else told (Sum (sum_of_bytes (range_bytes p a block count m.flash))) k)
+        → (if t then told (Sum (kept m.sums a block)) k otherwise told (Sum (sum_of_bytes (range_bytes p a block count m.flash))) k)
         ≡ told (Sum (sum_of_bytes (range_bytes p a block count m.flash))) k
     go true e = absurd (h (eqb-true count 1 e))
     go false e = refl

@@ -43,6 +43,7 @@ use Rattle.part.specs.Part.{place_of}
 use Rattle.part.specs.declared.Part.{Part}
 use Rattle.part.specs.declared.Place.{Place}
 use Rattle.part.specs.declared.refusal.Verdict.TheVariants.{Accepted}
+use Rattle.words.specs.Words.{if◌then◌otherwise◌}
 
 -- Whether two lists of bytes are equal can be told, and so of what is lent.
 bytes-equal : (bs cs : List ℕ) → Dec (bs ≡ cs)
@@ -73,11 +74,11 @@ module _ (p : Part) (k : Core) (w : Awaited) (at : Place) (ds : List ℕ) (m : M
 
   blank-before : blank (page_in at m.flash) ≡ true → programmed (page_in at m.flash) ds ≡ ds
       → program_page_blank p k w at ds m ≡ effect (told (stored_reply w) (next_page w k)) (page_written p at ds m)
-  unfolding program_page_blank page_written
+  unfolding program_page_blank page_written if◌then◌otherwise◌
   blank-before t e = rw (t, e)
 
   written-before : blank (page_in at m.flash) ≡ false → program_page_blank p k w at ds m ≡ effect (pair acknowledge write_error (ready k)) m
-  unfolding program_page_blank
+  unfolding program_page_blank if◌then◌otherwise◌
   written-before t = rw t
 
 pub as-before-clearing : AsBeforeClearing
@@ -151,7 +152,7 @@ unchanged-as-before p o v w ds st h q d s = as-before-clearing p o v st h never
 module _ (R : Rules) (p : Part) (k : Core) (m : Memory) (w : Awaited) (g : List ℕ) where
   page-does : w.command ≡ 0x40 → is_good (fitting (length_of w) g (judge_of (footer_of w) g)) ≡ true
       → data_does_under R p k w g m ≡ R.stores p k w (place_of p w.next) (payload g) m
-  unfolding data_does_under good_data_under
+  unfolding data_does_under good_data_under if◌then◌otherwise◌
   page-does c u = rw (u, c)
 
 page-step : (R : Rules) (p : Part) (o : Outcome) (v : Event) (w : Awaited) (ds : List ℕ) {x : Effect} → Stands p o → PageSent o v w ds
@@ -169,7 +170,7 @@ module _ (p : Part) (c : Chip) (k : Core) (m n : Memory) (room : List ℕ) where
   says-pair s t = record { said = refl; record_is = refl; memory = refl }
 
   says-stored : (w : Awaited) → PageDone (settled Accepted p (reaction [] (effect (told (stored_reply w) k) n)) c m room) (says_stored w) k n
-  unfolding settled said_of fault_in payloads frames_of framed stored_reply says_stored
+  unfolding settled said_of fault_in payloads frames_of framed stored_reply says_stored if◌then◌otherwise◌
   says-stored w = go (is_last_page w) refl
     where
       go : (t : Bool) → is_last_page w ≡ t → PageDone (settled Accepted p (reaction [] (effect (told (stored_reply w) k) n)) c m room) (says_stored w) k n
@@ -200,7 +201,7 @@ mixed-now p o v w ds st q b n =
 
 -- The second status of a stored page is 06h, of one page or the last.
 second-stored : (w : Awaited) → get_or (says_stored w).bytes 3 0 ≡ 0x06
-unfolding says_stored framed
+unfolding says_stored framed if◌then◌otherwise◌
 second-stored w = go (is_last_page w) refl
   where
     go : (t : Bool) → is_last_page w ≡ t → get_or (says_stored w).bytes 3 0 ≡ 0x06

@@ -45,7 +45,7 @@ use Rattle.lent.specs.Lent.{Left, all_are, put_at, put_of}
 use Rattle.part.specs.Part.{block_of, block_size, described, lies_in, page_of, place_in, place_of}
 use Rattle.part.specs.Refusal.{first_of}
 use Rattle.part.specs.declared.Place.{Place}
-use Rattle.words.specs.Words.{◌and◌, ◌from◌to◌, ◌or◌}
+use Rattle.words.specs.Words.{◌and◌, ◌from◌to◌, ◌or◌, if◌then◌otherwise◌}
 
 -- The pages are bytes, so the chip at their footers stands.
 frame_below : (b : ℕ) → b < 256 → Below 256 (frame_all b)
@@ -54,7 +54,7 @@ frame_below b h =
     more {b = 0x02} (omega arith) (more {b = 0x00} (omega arith) (below-append (below_all 256 h) (more {b = 0x00} (omega arith) (more {b = 0x17} (omega arith) none))))
 
 writing-stands : (b : ℕ) → b < 256 → Stands the_part (writing_all b)
-unfolding put_at good_phase good_awaited good_places place_of place_in lies_in block_of page_of block_size ◌and◌ ◌or◌
+unfolding put_at good_phase good_awaited good_places place_of place_in lies_in block_of page_of block_size ◌and◌ ◌or◌ if◌then◌otherwise◌
 writing-stands b h =
     run-stands the_part _ overwriting_chip
     (new-stands the_part _ _ (replicate 32 0x00) the-part-is (record { device_long = refl; name_long = refl; version_long = refl })
@@ -76,7 +76,7 @@ all-sent : AllSent
 unfolding frame_all good_for run step_of settled verdict_of first_of described good_state good_collected good_begun good_core good_options fixed_bits good_phase good_awaited
     good_places last_block fresh_options fresh heard holding hear complete full counted is_frame payload react_to byte_in hearing heard_byte fitting footer_of length_of
     is_last_page page_in judge_of summed sum_of less_all less place_of lies_in place_in block_of page_of block_size said_of frames_of payloads taken_in taken_as collects_on take-up
-    put_at ◌from◌to◌ ◌and◌ ◌or◌
+    put_at ◌from◌to◌ ◌and◌ ◌or◌ if◌then◌otherwise◌
 all-sent =
     record {
       same = record { page = record { frame = frame_all 0x55; phase = refl; command = refl; taken = refl; good = refl; carries = refl }; old = refl };
@@ -130,7 +130,7 @@ left_so : After
 unfolding frame_all run step_of settled verdict_of first_of described good_state good_collected good_begun good_core good_options fixed_bits good_phase good_awaited good_places
     last_block fresh_options fresh heard holding hear complete full counted is_frame react_to byte_in hearing heard_byte is_last_page page_in page_stored page_written
     programmed resummed block_sum range_bytes sum_of_bytes slot less_all less place_of lies_in place_in block_of page_of block_size said_of frames_of payloads put_at put_of
-    ◌from◌to◌ ◌and◌ ◌or◌
+    ◌from◌to◌ ◌and◌ ◌or◌ if◌then◌otherwise◌
 left_so = record { byte-now = refl; byte-before = refl; sum-now = refl; sum-before = refl; lent = refl }
 
 -- FFh over the page: each byte is put back, and the sum that is worked out afresh is the one that was kept.
@@ -150,11 +150,11 @@ fits : {n : ℕ} → n ≡ 16384 → 0x0400 + 256 ≤ n
 fits e = omega arith
 
 flash-back : page_stored there (page_in there written_once.flash) written_once.flash ≡ written_once.flash
-unfolding page_stored page_in place_of lies_in place_in block_of page_of block_size ◌and◌
+unfolding page_stored page_in place_of lies_in place_in block_of page_of block_size ◌and◌ if◌then◌otherwise◌
 flash-back = ap (λ (l : List ℕ). flash l written_once.flash.data_flash) (put_back written_once.flash.code_flash 0x0400 256 (fits code-long))
 
 sum_back : resummed the_part there written_once ≡ written_once
-unfolding resummed block_sum range_bytes sum_of_bytes slot less_all less place_of lies_in place_in block_of page_of block_size ◌and◌ put_at
+unfolding resummed block_sum range_bytes sum_of_bytes slot less_all less place_of lies_in place_in block_of page_of block_size ◌and◌ if◌then◌otherwise◌ put_at
 sum_back = ap {B = Memory} (λ (s : List ℕ). record { flash = written_once.flash; sums = s }) refl
 
 none-cleared : programmed (page_in there written_once.flash) (replicate 256 0xFF) ≡ page_in there written_once.flash
@@ -186,7 +186,7 @@ pub unchanged-met : UnchangedMet
 unchanged-met = record { stands = writing-stands 0xFF (omega arith); sent = all-sent.erased.page; unlike = unlike; stays = nothing-new }
 
 pub stored-said : StoredSaid
-unfolding says_stored is_last_page framed sum_of less_all less
+unfolding says_stored is_last_page framed sum_of less_all less if◌then◌otherwise◌
 stored-said =
     let r = taken-now the_part _ (Byte 0x17) first_awaited _ (writing-stands 0x55 (omega arith)) all-sent.same.page (not-blank 0x55 all-sent.same) lands-again in
     let m = mixed-now the_part _ (Byte 0x17) first_awaited _ (writing-stands 0xAA (omega arith)) all-sent.other.page (not-blank 0xAA all-sent.other) mixes in

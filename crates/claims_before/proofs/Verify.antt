@@ -45,13 +45,13 @@ use Rattle.part.specs.declared.Place.{Place}
 use Rattle.part.specs.declared.refusal.Verdict.{Verdict}
 use Rattle.part.specs.declared.refusal.Verdict.TheVariants.{Accepted, Refused}
 use Rattle.words.proofs.Laws.{and_right, if-all}
-use Rattle.words.specs.Words.{◌and◌, ◌or◌}
+use Rattle.words.specs.Words.{◌and◌, ◌or◌, if◌then◌otherwise◌}
 
 -- The two rules, by whether the page is equal, whether it is the last, and what is remembered.
 module _ (k : Core) (w : Awaited) (at : Place) (ds : List ℕ) (m : Flash) where
   same-rule : (same (page_in at m) ds ≡ false → is_last_page w ≡ false → ⊥) → (same (page_in at m) ds ≡ true → is_last_page w ≡ true → w.differed ≡ true → ⊥)
       → verify_page k w at ds m ≡ verify_page_before k w at ds m
-  unfolding verify_page verify_page_before compared verify_status next_page is_last_page ◌and◌ ◌or◌
+  unfolding verify_page verify_page_before compared verify_status next_page is_last_page ◌and◌ ◌or◌ if◌then◌otherwise◌
   same-rule x y = go (same (page_in at m) ds) (is_last_page w) w.differed refl refl refl
     where
       go : (s l d : Bool) → same (page_in at m) ds ≡ s → is_last_page w ≡ l → w.differed ≡ d → verify_page k w at ds m ≡ verify_page_before k w at ds m
@@ -108,7 +108,7 @@ run-as-before-verify p (v ∷ vs) o (not_here n r) =
 
 -- A frame that is taken does its work.
 whole-heard : (hs g : List ℕ) (x : List ℕ → Effect) (k : Core) (m : Memory) → (take-up hs).taken ≡ g ∷ [] → heard_byte hs (x hs) k m ≡ reaction [] (x g)
-unfolding heard_byte take-up
+unfolding heard_byte take-up if◌then◌otherwise◌
 whole-heard hs g x k m e =
     if-all (λ (r : Reaction). r ≡ reaction [] (x g)) (complete hs)
     (λ t. let one : hs ∷ [] ≡ g ∷ [] = rw t at e in
@@ -126,7 +126,7 @@ module _ (R : Rules) (p : Part) (k : Core) (hs : List ℕ) (m : Memory) (w : Awa
 
   page-does : w.command ≡ 0x13 → is_good (fitting (length_of w) g (judge_of (footer_of w) g)) ≡ true
       → data_does_under R p k w g m ≡ effect (R.compares k w (place_of p w.next) (payload g) m.flash) m
-  unfolding data_does_under good_data_under
+  unfolding data_does_under good_data_under if◌then◌otherwise◌
   page-does c u = rw (u, c)
 
 says_second : {equal : Bool} (R : Rules) (p : Part) (o : Outcome) (v : Event) (w : Awaited) (s : ℕ) (f : Phase) → Stands p o → (q : PageCompared p o v w equal)
@@ -139,7 +139,7 @@ says_second R p o v w s f st q e =
     (record { says = refl; core = refl; memory = refl })
 
 pub tells-early : TellsEarly
-unfolding verify_page verify_page_before compared verify_status next_page is_last_page ◌and◌ ◌or◌
+unfolding verify_page verify_page_before compared verify_status next_page is_last_page ◌and◌ ◌or◌ if◌then◌otherwise◌
 tells-early p o v w s q l =
     record {
       now = rw (← own-rules p o.chip v o.memory o.room) (says_second rules_now p o v w _ _ s q (rw (q.result, l, q.command)));
@@ -147,7 +147,7 @@ tells-early p o v w s q l =
     }
 
 pub tells-late : TellsLate
-unfolding verify_page verify_page_before compared verify_status next_page is_last_page ◌and◌ ◌or◌
+unfolding verify_page verify_page_before compared verify_status next_page is_last_page ◌and◌ ◌or◌ if◌then◌otherwise◌
 tells-late p o v w s q l d =
     record {
       now = rw (← own-rules p o.chip v o.memory o.room) (says_second rules_now p o v w _ _ s q (rw (q.result, l, d)));

@@ -38,7 +38,7 @@ use Rattle.frame.specs.Sum.{less, less_all, sum_of}
 use Rattle.lent.specs.Lent.{same}
 use Rattle.part.specs.Part.{block_of, block_size, described, lies_in, page_of, place_in, place_of}
 use Rattle.part.specs.Refusal.{first_of}
-use Rattle.words.specs.Words.{◌and◌, ◌from◌to◌, ◌or◌}
+use Rattle.words.specs.Words.{◌and◌, ◌from◌to◌, ◌or◌, if◌then◌otherwise◌}
 
 -- The pages are bytes, so the chip at their footers stands.
 at-footer-stands : (w : Awaited) (page : List ℕ) → good_awaited the_part w ≡ true → Below 256 page → Stands the_part (at_footer w page)
@@ -51,13 +51,13 @@ at-footer-stands w page g b =
     (bytes-proper (below-take 256 259 b))
 
 first-stands : Stands the_part (at_footer first_compared different_frame)
-unfolding different_frame good_awaited good_places place_of place_in lies_in block_of page_of block_size ◌and◌ ◌or◌
+unfolding different_frame good_awaited good_places place_of place_in lies_in block_of page_of block_size ◌and◌ ◌or◌ if◌then◌otherwise◌
 first-stands =
     at-footer-stands first_compared different_frame refl
     (more (omega arith) (more (omega arith) (more (omega arith) (below-append (below_all 255 (omega arith)) (more (omega arith) (more (omega arith) none))))))
 
 last-stands : Stands the_part (at_footer last_compared equal_frame)
-unfolding equal_frame good_awaited good_places place_of place_in lies_in block_of page_of block_size ◌and◌ ◌or◌
+unfolding equal_frame good_awaited good_places place_of place_in lies_in block_of page_of block_size ◌and◌ ◌or◌ if◌then◌otherwise◌
 last-stands =
     at-footer-stands last_compared equal_frame refl
     (more (omega arith) (more (omega arith) (below-append (below_all 256 (omega arith)) (more (omega arith) (more (omega arith) none)))))
@@ -70,7 +70,7 @@ pages : Pages
 unfolding different_frame equal_frame good_for run step_of settled verdict_of first_of described good_state good_collected good_begun good_core good_options fixed_bits good_phase
     good_awaited good_places last_block fresh_options fresh heard holding hear complete full counted is_frame payload react_to byte_in hearing heard_byte fitting footer_of
     length_of is_last_page page_in same judge_of summed sum_of less_all less place_of lies_in place_in block_of page_of block_size said_of frames_of payloads taken_in taken_as
-    collects_on take-up ◌from◌to◌ ◌and◌ ◌or◌
+    collects_on take-up ◌from◌to◌ ◌and◌ ◌or◌ if◌then◌otherwise◌
 pages =
     record {
       first = record { frame = different_frame; phase = refl; command = refl; taken = refl; good = refl; result = refl };
@@ -86,7 +86,7 @@ unfolding is_last_page
 last-met = record { stands = last-stands; otherwise = late last_compared pages.last refl refl }
 
 pub verify-said : VerifySaid
-unfolding is_last_page framed sum_of less_all less
+unfolding is_last_page framed sum_of less_all less if◌then◌otherwise◌
 verify-said =
     let f = tells-early the_part _ (Byte 0x17) first_compared first-stands pages.first refl in
     let l = tells-late the_part _ (Byte 0x03) last_compared last-stands pages.last refl refl in

@@ -1,6 +1,6 @@
 -- The chip before document 02, §1: the rules that it replaced, without the sums. None is read or written here; those that are lent pass through.
 -- What §1 did not replace is the chip's own, used by its name: so is how a page of 40h is written, which is §6's matter (specs/Stored).
-use Rattle.std.specs.Prelude.{not, List, ◌%◌, ℕ, eqb, if◌then◌else◌}
+use Rattle.std.specs.Prelude.{not, List, ◌%◌, ℕ, eqb}
 use Rattle.chip.specs.Run.{Spoken}
 use Rattle.chip.specs.Step.{Outcome}
 use Rattle.chip.specs.declared.Event.{Event}
@@ -21,6 +21,7 @@ use Rattle.part.specs.declared.Place.{Place}
 use Rattle.part.specs.declared.Place.TheVariants.{In, Outside}
 use Rattle.part.specs.declared.Range.{Range}
 use Rattle.part.specs.declared.Range.TheVariants.{Bad, Blocks}
+use Rattle.words.specs.Words.{if◌then◌otherwise◌}
 
 -- B0h: "range; 06h, then a two-byte data frame, low first: 0000h less each byte, 16 bits", worked out from flash over every range.
 unfoldable pub checksum_before : Part → Core → Range → Flash → Done
@@ -32,8 +33,8 @@ unfoldable pub block_erase_before : Part → Core → Place → Memory → Effec
 block_erase_before p k Outside m = effect (says parameter_error k) m
 block_erase_before p k (In a offset block page) m =
     if not (eqb (offset % block_size p a) 0) then effect (says parameter_error k) m
-    else if forbidden (erase_allowed p k.options.flags) (is_boot a block) (boot_allowed p k.options.flags) then effect (says protect_error k) m
-    else effect (says acknowledge k) (with_flash m (erased_in a offset (block_size p a) m.flash))
+    otherwise if forbidden (erase_allowed p k.options.flags) (is_boot a block) (boot_allowed p k.options.flags) then effect (says protect_error k) m
+    otherwise effect (says acknowledge k) (with_flash m (erased_in a offset (block_size p a) m.flash))
 
 -- 40h: a page is written; its block's sum is not.
 unfoldable pub program_page_before : Core → Awaited → Place → List ℕ → Memory → Effect

@@ -1,6 +1,6 @@
 -- The chip under given rules: the rules that requests of document 02 replace are an argument, and what calls them stands here once, as the chip has it
 -- (chip_commands/specs/Commands, chip_pages/specs/Pages, chip/specs/Step, chip/specs/Run). All else is the chip's, by its name.
-use Rattle.std.specs.Prelude.{not, List, [], ◌∷◌, ◌≡◌, ℕ, eqb, get_or, length, if◌then◌else◌}
+use Rattle.std.specs.Prelude.{not, List, [], ◌∷◌, ◌≡◌, ℕ, eqb, get_or, length}
 use Rattle.chip.specs.Run.{Spoken, spoken_in}
 use Rattle.chip.specs.Step.{Outcome, Reaction, heard_byte, powered_on, reaction, settled, step_of}
 use Rattle.chip_frame.specs.Does.{mode_byte, silent}
@@ -37,6 +37,7 @@ use Rattle.part.specs.Part.{place_of, range_of}
 use Rattle.part.specs.declared.Part.{Part}
 use Rattle.part.specs.declared.Place.{Place}
 use Rattle.part.specs.declared.Range.{Range}
+use Rattle.words.specs.Words.{if◌then◌otherwise◌}
 
 -- 22h's rule, B0h's, those of a good page of 40h and of 13h, and how a bad frame and a bad page are answered. §1 replaces the first three, §2 the fourth, §4 the
 -- last two, §6 the third again.
@@ -71,24 +72,24 @@ reading_does_under R (Meant c) p k m = work_under R c p k m
 unfoldable pub command_does_under : Rules → Part → Core → List ℕ → Memory → Effect
 command_does_under R p k f m =
     if not (is_good (judge_of Last f)) then effect (told (R.to_bad_frame (judge_of Last f)) k) m
-    else if not (allowed_in k.phase (get_or (payload f) 0 0)) then effect (says command_error k) m
-    else reading_does_under R (read_command (payload f)) p k m
+    otherwise if not (allowed_in k.phase (get_or (payload f) 0 0)) then effect (says command_error k) m
+    otherwise reading_does_under R (read_command (payload f)) p k m
 
 unfoldable pub bad_data_under : Rules → Awaited → Judgement → Core → Done
-bad_data_under R w j k = if eqb w.command 0xA0 then told (R.to_bad_frame j) (ready k) else told (R.to_bad_page j) (ready k)
+bad_data_under R w j k = if eqb w.command 0xA0 then told (R.to_bad_frame j) (ready k) otherwise told (R.to_bad_page j) (ready k)
 
 unfoldable pub good_data_under : Rules → Part → Core → Awaited → List ℕ → Memory → Effect
 good_data_under R p k w ds m =
     if eqb w.command 0xA0 then effect (security_data p k ds) m
-    else if eqb w.command 0x40 then R.stores p k w (place_of p w.next) ds m
-    else effect (R.compares k w (place_of p w.next) ds m.flash) m
+    otherwise if eqb w.command 0x40 then R.stores p k w (place_of p w.next) ds m
+    otherwise effect (R.compares k w (place_of p w.next) ds m.flash) m
 
 -- A complete data frame.
 unfoldable pub data_does_under : Rules → Part → Core → Awaited → List ℕ → Memory → Effect
 data_does_under R p k w f m =
     let judgement = fitting (length_of w) f (judge_of (footer_of w) f) in
     if not (is_good judgement) then effect (bad_data_under R w judgement k) m
-    else good_data_under R p k w (payload f) m
+    otherwise good_data_under R p k w (payload f) m
 
 unfoldable pub frame_does_under : Rules → Hearing → Part → Core → List ℕ → Memory → Effect
 frame_does_under R HearsNothing p k f m = silent k m

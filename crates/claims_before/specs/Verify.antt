@@ -1,6 +1,6 @@
 -- Document 02, §2, "Verify tells us too early": 13h's rule before it, as it was; the inputs on which the two rules differ, with what is said there under each;
 -- and that on all other inputs every byte is as under the rule before.
-use Rattle.std.specs.Prelude.{false, not, true, List, [], ◌∷◌, ◌≡◌, ◌+◌, ℕ, if◌then◌else◌}
+use Rattle.std.specs.Prelude.{false, not, true, List, [], ◌∷◌, ◌≡◌, ◌+◌, ℕ}
 use Rattle.chip.specs.Run.{answers, onward, run, spoken_in}
 use Rattle.chip.specs.Step.{Outcome}
 use Rattle.chip.specs.declared.Event.{Event}
@@ -20,12 +20,13 @@ use Rattle.lent.specs.Lent.{same}
 use Rattle.part.specs.Part.{page_size}
 use Rattle.part.specs.declared.Part.{Part}
 use Rattle.part.specs.declared.Place.{Place}
+use Rattle.words.specs.Words.{if◌then◌otherwise◌}
 
 -- Document 01: "For 13h the second is 06h if equal, else 0Fh and the command is over (ours)." Nothing is remembered here: what w remembers passes through.
 unfoldable pub verify_page_before : Core → Awaited → Place → List ℕ → Flash → Done
 verify_page_before k w at ds m =
     if not (same (page_in at m) ds) then pair acknowledge verify_error (ready k)
-    else pair acknowledge acknowledge (next_page w k)
+    otherwise pair acknowledge acknowledge (next_page w k)
 
 -- The rules of the chip before §2, which replaced 13h's alone.
 abbrev pub rules_before_verify : Rules

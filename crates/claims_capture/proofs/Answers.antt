@@ -27,7 +27,7 @@ use Rattle.replay_capture.proofs.Laws.{good-is}
 use Rattle.replay_capture.specs.Capture.{good_record, record_size, records_in, records_of}
 use Rattle.replay_capture.specs.declared.Form.{Form}
 use Rattle.replay_capture.specs.declared.Form.TheVariants.{Old}
-use Rattle.words.specs.Words.{◌and◌}
+use Rattle.words.specs.Words.{◌and◌, if◌then◌otherwise◌}
 
 module _ (from : Form) (capture : List ℕ) where
   found-good : Search (good_record from) (records_from from capture) (first_not from Good (records_from from capture))
@@ -56,12 +56,12 @@ module _ (from : Form) (capture : List ℕ) where
   written-needed : (output : List ℕ) → AllPass (good_record from) (records_from from capture) → needed from capture ≤ length output
       → written_into (rewritten_all from (records_from from capture)) output
       ≡ converting (Wrote (needed from capture)) (rewritten_all from (records_from from capture) ++ drop (needed from capture) output)
-  unfolding written_into
+  unfolding written_into if◌then◌otherwise◌
   written-needed output h k = rw (needed-is h) (simp (le-ltb (length output) (needed from capture) k))
 
   not_written : (output : List ℕ) → AllPass (good_record from) (records_from from capture) → length output < needed from capture
       → written_into (rewritten_all from (records_from from capture)) output ≡ converting NoRoom output
-  unfolding written_into
+  unfolding written_into if◌then◌otherwise◌
   not_written output h k = rw (needed-is h) (simp (lt-ltb (length output) (needed from capture) k))
 
 pub answer-is : AnswerIs
@@ -107,7 +107,7 @@ old-never-not-held capture output k e = go (answer-is Old capture output) e
     go (wrote g i l) p = let z : ◌≡◌ {A = ℕ} 0 1 = cc in omega arith
 
 pub empty-capture : EmptyCapture
-unfolding convert_of convert_by records_of records_in first_not rewritten_all written_into
+unfolding convert_of convert_by records_of records_in first_not rewritten_all written_into if◌then◌otherwise◌
 empty-capture from output = simp (le-ltb (length output) 0 (omega arith))
 
 -- Behind records of their whole size, a tail is cut as the last.

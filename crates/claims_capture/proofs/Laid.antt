@@ -1,6 +1,5 @@
 -- The good records are those that are laid so, over the form: specs/Records.
 -- Assumes nothing.
-use Rattle.std.specs.Prelude.{if◌then◌else◌}
 use mathlib.Core.Bool.{Bool, false, false≢true, not, true}
 use mathlib.Core.List.{List, [], ◌++◌, ◌∷◌, append_assoc}
 use mathlib.Core.Path.{◌∙◌, ◌≡◌, ap, refl, sym}
@@ -22,7 +21,7 @@ use Rattle.replay_capture.specs.Capture.{carried_bytes, count, data_in, data_siz
 use Rattle.replay_capture.specs.declared.Form.{Form}
 use Rattle.replay_capture.specs.declared.Form.TheVariants.{New, Old}
 use Rattle.words.proofs.Laws.{and_both, and_left, and_right, if-all}
-use Rattle.words.specs.Words.{◌and◌, ◌from◌to◌}
+use Rattle.words.specs.Words.{◌and◌, ◌from◌to◌, if◌then◌otherwise◌}
 
 all-zeros : (n : ℕ) → all_are 0x00 (replicate n 0x00) ≡ true
 unfolding all_are ◌and◌
@@ -42,7 +41,7 @@ parts form m r h =
     ap (λ (z : List ℕ). kind r ∷ count r ∷ z) body ∙ ap (λ (z : List ℕ). z ++ drop (head_size Old) r) (head-is r h) ∙ take-append-drop (head_size Old) r
 
 count-good : {form : Form} {k n : ℕ} → KindAndCount form k n → good_count form k n ≡ true
-unfolding good_count ◌and◌ ◌from◌to◌
+unfolding good_count ◌and◌ ◌from◌to◌ if◌then◌otherwise◌
 count-good gap = refl
 count-good {form} (bytes n h k) = and_both (le-leb 1 n h) (le-leb n (data_size form) k)
 
@@ -106,10 +105,10 @@ laid-is-good form k seat tick bs x y =
     }
 
 pub count-is : (form : Form) (k n : ℕ) → good_count form k n ≡ true → KindAndCount form k n
-unfolding good_count ◌from◌to◌
+unfolding good_count ◌from◌to◌ if◌then◌otherwise◌
 count-is form k n e = go (eqb k 0x00) refl e
   where
-    go : (t : Bool) → eqb k 0x00 ≡ t → (if t then eqb n 0 else eqb k 0x01 and leb 1 n and leb n (data_size form)) ≡ true → KindAndCount form k n
+    go : (t : Bool) → eqb k 0x00 ≡ t → (if t then eqb n 0 otherwise eqb k 0x01 and leb 1 n and leb n (data_size form)) ≡ true → KindAndCount form k n
     go true h x = rw (eqb-true k 0x00 h, eqb-true n 0 x) gap
     go false h x =
         let y = and_right (eqb k 0x01) (leb 1 n and leb n (data_size form)) x in

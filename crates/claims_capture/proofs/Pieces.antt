@@ -1,6 +1,5 @@
 -- A capture converted in pieces: specs/Pieces.
 -- Assumes nothing.
-use Rattle.std.specs.Prelude.{if◌then◌else◌}
 use mathlib.Core.Bool.{Bool, false, true}
 use mathlib.Core.List.{List, [], ◌++◌, ◌∷◌, append_assoc}
 use mathlib.Core.Path.{◌∙◌, ◌≡◌, ap, refl, sym}
@@ -15,6 +14,7 @@ use Rattle.conversion.specs.declared.Asked.{Asked}
 use Rattle.conversion.specs.declared.Found.{Found}
 use Rattle.conversion.specs.declared.Found.TheVariants.{At, Nowhere}
 use Rattle.replay_capture.specs.declared.Form.{Form}
+use Rattle.words.specs.Words.{if◌then◌otherwise◌}
 
 else-none : (f : Found) → f ≡ else_after 0 Nowhere f
 unfolding else_after
@@ -28,13 +28,13 @@ else-later n Nowhere Nowhere = refl
 else-later n Nowhere (At k) = ap At (omega arith)
 
 first-append : (form : Form) (asked : Asked) (rs ss : List (List ℕ)) → first_not form asked (rs ++ ss) ≡ else_after (length rs) (first_not form asked rs) (first_not form asked ss)
-unfolding first_not else_after
+unfolding first_not else_after if◌then◌otherwise◌
 first-append form asked [] ss = else-none (first_not form asked ss)
 first-append form asked (r ∷ rs) ss = go (passes form asked r) (first-append form asked rs ss)
   where
     go : (t : Bool) → first_not form asked (rs ++ ss) ≡ else_after (length rs) (first_not form asked rs) (first_not form asked ss)
-        → (if t then one_later (first_not form asked (rs ++ ss)) else At 0)
-        ≡ else_after (length (r ∷ rs)) (if t then one_later (first_not form asked rs) else At 0) (first_not form asked ss)
+        → (if t then one_later (first_not form asked (rs ++ ss)) otherwise At 0)
+        ≡ else_after (length (r ∷ rs)) (if t then one_later (first_not form asked rs) otherwise At 0) (first_not form asked ss)
     go true e = ap one_later e ∙ else-later (length rs) (first_not form asked rs) (first_not form asked ss)
     go false e = refl
 

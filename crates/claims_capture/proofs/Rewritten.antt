@@ -1,7 +1,6 @@
 -- A record in the other form is the same record: specs/Rewritten. A good record that the old form can hold is laid with seat 0 and tick 0, and both ways of rewriting keep
 -- what it is laid with.
 -- Assumes nothing.
-use Rattle.std.specs.Prelude.{if◌then◌else◌}
 use mathlib.Core.Bool.{true}
 use mathlib.Core.List.{List, ◌++◌, ◌∷◌, append_assoc}
 use mathlib.Core.Path.{◌∙◌, ◌≡◌, ap, refl, sym}
@@ -23,7 +22,7 @@ use Rattle.replay_capture.specs.declared.Form.{Form}
 use Rattle.replay_capture.specs.declared.Form.TheVariants.{New, Old}
 use Rattle.replay_capture.specs.declared.Record.TheVariants.{BytesRecord, GapRecord}
 use Rattle.words.proofs.Laws.{and_both, and_left, and_right}
-use Rattle.words.specs.Words.{◌and◌}
+use Rattle.words.specs.Words.{◌and◌, if◌then◌otherwise◌}
 
 other-other : (form : Form) → other (other form) ≡ form
 other-other Old = refl
@@ -72,8 +71,8 @@ laid-rewritten form k seat tick bs h =
     rw (between-zeros (other form), six-is form k seat tick bs h)
     (ap (λ (l : List ℕ). k ∷ length bs ∷ l) (join (between (other form) 0 0) bs _ _ _ (zeros-join (other form) (length bs) h)))
 
-laid-played : {form : Form} {k tick : ℕ} {bs r : List ℕ} → LaidAs form k 0 tick bs r → record_of form r ≡ (if eqb k 0x00 then GapRecord else BytesRecord (length bs))
-unfolding record_of
+laid-played : {form : Form} {k tick : ℕ} {bs r : List ℕ} → LaidAs form k 0 tick bs r → record_of form r ≡ (if eqb k 0x00 then GapRecord otherwise BytesRecord (length bs))
+unfolding record_of if◌then◌otherwise◌
 laid-played x = simp (x.good, x.seat_is, x.kind_is, x.count_is)
 
 laid-held : {form : Form} {k : ℕ} {bs r : List ℕ} → length bs ≤ 6 → LaidAs form k 0 0 bs r → held_by_old form r ≡ true

@@ -23,6 +23,7 @@ use Rattle.conversion.specs.declared.Found.TheVariants.{Nowhere}
 use Rattle.replay_capture.proofs.Laws.{size-least}
 use Rattle.replay_capture.specs.Capture.{good_record, record_size}
 use Rattle.replay_capture.specs.declared.Form.{Form}
+use Rattle.words.specs.Words.{if◌then◌otherwise◌}
 
 -- Records of which every one is good, and one that the old form can hold.
 record Fine (from : Form) (rs : List (List ℕ)) : Type 0 where
@@ -49,7 +50,7 @@ module _ (from : Form) where
   one_passes Held r g h = (rewritten-is-same from r g h).held
 
   rewritten-passes : (asked : Asked) (rs : List (List ℕ)) → Fine from rs → first_not (other from) asked (map (rewritten from) rs) ≡ Nowhere
-  unfolding first_not one_later
+  unfolding first_not one_later if◌then◌otherwise◌
   rewritten-passes asked [] x = refl
   rewritten-passes asked (r ∷ rs) x = let f = first r rs x in simp (one_passes asked r f.0 f.1, rewritten-passes asked rs (fine-rest x))
 
@@ -102,11 +103,11 @@ pub one-for-one : OneForOne
 one-for-one from capture output n e = leg-records (leg from capture output n e)
 
 pub back-with-room : BackWithRoom
-unfolding written_into
+unfolding written_into if◌then◌otherwise◌
 back-with-room from capture output output₂ n e h = second (leg from capture output n e) output₂ ∙ simp (le-ltb (length output₂) (length capture) h)
 
 pub round_trip : RoundTrip
-unfolding written_into
+unfolding written_into if◌then◌otherwise◌
 round_trip from capture output output₂ n m e f = go (dec_lt (length output₂) (length capture))
   where
     there : back from capture output n output₂ ≡ written_into capture output₂

@@ -1,6 +1,5 @@
 -- What the search for a record that does not pass finds, and that it is the only such thing.
 -- Assumes nothing.
-use Rattle.std.specs.Prelude.{if◌then◌else◌}
 use mathlib.Core.Bool.{Bool, false, false≢true, true}
 use mathlib.Core.List.{List, [], ◌∷◌}
 use mathlib.Core.Path.{◌∙◌, ◌≡◌, ap, refl, sym}
@@ -14,6 +13,7 @@ use Rattle.conversion.specs.declared.Asked.{Asked}
 use Rattle.conversion.specs.declared.Found.{Found}
 use Rattle.conversion.specs.declared.Found.TheVariants.{At, Nowhere}
 use Rattle.replay_capture.specs.declared.Form.{Form}
+use Rattle.words.specs.Words.{if◌then◌otherwise◌}
 
 pub data Search (good : List ℕ → Bool) (rs : List (List ℕ)) : Found → Type 0 where
   nowhere : AllPass good rs → Search good rs Nowhere
@@ -30,12 +30,12 @@ module _ (good : List ℕ → Bool) (r : List ℕ) (rs : List (List ℕ)) where
   later e (at k x) = at (suc k) (record { there = omega (arith, x.there); fails = x.fails; before = one_more k e x.before })
 
 pub search_is : (form : Form) (asked : Asked) (rs : List (List ℕ)) → Search (passes form asked) rs (first_not form asked rs)
-unfolding first_not
+unfolding first_not if◌then◌otherwise◌
 search_is form asked [] = nowhere (λ i h. absurd (omega arith))
 search_is form asked (r ∷ rs) = go (passes form asked r) refl (search_is form asked rs)
   where
     go : (t : Bool) → passes form asked r ≡ t → Search (passes form asked) rs (first_not form asked rs)
-        → Search (passes form asked) (r ∷ rs) (if t then one_later (first_not form asked rs) else At 0)
+        → Search (passes form asked) (r ∷ rs) (if t then one_later (first_not form asked rs) otherwise At 0)
     go true e s = later (passes form asked) r rs e s
     go false e s = at 0 (record { there = omega arith; fails = e; before = λ i h. absurd (omega arith) })
 

@@ -1,6 +1,5 @@
 -- The proof of `LineConfined`.
 -- Assumes nothing.
-use Rattle.std.specs.Prelude.{if◌then◌else◌}
 use mathlib.Core.Bool.{Bool, false, false≢true, not, true, true≢false}
 use mathlib.Core.List.{List, [], ◌∷◌, map}
 use mathlib.Core.Path.{◌∙◌, ◌≡◌, ap, refl, sym}
@@ -50,7 +49,7 @@ use Rattle.lent.proofs.Laws.{same-is}
 use Rattle.lent.specs.Lent.{same}
 use Rattle.part.specs.declared.Part.{Part}
 use Rattle.words.proofs.Laws.{and_left, and_right}
-use Rattle.words.specs.Words.{◌and◌, ◌or◌}
+use Rattle.words.specs.Words.{◌and◌, ◌or◌, if◌then◌otherwise◌}
 
 -- A good frame that is permitted is the one sent, and nothing comes after it.
 record Permits (f g : List ℕ) (end : Bool) : Type 0 where
@@ -83,10 +82,10 @@ record Taken (l g : List ℕ) : Type 0 where
   whole : complete l ≡ true
 
 taken_is : (l g : List ℕ) → (take-up l).taken ≡ g ∷ [] → Taken l g
-unfolding take-up
+unfolding take-up if◌then◌otherwise◌
 taken_is l g e = go (complete l) refl e
   where
-    go : (t : Bool) → complete l ≡ t → (if◌then◌else◌ {A = Collected} t (record { holds = []; taken = l ∷ [] }) (record { holds = l; taken = [] })).taken ≡ g ∷ []
+    go : (t : Bool) → complete l ≡ t → (if◌then◌otherwise◌ {A = Collected} t (record { holds = []; taken = l ∷ [] }) (record { holds = l; taken = [] })).taken ≡ g ∷ []
         → Taken l g
     go true q e = record { is = cc; whole = q }
     go false q e = absurd (no-frame g [] e)

@@ -1,6 +1,5 @@
 -- The proofs of `OneEvent` and `PowerOnKeeps`.
 -- Assumes nothing.
-use Rattle.std.specs.Prelude.{if◌then◌else◌}
 use mathlib.Core.Bool.{Bool, false, false≢true, not, true}
 use mathlib.Core.List.{List}
 use mathlib.Core.Path.{◌∙◌, ◌≡◌, ap, refl, sym}
@@ -55,7 +54,7 @@ use Rattle.part.specs.declared.Part.{Part}
 use Rattle.part.specs.declared.Place.{Place}
 use Rattle.part.specs.declared.Place.TheVariants.{In, Outside}
 use Rattle.words.proofs.Laws.{and_right, if-all}
-use Rattle.words.specs.Words.{◌and◌}
+use Rattle.words.specs.Words.{◌and◌, if◌then◌otherwise◌}
 
 record Does (p : Part) (m : Memory) (x : Effect) : Type 0 where
   change : Change p m x.memory
@@ -88,19 +87,19 @@ page-inside p w s =
 
 -- A good page has 256 bytes.
 fitting-long : (n : ℕ) (bs : List ℕ) (j : Judgement) → is_good (fitting n bs j) ≡ true → length bs ≡ n + 4
-unfolding fitting ◌and◌
+unfolding fitting if◌then◌otherwise◌ ◌and◌
 fitting-long n bs j e = go (is_good j) refl (eqb (length bs) (n + 4)) refl e
   where
-    go : (t : Bool) → is_good j ≡ t → (u : Bool) → eqb (length bs) (n + 4) ≡ u → is_good (if t and not u then UnfitLength else j) ≡ true → length bs ≡ n + 4
+    go : (t : Bool) → is_good j ≡ t → (u : Bool) → eqb (length bs) (n + 4) ≡ u → is_good (if t and not u then UnfitLength otherwise j) ≡ true → length bs ≡ n + 4
     go t q true r g = eqb-true _ _ r
     go true q false r g = absurd (false≢true g)
     go false q false r g = absurd (false≢true (sym q ∙ g))
 
 pub page-long : (w : Awaited) (f : List ℕ) → eqb w.command 0xA0 ≡ false → is_good (fitting (length_of w) f (judge_of (footer_of w) f)) ≡ true
     → length (payload f) ≡ 256
-unfolding length_of
+unfolding length_of if◌then◌otherwise◌
 page-long w f n g =
-    let l : length_of w ≡ 256 = ap (λ (t : Bool). if t then 8 else 256) n in
+    let l : length_of w ≡ 256 = ap (λ (t : Bool). if t then 8 otherwise 256) n in
     let e : length f ≡ length_of w + 4 = fitting-long (length_of w) f (judge_of (footer_of w) f) g in
     omega (arith, payload-long f)
 

@@ -1,7 +1,6 @@
 -- Over every history the retries stay within the allowance and the frames within 3 + 12(B + R); and for every state handed in, each accepted call leaves
 -- a state that is accepted again, while a refused one leaves everything as it was.
 -- Assumes nothing.
-use Rattle.std.specs.Prelude.{if◌then◌else◌}
 use mathlib.Core.Bool.{Bool, false, true}
 use mathlib.Core.List.{List, [], ◌∷◌}
 use mathlib.Core.Path.{◌≡◌, refl}
@@ -29,6 +28,7 @@ use Rattle.part.specs.declared.refusal.Refusal.{Refusal}
 use Rattle.part.specs.declared.refusal.Verdict.{Verdict}
 use Rattle.part.specs.declared.refusal.Verdict.TheVariants.{Accepted}
 use Rattle.part.specs.declared.refusal.Verdict.TheVariants as Verdict
+use Rattle.words.specs.Words.{if◌then◌otherwise◌}
 
 -- "at most 3 + 12(B + R) frames": the bound, with the setup's three commands and four pages to a block.
 pub bound-12 : (j : Job) → bound j ≡ most_frames j
@@ -38,7 +38,7 @@ bound-12 j = refl
 -- From any good stage of any job.
 frames-paid : (j : Job) (image : List ℕ) (used : ℕ) (st : Stage) (hs : List Heard) → used ≤ j.retries → good_stage j st ≡ true
     → length (frames_in (exchanges j image used st hs)) ≤ needs j st + per_block j * (j.retries - used)
-unfolding exchanges frames_in
+unfolding exchanges frames_in if◌then◌otherwise◌
 frames-paid j image used st [] u g = omega arith
 frames-paid j image used st (h ∷ hs) u g =
     go (is_over st) refl
@@ -48,7 +48,7 @@ frames-paid j image used st (h ∷ hs) u g =
         → (Kept j used st (after_heard j used st h)
         → length (frames_in (exchanges j image (used + (after_heard j used st h).spent) (after_heard j used st h).stage hs))
         ≤ needs j (after_heard j used st h).stage + per_block j * (j.retries - (used + (after_heard j used st h).spent)))
-        → length (frames_in (if o then [] else record { frame = frame_at j image st; spends = (after_heard j used st h).spent } ∷ exchanges j image (used + (after_heard j used st h).spent) (after_heard j used st h).stage hs))
+        → length (frames_in (if o then [] otherwise record { frame = frame_at j image st; spends = (after_heard j used st h).spent } ∷ exchanges j image (used + (after_heard j used st h).spent) (after_heard j used st h).stage hs))
         ≤ needs j st + per_block j * (j.retries - used)
     go true e rest = omega arith
     go false e rest = let k = heard-kept j used st h u g e in omega (arith, k.paid, rest k)
@@ -63,7 +63,7 @@ frames-within j image hs =
 
 spent-allowed : (j : Job) (image : List ℕ) (used : ℕ) (st : Stage) (hs : List Heard) → used ≤ j.retries
     → used + spent_in (exchanges j image used st hs) ≤ j.retries
-unfolding exchanges spent_in
+unfolding exchanges spent_in if◌then◌otherwise◌
 spent-allowed j image used st [] u = omega arith
 spent-allowed j image used st (h ∷ hs) u =
     go (is_over st)
@@ -71,7 +71,7 @@ spent-allowed j image used st (h ∷ hs) u =
   where
     go : (o : Bool)
         → used + (after_heard j used st h).spent + spent_in (exchanges j image (used + (after_heard j used st h).spent) (after_heard j used st h).stage hs) ≤ j.retries
-        → used + spent_in (if o then [] else record { frame = frame_at j image st; spends = (after_heard j used st h).spent } ∷ exchanges j image (used + (after_heard j used st h).spent) (after_heard j used st h).stage hs)
+        → used + spent_in (if o then [] otherwise record { frame = frame_at j image st; spends = (after_heard j used st h).spent } ∷ exchanges j image (used + (after_heard j used st h).spent) (after_heard j used st h).stage hs)
         ≤ j.retries
     go true rest = omega arith
     go false rest = omega arith

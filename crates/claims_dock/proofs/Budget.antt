@@ -1,7 +1,6 @@
 -- How many frames a stage can still take where nothing is retried, and that every answer pays for the frame it answers: what is still needed, and a
 -- block's frames for each retry left, fall by at least one.
 -- Assumes nothing.
-use Rattle.std.specs.Prelude.{if◌then◌else◌}
 use mathlib.Core.Bool.{Bool, false, false≢true, true, true≢false}
 use mathlib.Core.List.{List, [], ◌∷◌}
 use mathlib.Core.Path.{◌≡◌, refl}
@@ -35,7 +34,7 @@ use Rattle.dock_job.specs.declared.Work.TheVariants.{Blank, Erase, Program, Prog
 use Rattle.frame.specs.declared.judgement.Judgement.{Judgement}
 use Rattle.frame.specs.declared.judgement.Judgement.TheVariants.{Good}
 use Rattle.words.proofs.Laws.{and_both, and_left, if-both}
-use Rattle.words.specs.Words.{◌and◌, ◌or◌}
+use Rattle.words.specs.Words.{◌and◌, ◌or◌, if◌then◌otherwise◌}
 
 unfoldable pub work_needs : ℕ → Work → ℕ
 work_needs n Blank = 4 + 2 * n
@@ -47,7 +46,7 @@ work_needs n (VerifyPage p) = n - p
 
 unfoldable pub left_in : Job → Setup → List Setup → ℕ
 left_in j s [] = 0
-left_in j s (x ∷ xs) = if eqb (com_of (query_at j (SetUp s)).command) (com_of (query_at j (SetUp x)).command) then length (x ∷ xs) else left_in j s xs
+left_in j s (x ∷ xs) = if eqb (com_of (query_at j (SetUp s)).command) (com_of (query_at j (SetUp x)).command) then length (x ∷ xs) otherwise left_in j s xs
 
 unfoldable pub needs : Job → Stage → ℕ
 needs j (SetUp s) = left_in j s (setup j) + per_block j * blocks_of j
@@ -58,7 +57,7 @@ one_more : (q a b : ℕ) → a ≡ b + 1 → q * a ≡ q * b + q
 one_more q a b e = rw e (omega arith)
 
 setup-some : (j : Job) (s : Setup) → 1 ≤ left_in j s (setup j)
-unfolding query_with com_of left_in setup
+unfolding query_with com_of left_in setup if◌then◌otherwise◌
 setup-some j BaudRate = omega arith
 setup-some j ResetChip = omega arith
 setup-some j SiliconSignature = omega arith
@@ -97,10 +96,10 @@ record From (j : Job) (k : ℕ) (st : Stage) : Type 0 where
   few : needs j st ≤ per_block j * (blocks_of j - k)
 
 the_rest : (j : Job) (k : ℕ) → From j k (block_from j k)
-unfolding block_from needs work_needs good_stage good_work good_ending
+unfolding block_from if◌then◌otherwise◌ needs work_needs good_stage good_work good_ending
 the_rest j k = go (ltb k (blocks_of j)) refl
   where
-    go : (t : Bool) → ltb k (blocks_of j) ≡ t → From j k (if t then InBlock k Blank else Over Finished)
+    go : (t : Bool) → ltb k (blocks_of j) ≡ t → From j k (if t then InBlock k Blank otherwise Over Finished)
     go true e =
         let h : k < blocks_of j = ltb-true k (blocks_of j) e in
         let m = one_more (per_block j) (blocks_of j - k) (blocks_of j - (k + 1)) (omega arith) in
@@ -108,7 +107,7 @@ the_rest j k = go (ltb k (blocks_of j)) refl
     go false e = record { good = refl; few = omega arith }
 
 setup-kept : (j : Job) (used : ℕ) (s : Setup) → used ≤ j.retries → Kept j used (SetUp s) (leads (after_setup j s (setup j)) 0)
-unfolding query_with com_of after_setup setup_from setup left_in needs good_stage
+unfolding query_with com_of after_setup setup_from setup left_in if◌then◌otherwise◌ needs good_stage
 setup-kept j used BaudRate u = free j used (SetUp BaudRate) (SetUp ResetChip) u refl (omega arith)
 setup-kept j used ResetChip u = free j used (SetUp ResetChip) (SetUp SiliconSignature) u refl (omega arith)
 setup-kept j used SiliconSignature u =
@@ -123,22 +122,22 @@ module _ (j : Job) (used k : ℕ) (u : used ≤ j.retries) (b : good_block j k �
   within w v g h = free j used (InBlock k w) (InBlock k v) u (and_both b g) (omega arith)
 
   stored-kept : (p : ℕ) → good_page j p ≡ true → Kept j used (InBlock k (ProgramPage p)) (leads (after_work j k (ProgramPage p)) 0)
-  unfolding after_work work_needs good_work
+  unfolding after_work if◌then◌otherwise◌ work_needs good_work
   stored-kept p g = go (last_page j p) refl
     where
       go : (t : Bool) → last_page j p ≡ t
-          → Kept j used (InBlock k (ProgramPage p)) (leads (if t then InBlock k VerifyBlock else InBlock k (ProgramPage (p + 1))) 0)
+          → Kept j used (InBlock k (ProgramPage p)) (leads (if t then InBlock k VerifyBlock otherwise InBlock k (ProgramPage (p + 1))) 0)
       go true e = within (ProgramPage p) VerifyBlock refl (omega (arith, page-is j p g))
       go false e =
           let n = not_last j p e in
           within (ProgramPage p) (ProgramPage (p + 1)) (page-yes j (p + 1) n) (omega arith)
 
   verified-kept : (p : ℕ) → good_page j p ≡ true → Kept j used (InBlock k (VerifyPage p)) (leads (after_work j k (VerifyPage p)) 0)
-  unfolding after_work work_needs good_work needs
+  unfolding after_work if◌then◌otherwise◌ work_needs good_work needs
   verified-kept p g = go (last_page j p) refl
     where
       go : (t : Bool) → last_page j p ≡ t
-          → Kept j used (InBlock k (VerifyPage p)) (leads (if t then block_from j (k + 1) else InBlock k (VerifyPage (p + 1))) 0)
+          → Kept j used (InBlock k (VerifyPage p)) (leads (if t then block_from j (k + 1) otherwise InBlock k (VerifyPage (p + 1))) 0)
       go true e =
           free j used (InBlock k (VerifyPage p)) (block_from j (k + 1)) u (the_rest j (k + 1)).good (omega (arith, (the_rest j (k + 1)).few, page-is j p g))
       go false e =
@@ -194,10 +193,10 @@ restart-few j (InBlock k w) g o = omega (arith, work-some j w (place_is j k w g)
 restart-few j (Over e) g o = absurd (true≢false o)
 
 retried-kept : (j : Job) (used : ℕ) (st : Stage) (s : ℕ) → used ≤ j.retries → good_stage j st ≡ true → is_over st ≡ false → Kept j used st (retried j used st s)
-unfolding retried
+unfolding retried if◌then◌otherwise◌
 retried-kept j used st s u g o = go (ltb used j.retries) refl
   where
-    go : (t : Bool) → ltb used j.retries ≡ t → Kept j used st (if t then leads (in_block Blank st) 1 else fails j UnexpectedStatus s Good st)
+    go : (t : Bool) → ltb used j.retries ≡ t → Kept j used st (if t then leads (in_block Blank st) 1 otherwise fails j UnexpectedStatus s Good st)
     go true e =
         let h : used < j.retries = ltb-true used j.retries e in
         let m = one_more (per_block j) (j.retries - used) (j.retries - (used + 1)) (omega arith) in
@@ -221,14 +220,14 @@ erasing-kept j used (Over e) s u g n = absurd (false≢true (and_left _ _ n))
 
 status-kept : (j : Job) (used : ℕ) (st : Stage) (s : ℕ) (m : Bool) → used ≤ j.retries → good_stage j st ≡ true → is_over st ≡ false
     → Kept j used st (after_status j used st s m)
-unfolding after_status
+unfolding after_status if◌then◌otherwise◌
 status-kept j used st s m u g o =
     if-both (Kept j used st) (eqb s 0x06)
     (if-both (Kept j used st) m (next-kept j used st u g o) (fails-kept j used st Mismatch 0x06 Good u g o))
     (go (says_not_blank j st s) refl)
   where
     go : (t : Bool) → says_not_blank j st s ≡ t
-        → Kept j used st (if t then leads (in_block Erase st) 0 else if eqb s 0x07 or eqb s 0x15 then retried j used st s else fails j UnexpectedStatus s Good st)
+        → Kept j used st (if t then leads (in_block Erase st) 0 otherwise if eqb s 0x07 or eqb s 0x15 then retried j used st s otherwise fails j UnexpectedStatus s Good st)
     go true e = erasing-kept j used st s u g e
     go false e = if-both (Kept j used st) (eqb s 0x07 or eqb s 0x15) (retried-kept j used st s u g o) (fails-kept j used st UnexpectedStatus s Good u g o)
 
@@ -244,7 +243,7 @@ heard-kept j used st silence u g o = fails-kept j used st TimedOut 0x00 Good u g
 
 -- At the start what is needed, and a block's frames for each retry allowed, are the bound.
 pub start-needs : (j : Job) → needs j (first_stage j) + per_block j * j.retries ≡ bound j
-unfolding query_with com_of needs setup_from setup left_in bound
+unfolding query_with com_of needs setup_from setup left_in if◌then◌otherwise◌ bound
 start-needs j = omega arith
 
 pub start-good : (j : Job) → good_stage j (first_stage j) ≡ true

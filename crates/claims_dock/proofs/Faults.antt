@@ -1,7 +1,6 @@
 -- Which answers are readable has not changed, an unreadable one has the fault of its first faulty frame, and a failure names a fault exactly where its cause is
 -- unreadable: specs/Faults.
 -- Assumes nothing.
-use Rattle.std.specs.Prelude.{if◌then◌else◌}
 use mathlib.Core.Bool.{Bool, false, true, true≢false}
 use mathlib.Core.List.{List, [], ◌∷◌}
 use mathlib.Core.Path.{◌∙◌, ◌≡◌, ap, refl, sym}
@@ -43,15 +42,15 @@ use Rattle.frame.specs.declared.Header.TheVariants.{Data}
 use Rattle.frame.specs.declared.judgement.Judgement.{Judgement}
 use Rattle.frame.specs.declared.judgement.Judgement.TheVariants.{Good, UnfitLength, WrongFirst, WrongFooter, WrongSum}
 use Rattle.words.proofs.Laws.{and_both, and_left, and_right, and-true, if-all, if-both}
-use Rattle.words.specs.Words.{◌and◌, ◌or◌}
+use Rattle.words.specs.Words.{◌and◌, ◌or◌, if◌then◌otherwise◌}
 
 pub first-faulty-frame : FirstFaultyFrame
-unfolding judge_frames
+unfolding judge_frames if◌then◌otherwise◌
 first-faulty-frame [] bs = none
 first-faulty-frame (n ∷ ns) bs = go (judge_reply n (none_left ns) bs) (reply-place-is n (none_left ns) bs) (first-faulty-frame ns (drop (n + 4) bs))
   where
     go : (j : Judgement) → BlamedReply n (none_left ns) bs j → FirstFaulty ns (drop (n + 4) bs) (judge_frames ns (drop (n + 4) bs))
-        → FirstFaulty (n ∷ ns) bs (if is_good j then judge_frames ns (drop (n + 4) bs) else j)
+        → FirstFaulty (n ∷ ns) bs (if is_good j then judge_frames ns (drop (n + 4) bs) otherwise j)
     go Good b r = later b r
     go (WrongFooter at) b r = this refl b
     go (WrongSum at) b r = this refl b
@@ -76,11 +75,11 @@ record Carries (n : ℕ) (bs : List ℕ) : Type 0 where
   judged : is_good (judge_of Last (take (n + 4) bs)) ≡ true
 
 carries-is : (n : ℕ) (bs : List ℕ) → 1 ≤ n → carried_before bs ≡ n → Carries n bs
-unfolding carried_before ◌and◌
+unfolding carried_before ◌and◌ if◌then◌otherwise◌
 carries-is n bs h e = go (eqb (get_or bs 0 0) 2) refl (good_before (judge_before Last (take (counted (get_or bs 1 0) + 4) bs))) refl e
   where
     go : (t : Bool) → eqb (get_or bs 0 0) 2 ≡ t → (u : Bool) → good_before (judge_before Last (take (counted (get_or bs 1 0) + 4) bs)) ≡ u
-        → (if t and u then counted (get_or bs 1 0) else 0) ≡ n → Carries n bs
+        → (if t and u then counted (get_or bs 1 0) otherwise 0) ≡ n → Carries n bs
     go false p u q e = absurd (omega arith)
     go true p false q e = absurd (omega arith)
     go true p true q e =
@@ -91,7 +90,7 @@ carries-is n bs h e = go (eqb (get_or bs 0 0) 2) refl (good_before (judge_before
         }
 
 carries-carried : (n : ℕ) (bs : List ℕ) → Carries n bs → carried_before bs ≡ n
-unfolding carried_before ◌and◌
+unfolding carried_before ◌and◌ if◌then◌otherwise◌
 carries-carried n bs c =
     let g : good_before (judge_before Last (take (counted (get_or bs 1 0) + 4) bs)) ≡ true =
     ap (λ (k : ℕ). good_before (judge_before Last (take (k + 4) bs))) c.counts ∙ sym (judged-as-before Last (take (n + 4) bs)).good ∙ c.judged in
@@ -176,7 +175,7 @@ unfolding read_answer decoded_before
 decoded-as-before p supply f bs = rw (readable-as-before f bs)
 
 pub unreadable-fails : UnreadableFails
-unfolding after_heard read_answer after_answer
+unfolding after_heard read_answer after_answer if◌then◌otherwise◌
 unreadable-fails j used st bs e = rw e
 
 -- What follows a good answer is no failure.
@@ -226,11 +225,11 @@ status-named j used st s m o =
     (if-both Leads (eqb s 0x07 or eqb s 0x15) (if-both Leads (ltb used j.retries) (again-named Blank st o) (failed refl)) (failed refl)))
 
 heard-named : (j : Job) (used : ℕ) (st : Stage) (h : Heard) → is_over st ≡ false → Leads (after_heard j used st h)
-unfolding after_heard after_answer read_answer is_unreadable
+unfolding after_heard after_answer read_answer is_unreadable if◌then◌otherwise◌
 heard-named j used st (answered bs) o = go (judge_answer (query_at j st).form bs) (is_good (judge_answer (query_at j st).form bs)) refl
   where
     go : (fault : Judgement) (g : Bool) → is_good fault ≡ g
-        → Leads (after_answer j used st (if g then Said (deciding (statuses (query_at j st).form bs)) (matching j.part j.supply (query_at j st).form bs) else Garbled) fault)
+        → Leads (after_answer j used st (if g then Said (deciding (statuses (query_at j st).form bs)) (matching j.part j.supply (query_at j st).form bs) otherwise Garbled) fault)
     go fault true e = status-named j used st _ _ o
     go fault false e = failed e
 heard-named j used st silence o = failed refl

@@ -1,6 +1,5 @@
 -- What a readable answer is, frame by frame: laws for the claims about answers.
 -- Assumes nothing.
-use Rattle.std.specs.Prelude.{if◌then◌else◌}
 use mathlib.Core.Bool.{Bool, false, true, true≢false}
 use mathlib.Core.List.{List, ◌∷◌}
 use mathlib.Core.Path.{◌∙◌, ◌≡◌, ap, refl, sym}
@@ -19,7 +18,7 @@ use Rattle.frame.specs.declared.Footer.TheVariants.{Last}
 use Rattle.frame.specs.declared.Header.TheVariants.{Data}
 use Rattle.frame.specs.declared.judgement.Judgement.{Judgement}
 use Rattle.frame.specs.declared.judgement.Judgement.TheVariants.{Good, UnfitLength, WrongFirst, WrongFooter, WrongSum}
-use Rattle.words.specs.Words.{◌and◌}
+use Rattle.words.specs.Words.{◌and◌, if◌then◌otherwise◌}
 
 -- A good reply frame: its first byte is 02h, its LEN fits, and footer and SUM are right.
 pub record GoodReply (n : ℕ) (last : Bool) (bs : List ℕ) : Type 0 where
@@ -60,10 +59,10 @@ fit-whole n bs u =
 -- The first frame is good, and so are those behind it.
 pub frames-good : (n : ℕ) (ns bs : List ℕ)
     → is_good (judge_frames (n ∷ ns) bs) ≡ is_good (judge_reply n (none_left ns) bs) and is_good (judge_frames ns (drop (n + 4) bs))
-unfolding judge_frames ◌and◌
+unfolding judge_frames if◌then◌otherwise◌ ◌and◌
 frames-good n ns bs = go (judge_reply n (none_left ns) bs)
   where
-    go : (j : Judgement) → is_good (if is_good j then judge_frames ns (drop (n + 4) bs) else j) ≡ is_good j and is_good (judge_frames ns (drop (n + 4) bs))
+    go : (j : Judgement) → is_good (if is_good j then judge_frames ns (drop (n + 4) bs) otherwise j) ≡ is_good j and is_good (judge_frames ns (drop (n + 4) bs))
     go Good = refl
     go (WrongFooter at) = refl
     go (WrongSum at) = refl

@@ -32,6 +32,7 @@ use Rattle.part.specs.declared.refusal.Refusal.{Refusal}
 use Rattle.part.specs.declared.refusal.Verdict.{Verdict}
 use Rattle.part.specs.declared.refusal.Verdict.TheVariants.{Accepted}
 use Rattle.part.specs.declared.refusal.Verdict.TheVariants as Verdict
+use Rattle.words.specs.Words.{if◌then◌otherwise◌}
 
 -- What a call tells while nothing has ended, or where it is refused, is not noted.
 pub record Quiet (A : Type 0) (note : Report → List A) : Type 0 where
@@ -45,12 +46,12 @@ record View (A : Type 0) : Type 0 where
   dock : Dock
 
 none_over : (j : Job) (image : List ℕ) (used : ℕ) (st : Stage) (hs : List Heard) → is_over st ≡ true → exchanges j image used st hs ≡ []
-unfolding exchanges
+unfolding exchanges if◌then◌otherwise◌
 none_over j image used st [] o = refl
 none_over j image used st (h ∷ hs) o = rw o
 
 stays-over : (j : Job) (used : ℕ) (st : Stage) (hs : List Heard) → is_over st ≡ true → place_after j used st hs ≡ st
-unfolding place_after
+unfolding place_after if◌then◌otherwise◌
 stays-over j used st [] o = refl
 stays-over j used st (h ∷ hs) o = rw o
 
@@ -77,7 +78,7 @@ stays j image st used n hs e f =
 -- One exchange and the rest.
 moves-on : (j : Job) (image : List ℕ) (st : Stage) (used n : ℕ) (h : Heard) (hs : List Heard) → is_over st ≡ false
     → reached j image (after_heard j used st h).stage (used + (after_heard j used st h).spent) (n + 1) hs ≡ reached j image st used n (h ∷ hs)
-unfolding exchanges place_after frames_in spent_in
+unfolding exchanges place_after frames_in spent_in if◌then◌otherwise◌
 moves-on j image st used n h hs o =
     let t = after_heard j used st h in
     let xs = exchanges j image (used + t.spent) t.stage hs in
@@ -88,7 +89,7 @@ moves-on j image st used n h hs o =
 first-sent : (j : Job) (image : List ℕ) (st : Stage) (used : ℕ) (h : Heard) (hs : List Heard) → is_over st ≡ false
     → frame_at j image st ∷ frames_in (exchanges j image (used + (after_heard j used st h).spent) (after_heard j used st h).stage hs)
     ≡ frames_in (exchanges j image used st (h ∷ hs))
-unfolding exchanges frames_in
+unfolding exchanges frames_in if◌then◌otherwise◌
 first-sent j image st used h hs o = rw o
 
 -- The frame that is due is handed out, and what is heard moves the dock on as the flow says.

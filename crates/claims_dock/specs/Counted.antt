@@ -1,6 +1,6 @@
 -- Retries counted by what was heard, without the flow's own count: document 01, "The dock's flow", "A status 07h or 15h spends one retry and restarts the block
 -- (or the setup command); with none left the job fails."
-use Rattle.std.specs.Prelude.{Bool, false, not, List, [], ◌∷◌, ◌+◌, ℕ, eqb, if◌then◌else◌}
+use Rattle.std.specs.Prelude.{Bool, false, not, List, [], ◌∷◌, ◌+◌, ℕ, eqb}
 use Rattle.dock_answer.specs.Answer.{read_answer}
 use Rattle.dock_answer.specs.declared.Decoded.{Decoded}
 use Rattle.dock_answer.specs.declared.Decoded.TheVariants.{Garbled, Said}
@@ -9,7 +9,7 @@ use Rattle.dock_flow.specs.Frames.{query_at}
 use Rattle.dock_job.specs.Job.{is_over}
 use Rattle.dock_job.specs.declared.Job.{Job}
 use Rattle.dock_job.specs.declared.Stage.{Stage}
-use Rattle.words.specs.Words.{◌and◌, ◌or◌}
+use Rattle.words.specs.Words.{◌and◌, ◌or◌, if◌then◌otherwise◌}
 
 -- The status that decides an answer is 07h or 15h.
 unfoldable pub asks_again : Decoded → Bool
@@ -22,14 +22,14 @@ says_again j st silence = false
 
 -- It said so to the frame of a stage, and the job went on: one retry. Where the job failed, none.
 unfoldable pub restart : Job → Stage → Heard → Stage → ℕ
-restart j st h after = if says_again j st h and not (is_over after) then 1 else 0
+restart j st h after = if says_again j st h and not (is_over after) then 1 otherwise 0
 
 -- How often that happens over a history, from a stage with so many retries used.
 unfoldable pub restarts : Job → ℕ → Stage → List Heard → ℕ
 restarts j used st [] = 0
 restarts j used st (h ∷ hs) =
     if is_over st then 0
-    else
+    otherwise
     let after = (after_heard j used st h).stage in
     let n = restart j st h after in
     n + restarts j (used + n) after hs

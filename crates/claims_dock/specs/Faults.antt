@@ -1,6 +1,6 @@
 -- Document 02, §4: "The dock's failure result also names the fault of an unreadable reply, from its first faulty frame". Which answers are readable has not changed:
 -- what made one readable before stands here as it was.
-use Rattle.std.specs.Prelude.{Bool, false, not, true, List, [], ◌∷◌, ◌≡◌, ◌+◌, ℕ, eqb, drop, get_or, length, take, if◌then◌else◌}
+use Rattle.std.specs.Prelude.{Bool, false, not, true, List, [], ◌∷◌, ◌≡◌, ◌+◌, ℕ, eqb, drop, get_or, length, take}
 use Rattle.claims_frame.specs.Faults.{BlamedReply, good_before, judge_before}
 use Rattle.dock_answer.specs.Answer.{deciding, in_first, judge_answer, judge_frames, matching, none_left, read_answer, readable, shape, statuses}
 use Rattle.dock_answer.specs.declared.Decoded.{Decoded}
@@ -23,14 +23,14 @@ use Rattle.frame.specs.declared.Header.TheVariants.{Data}
 use Rattle.frame.specs.declared.judgement.Judgement.{Judgement}
 use Rattle.frame.specs.declared.judgement.Judgement.TheVariants.{Good}
 use Rattle.part.specs.declared.Part.{Part}
-use Rattle.words.specs.Words.{◌and◌}
+use Rattle.words.specs.Words.{◌and◌, if◌then◌otherwise◌}
 
 -- Before §4: how many bytes the frame at the front carries, "with 02h, fitting LEN, right SUM and 03h", 0 where there is none; and an answer that is exactly such
 -- frames, with nothing after them.
 unfoldable pub carried_before : List ℕ → ℕ
 carried_before bs =
     let n = counted (get_or bs 1 0) in
-    if eqb (get_or bs 0 0) (header_byte Data) and good_before (judge_before Last (take (n + overhead) bs)) then n else 0
+    if eqb (get_or bs 0 0) (header_byte Data) and good_before (judge_before Last (take (n + overhead) bs)) then n otherwise 0
 
 unfoldable pub exactly_before : List ℕ → List ℕ → Bool
 exactly_before [] bs = eqb (length bs) 0
@@ -40,7 +40,7 @@ unfoldable pub readable_before : Form → List ℕ → Bool
 readable_before f bs = exactly_before (shape f (in_first 0 bs) (in_first 1 bs)) bs
 
 unfoldable pub decoded_before : Part → ℕ → Form → List ℕ → Decoded
-decoded_before p supply f bs = if readable_before f bs then Said (deciding (statuses f bs)) (matching p supply f bs) else Garbled
+decoded_before p supply f bs = if readable_before f bs then Said (deciding (statuses f bs)) (matching p supply f bs) otherwise Garbled
 
 abbrev pub ReadableAsBefore : Type 0
 ReadableAsBefore = (f : Form) (bs : List ℕ) → readable f bs ≡ readable_before f bs

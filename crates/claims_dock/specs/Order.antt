@@ -1,5 +1,5 @@
 -- Document 01, "Refusal numbers", "Order .. for the dock: 1, 5, 6, 7, 9, 4, 8": calls with two faults at once, and the number that each is refused with.
-use Rattle.std.specs.Prelude.{Bool, false, not, List, [], ◌++◌, ◌∷◌, ℕ, eqb, replicate, if◌then◌else◌}
+use Rattle.std.specs.Prelude.{Bool, false, not, List, [], ◌++◌, ◌∷◌, ℕ, eqb, replicate}
 use Rattle.claims_dock.specs.Examples.{RefusalRow, job_with, say}
 use Rattle.dock.specs.Calls.{ask_of, begin_of, hear_of}
 use Rattle.dock.specs.declared.Report.{Report}
@@ -10,7 +10,7 @@ use Rattle.dock_job.specs.declared.Job.{Job}
 use Rattle.dock_job.specs.declared.Stage.TheVariants.{InBlock}
 use Rattle.dock_job.specs.declared.Work.TheVariants.{Blank}
 use Rattle.part.specs.Refusal.{number}
-use Rattle.words.specs.Words.{◌or◌}
+use Rattle.words.specs.Words.{◌or◌, if◌then◌otherwise◌}
 
 -- Faults are named by the numbers of their refusals.
 unfoldable pub has : ℕ → List ℕ → Bool
@@ -20,16 +20,16 @@ has n (m ∷ ms) = eqb n m or has n ms
 -- 1: rate 04h; 5: a start that is no block's; 6: a byte too few; 7: 16 retries; 9: a third block of two; 4: 259 bytes of room. Without them all is well.
 abbrev pub job_of : List ℕ → Job
 job_of faults =
-    job_with (if has 5 faults then 0x0001 else 0x0000) 0x07FF (if has 1 faults then 0x04 else 0x00) 33 (if has 7 faults then 16 else 1)
+    job_with (if has 5 faults then 0x0001 otherwise 0x0000) 0x07FF (if has 1 faults then 0x04 otherwise 0x00) 33 (if has 7 faults then 16 otherwise 1)
 
 abbrev pub image_of : List ℕ → List ℕ
-image_of faults = replicate (if has 6 faults then 2047 else 2048) 0x5A
+image_of faults = replicate (if has 6 faults then 2047 otherwise 2048) 0x5A
 
 abbrev pub dock_of : Bool → List ℕ → Dock
-dock_of awaited faults = record { stage = InBlock (if has 9 faults then 2 else 1) Blank; awaited = awaited; retries = 0; frames = 15 }
+dock_of awaited faults = record { stage = InBlock (if has 9 faults then 2 otherwise 1) Blank; awaited = awaited; retries = 0; frames = 15 }
 
 abbrev pub room_of : List ℕ → List ℕ
-room_of faults = replicate (if has 4 faults then 259 else 260) 0x00
+room_of faults = replicate (if has 4 faults then 259 otherwise 260) 0x00
 
 -- The number that a report refuses with; 0 where it does not.
 unfoldable pub refused_by : Report → ℕ

@@ -21,7 +21,7 @@ use Rattle.numbers.specs.Numbers.{bit, low_first, number_at}
 use Rattle.lent.specs.Lent.{all_are}
 use Rattle.chip_options.specs.Options.{option_bytes, options_in}
 use Rattle.chip_options.specs.declared.Options.{Options}
-use Rattle.words.specs.Words.{◌and◌, ◌from◌to◌, ◌or◌}
+use Rattle.words.specs.Words.{◌and◌, ◌from◌to◌, ◌or◌, if◌then◌otherwise◌}
 
 -- A number of k bytes, taken apart and put together.
 unfoldable pub together : ℕ → ℕ → ℕ
@@ -73,7 +73,7 @@ held_in bs = record { core = core_in bs; collector = collector_in bs }
 back : (flags boot start end rate : ℕ) (f : Phase) (bytes : List ℕ) (len : ℕ) → start < 256 ^ 2 → end < 256 ^ 2 → (awaited_of f).next < 256 ^ 8
     → (awaited_of f).last < 256 ^ 8 → len < 256 ^ 8 → length bytes ≡ 260
     → held_in (chip_bytes (made flags boot start end rate f bytes len)) ≡ made flags boot start end rate f bytes len
-unfolding chip_bytes head_of option_bytes low_first number_at options_in awaited_held collector_in phase_in together
+unfolding chip_bytes head_of option_bytes low_first number_at options_in awaited_held collector_in phase_in if◌then◌otherwise◌ together
 back flags boot start end rate ModeByte bytes len s e n l c p =
     same flags boot rate (together-is 2 start s) (together-is 2 end e) (refl {a = ModeByte}) (collected bytes _ p) (together-is 8 len c)
 back flags boot start end rate Setup bytes len s e n l c p =

@@ -27,9 +27,10 @@ use Rattle.frame.specs.declared.judgement.Judgement.TheVariants.{Good, UnfitLeng
 use Rattle.numbers.proofs.Laws.{bit-back}
 use Rattle.numbers.specs.Numbers.{bit, low_first, number_at}
 use Rattle.lent.proofs.Laws.{same-is, same_self}
+use Rattle.words.specs.Words.{if◌then◌otherwise◌}
 
 named_back : (b : Named) → named b < 256 ^ 4 → named_in (is_named b) (together 4 (named b)) ≡ b
-unfolding named_in is_named named
+unfolding named_in is_named named if◌then◌otherwise◌
 named_back (It n) h = ap It (together-is 4 n h)
 named_back Unnamed h = refl
 
@@ -43,14 +44,14 @@ flat_back f awaited retries frames h i j =
     ∙ ap (λ (n : ℕ). flat f.stage f.block f.page f.cause f.command f.status (fault f.fault.number n)) (together-is 2 f.fault.place j)
 
 cause-back : (c : Cause) → cause_in (cause_number c) ≡ c
-unfolding cause_in cause_number
+unfolding cause_in cause_number if◌then◌otherwise◌
 cause-back UnexpectedStatus = refl
 cause-back Mismatch = refl
 cause-back Unreadable = refl
 cause-back TimedOut = refl
 
 judgement-back : (j : Judgement) → judgement_in (fault_of j).number (fault_of j).place ≡ j
-unfolding judgement_in
+unfolding judgement_in if◌then◌otherwise◌
 judgement-back Good = refl
 judgement-back (WrongFooter at) = refl
 judgement-back (WrongSum at) = refl
@@ -61,7 +62,7 @@ abbrev failed : Cause → Judgement → Failure → Stage
 failed c j f = Over (Failed (record { cause = c; command = f.command; page = f.page; status = f.status; block = f.block; fault = j }))
 
 stage-back : (s : Stage) → stage_in (flat_of s) ≡ s
-unfolding stage_in flat_of flat_work flat_ending ending_in setup_in work_in named
+unfolding stage_in flat_of flat_work flat_ending ending_in setup_in work_in named if◌then◌otherwise◌
 stage-back (SetUp BaudRate) = refl
 stage-back (SetUp ResetChip) = refl
 stage-back (SetUp SiliconSignature) = refl

@@ -24,19 +24,20 @@ use Rattle.dock_job.specs.declared.Stage.{Stage}
 use Rattle.dock_job.specs.declared.Stage.TheVariants.{InBlock, Over, SetUp}
 use Rattle.dock_job.specs.declared.refusals.Call.TheVariants.{Begins}
 use Rattle.part.specs.declared.refusal.Verdict.TheVariants.{Accepted}
+use Rattle.words.specs.Words.{if◌then◌otherwise◌}
 
 ends-quiet : Quiet Figures end_told
-unfolding end_told figures_of
+unfolding end_told figures_of if◌then◌otherwise◌
 ends-quiet = record { going = refl; refused = λ r. refl }
 
 -- An ending has a number, which is not 0, and it is the one told.
 told-as : (e : Ending) (frames retries : ℕ) → end_told (Ended (record { ending = e; frames = frames; retries = retries })) ≡ end_at (Over e) frames retries
-unfolding end_told figures_of end_at ending_number ended_as
+unfolding end_told figures_of end_at ending_number ended_as if◌then◌otherwise◌
 told-as Finished frames retries = refl
 told-as (Failed f) frames retries = refl
 
 end_is : (st : Stage) (d : Dock) → end_told (standing st d) ≡ end_at st d.frames d.retries
-unfolding end_told figures_of standing end_at
+unfolding end_told figures_of standing end_at if◌then◌otherwise◌
 end_is (SetUp s) d = refl
 end_is (InBlock k w) d = refl
 end_is (Over e) d = told-as e d.frames d.retries

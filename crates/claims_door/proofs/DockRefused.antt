@@ -1,6 +1,5 @@
 -- A call on the dock that is refused changes nothing, the numbers told included: "State and lent bytes stay."
 -- Assumes nothing.
-use Rattle.std.specs.Prelude.{if◌then◌else◌}
 use mathlib.Core.Bool.{Bool, false, true}
 use mathlib.Core.List.{List}
 use mathlib.Core.Path.{◌≡◌, refl}
@@ -21,17 +20,19 @@ use Rattle.dock_job.specs.declared.refusals.Call.TheVariants.{Asks}
 use Rattle.part.specs.Refusal.{number}
 use Rattle.part.specs.declared.refusal.Verdict.{Verdict}
 use Rattle.part.specs.declared.refusal.Verdict.TheVariants.{Accepted, Refused}
+use Rattle.words.specs.Words.{if◌then◌otherwise◌}
 
 -- One of two ways is gone; whichever it is, it keeps things where it is refused.
 either : {A : Type 0} (refusal : A → ℕ) (P : A → Type 0) (t : Bool) {x y : A} → ((refusal x ≡ 0 → ⊥) → P x) → ((refusal y ≡ 0 → ⊥) → P y)
-    → (refusal (if t then x else y) ≡ 0 → ⊥) → P (if t then x else y)
+    → (refusal (if t then x otherwise y) ≡ 0 → ⊥) → P (if t then x otherwise y)
+unfolding if◌then◌otherwise◌
 either refusal P true f g h = f h
 either refusal P false f g h = g h
 
 asks-kept : (u : Verdict) (f : Placed) (d : Dock) (told state room : List ℕ)
     → ((asked_by (asked (handed u f room) (handed u f room).answer d) told state).refusal ≡ 0 → ⊥)
     → AskKept (asked_by (asked (handed u f room) (handed u f room).answer d) told state) told state room
-unfolding asked_by asked handed figures_of
+unfolding asked_by asked handed figures_of if◌then◌otherwise◌
 asks-kept (Refused r) f d told state room h =
     either (λ (a : AskTold). a.refusal) (λ (a : AskTold). AskKept a told state room) (eqb (number r) 0) (λ k. absurd (k refl))
     (λ k. record { told_stays = refl; state_stays = refl; room_stays = refl }) h

@@ -8,7 +8,7 @@ use Rattle.dock_layout.specs.Layout.{bytes_with, cause_in, cause_number, dock_by
 use Rattle.dock_layout.specs.Layout.{judgement_in, named, named_in, setup_in, stage_in}
 use Rattle.lent.specs.Lent.{all_are, same}
 use Rattle.numbers.specs.Numbers.{low_first, number_at}
-use Rattle.words.specs.Words.{◌and◌, ◌from◌to◌, ◌or◌}
+use Rattle.words.specs.Words.{◌and◌, ◌from◌to◌, ◌or◌, if◌then◌otherwise◌}
 
 pub laid_out : LaidOut
 unfolding chip_bytes head_of option_bytes low_first
@@ -25,7 +25,7 @@ dock-laid-out = record { failed_lies = refl; awaiting_lies = refl }
 
 pub fault-bytes-judged : FaultBytes
 unfolding is_dock dock_in flat_in fault_at stage_in ending_in setup_in cause_in judgement_in named_in dock_bytes bytes_with flat_of flat_ending cause_number is_named named low_first
-    number_at same ◌and◌
+    number_at same ◌and◌ if◌then◌otherwise◌
 fault-bytes-judged =
     record {
       footer = refl;

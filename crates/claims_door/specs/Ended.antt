@@ -1,5 +1,5 @@
 -- What the door tells of a job's end, in numbers: document 01, "Frames and retries used are numbers in the result, equal to those in the flow's definition".
-use Rattle.std.specs.Prelude.{List, [], ◌∷◌, ℕ, eqb, if◌then◌else◌}
+use Rattle.std.specs.Prelude.{List, [], ◌∷◌, ℕ, eqb}
 use Rattle.dock.specs.declared.Report.{Report}
 use Rattle.dock_door.specs.Calls.{figures_of, figures_with}
 use Rattle.dock_door.specs.declared.Figures.{Figures}
@@ -7,10 +7,11 @@ use Rattle.dock_job.specs.declared.Ending.{Ending}
 use Rattle.dock_job.specs.declared.Ending.TheVariants.{Failed, Finished}
 use Rattle.dock_job.specs.declared.Stage.{Stage}
 use Rattle.dock_job.specs.declared.Stage.TheVariants.{InBlock, Over, SetUp}
+use Rattle.words.specs.Words.{if◌then◌otherwise◌}
 
 -- The numbers of a call that tells an end: its `ended` is not 0.
 unfoldable pub end_told : Report → List Figures
-end_told r = if eqb (figures_of r).ended 0 then [] else figures_of r ∷ []
+end_told r = if eqb (figures_of r).ended 0 then [] otherwise figures_of r ∷ []
 
 -- Finished 1, failed 2; why, the state says.
 unfoldable pub ended_as : Ending → ℕ

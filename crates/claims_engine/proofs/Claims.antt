@@ -35,6 +35,7 @@ use Rattle.frame.proofs.Laws.Collector.{heard-holding, heard-none, holding-count
 use Rattle.frame.proofs.Laws.Sum.{Below, below-append}
 use Rattle.frame.specs.Collector.{heard, holding}
 use Rattle.part.specs.declared.Part.{Part}
+use Rattle.words.specs.Words.{if◌then◌otherwise◌}
 
 module _ (p : Part) (bs : List ℕ) (c : Chip) (m : Memory) (one : List ℕ) (s : Stands p (before c m one)) (b : Below 256 bs) where
   -- The chip as it would stand with nothing collected: a gap drops what is.
@@ -127,7 +128,7 @@ module _ (p : Part) (bs : List ℕ) (c : Chip) (m : Memory) (one : List ℕ) (s 
 
   feeds : (room : List ℕ) → 32 * length bs ≤ length room
       → Feeds (leaves (played_out p (begins c bs m)) c room) (run p (map Byte bs) (before c m one)) (answers p (map Byte bs) (before c m one)) c room one
-  unfolding leaves utterances holding
+  unfolding leaves utterances holding if◌then◌otherwise◌
   feeds room h =
       let ss = answers p (map Byte bs) (before c m one) in
       let x = played_out p (begins c bs m) in

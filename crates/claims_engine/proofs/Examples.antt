@@ -37,7 +37,7 @@ use Rattle.numbers.specs.Numbers.{low_first, number_at}
 use Rattle.part.specs.Part.{block_of, block_size, described, ends_block, last_of, lies_in, page_of, place_in, place_of, range_of, starts_block, stretch, whole_blocks}
 use Rattle.part.specs.Rate.{accepts_rate, mode_of}
 use Rattle.part.specs.Refusal.{first_of}
-use Rattle.words.specs.Words.{◌and◌, ◌from◌to◌, ◌or◌}
+use Rattle.words.specs.Words.{◌and◌, ◌from◌to◌, ◌or◌, if◌then◌otherwise◌}
 
 pub stretches-play : map (λ (x : Example). x.gives) stretches ≡ map (λ (x : Example). x.printed) stretches
 unfolding stretches after_frame engine_by engine_of front_for front_of leaves played_out turn turn_by turns fresh_chip allowed_in command_does reading_does work hearing
@@ -45,7 +45,7 @@ unfolding stretches after_frame engine_by engine_of front_for front_of leaves pl
     takes_data fault_in frames_of payloads good_awaited good_begun good_collected good_core good_phase good_places good_state verdict_of rate_set command_table fitted
     read_command read_in fresh heard holding complete counted framed full is_frame payload fitting judge_of summed less less_all sum_of number_at block_of block_size
     described ends_block last_of lies_in page_of place_in place_of range_of starts_block stretch whole_blocks erase_of sum_of_bytes block_sum kept range_bytes resummed slot
-    block_erase checksum erased_in forbidden erase_frame put_at put_of low_first accepts_rate mode_of first_of ◌and◌ ◌from◌to◌ ◌or◌
+    block_erase checksum erased_in forbidden erase_frame put_at put_of low_first accepts_rate mode_of first_of ◌and◌ ◌from◌to◌ ◌or◌ if◌then◌otherwise◌
 stretches-play = refl
 
 -- The claims' premises are met: of Reset cut after three bytes, the first part and both.

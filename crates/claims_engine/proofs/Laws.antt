@@ -24,6 +24,7 @@ use Rattle.frame.specs.Frame.{complete, counted, header_byte}
 use Rattle.frame.specs.declared.Header.{Header}
 use Rattle.frame.specs.declared.Header.TheVariants.{Command, Data}
 use Rattle.part.specs.declared.Part.{Part}
+use Rattle.words.specs.Words.{if◌then◌otherwise◌}
 
 -- The header that a phase hears.
 pub data HearsFor : Hearing → Header → Type 0 where
@@ -72,17 +73,17 @@ front-for f h b cs for_commands = refl
 front-for f h b cs (for_data w) = refl
 
 pub front-skipped : (f : Hearing) (h : Header) (b : ℕ) (cs : List ℕ) → HearsFor f h → (b ≡ header_byte h → ⊥) → front_of f (b ∷ cs) ≡ Skipped
-unfolding front_for
+unfolding front_for if◌then◌otherwise◌
 front-skipped f h b cs w n = front-for f h b cs w ∙ simp (ne_eqb b (header_byte h) n)
 
 pub front-whole : (f : Hearing) (h : Header) (bs : List ℕ) → HearsFor f h → get_or bs 0 0 ≡ header_byte h → complete bs ≡ true
     → front_of f bs ≡ Whole (counted (get_or bs 1 0) + 4)
-unfolding front_for
+unfolding front_for if◌then◌otherwise◌
 front-whole f h [] w e c = absurd (omega (arith, complete-long [] c))
 front-whole f h (b ∷ cs) w e c = front-for f h b cs w ∙ simp (eq-eqb b (header_byte h) e, c)
 
 pub front-part : (f : Hearing) (h : Header) (bs : List ℕ) → HearsFor f h → get_or bs 0 0 ≡ header_byte h → complete bs ≡ false → front_of f bs ≡ Held
-unfolding front_for front_of
+unfolding front_for if◌then◌otherwise◌ front_of
 front-part f h [] w e c = refl
 front-part f h (b ∷ cs) w e c = front-for f h b cs w ∙ simp (eq-eqb b (header_byte h) e, c)
 

@@ -1,6 +1,5 @@
 -- What the plain engine refuses: the proof of `EngineRefused` (document 02, §7, "Refusals: 12 .. in place of 4").
 -- Assumes nothing.
-use Rattle.std.specs.Prelude.{if◌then◌else◌}
 use mathlib.Core.Bool.{Bool, false, not, true}
 use mathlib.Core.List.{List, [], ◌∷◌}
 use mathlib.Core.Path.{◌∙◌, ◌≡◌, ap, refl, sym}
@@ -27,6 +26,7 @@ use Rattle.part.specs.declared.refusal.Refusal.{Refusal}
 use Rattle.part.specs.declared.refusal.Refusal.TheVariants.{BadPart, BadState, CodeLength, DataLength, ShortRoom}
 use Rattle.part.specs.declared.refusal.Verdict.{Verdict}
 use Rattle.part.specs.declared.refusal.Verdict.TheVariants as Verdict
+use Rattle.words.specs.Words.{if◌then◌otherwise◌}
 
 -- All rooms of 32 bytes and more are one to the verdict, and 4 is not given for them.
 pub verdict-room : (p : Part) (c : Chip) (code extra n : ℕ) → 32 ≤ n → verdict_on p c code extra n ≡ verdict_on p c code extra 32
@@ -34,7 +34,7 @@ unfolding verdict_of
 verdict-room p c code extra n h = rw (le-ltb n 32 h)
 
 never-short : (p : Part) (c : Chip) (code extra : ℕ) → verdict_on p c code extra 32 ≡ Verdict.Refused ShortRoom → ⊥
-unfolding verdict_of first_of
+unfolding verdict_of first_of if◌then◌otherwise◌
 never-short p c code extra e =
     go (not (described p)) (not (eqb code (size p CodeFlash))) (not (eqb extra (size p DataFlash)))
     (not (good_state p c.core (handed_with c.collector code extra 32).count (handed_with c.collector code extra 32).head (handed_with c.collector code extra 32).len)) e
@@ -57,11 +57,11 @@ settled-refused Verdict.Accepted p x c m room r e = absurd (let z : ◌≡◌ {A
 -- The engine's answers, by the verdict; t is whether the room is too short.
 refused-by : (v : Verdict) (p : Part) (bs : List ℕ) (c : Chip) (m : Memory) (room : List ℕ) (r : Refusal)
     → (engine_by v p bs c m room).answer ≡ EngineAnswer.Refused r → v ≡ Verdict.Refused r
-unfolding engine_by leaves
+unfolding engine_by if◌then◌otherwise◌ leaves
 refused-by (Verdict.Refused q) p bs c m room r e = let z : q ≡ r = cc in ap Verdict.Refused z
 refused-by Verdict.Accepted p bs c m room r e = absurd (go (ltb (length room / 32) (length bs)) e)
   where
-    go : (t : Bool) → (if t then refused_with EngineAnswer.NoRoom c m room else leaves (played_out p (begins c bs m)) c room).answer ≡ EngineAnswer.Refused r → ⊥
+    go : (t : Bool) → (if t then refused_with EngineAnswer.NoRoom c m room otherwise leaves (played_out p (begins c bs m)) c room).answer ≡ EngineAnswer.Refused r → ⊥
     go true e = let z : ◌≡◌ {A = ℕ} 0 1 = cc in omega arith
     go false e = let z : ◌≡◌ {A = ℕ} 0 1 = cc in omega arith
 
@@ -71,25 +71,25 @@ record Wants (v : Verdict) (bs room : List ℕ) : Type 0 where
   short : length room < 32 * length bs
 
 engine-short : (v : Verdict) (p : Part) (bs : List ℕ) (c : Chip) (m : Memory) (room : List ℕ) → (engine_by v p bs c m room).answer ≡ EngineAnswer.NoRoom → Wants v bs room
-unfolding engine_by leaves
+unfolding engine_by if◌then◌otherwise◌ leaves
 engine-short (Verdict.Refused q) p bs c m room e = absurd (let z : ◌≡◌ {A = ℕ} 0 1 = cc in omega arith)
 engine-short Verdict.Accepted p bs c m room e = go (ltb (length room / 32) (length bs)) refl e
   where
     go : (t : Bool) → ltb (length room / 32) (length bs) ≡ t
-        → (if t then refused_with EngineAnswer.NoRoom c m room else leaves (played_out p (begins c bs m)) c room).answer ≡ EngineAnswer.NoRoom → Wants Verdict.Accepted bs room
+        → (if t then refused_with EngineAnswer.NoRoom c m room otherwise leaves (played_out p (begins c bs m)) c room).answer ≡ EngineAnswer.NoRoom → Wants Verdict.Accepted bs room
     go true t e = record { accepted = refl; short = omega (arith, ltb-true (length room / 32) (length bs) t) }
     go false t e = absurd (let z : ◌≡◌ {A = ℕ} 0 1 = cc in omega arith)
 
 short-engine : (v : Verdict) (p : Part) (bs : List ℕ) (c : Chip) (m : Memory) (room : List ℕ) → ((r : Refusal) → v ≡ Verdict.Refused r → ⊥)
     → length room < 32 * length bs → engine_by v p bs c m room ≡ refused_with EngineAnswer.NoRoom c m room
-unfolding engine_by
+unfolding engine_by if◌then◌otherwise◌
 short-engine (Verdict.Refused q) p bs c m room n h = absurd (n q refl)
 short-engine Verdict.Accepted p bs c m room n h = simp (lt-ltb (length room / 32) (length bs) (omega arith))
 
 -- An accepted call with enough room is played.
 pub engine-plays : (v : Verdict) (p : Part) (bs : List ℕ) (c : Chip) (m : Memory) (room : List ℕ) → v ≡ Verdict.Accepted → 32 * length bs ≤ length room
     → engine_by v p bs c m room ≡ leaves (played_out p (begins c bs m)) c room
-unfolding engine_by
+unfolding engine_by if◌then◌otherwise◌
 engine-plays (Verdict.Refused q) p bs c m room e h = absurd (let z : ◌≡◌ {A = ℕ} 0 1 = cc in omega arith)
 engine-plays Verdict.Accepted p bs c m room e h = simp (le-ltb (length room / 32) (length bs) (omega arith))
 

@@ -39,7 +39,7 @@ use Rattle.frame.specs.Frame.{complete, full, header_byte}
 use Rattle.frame.specs.declared.Header.{Header}
 use Rattle.part.specs.declared.Part.{Part}
 use Rattle.words.proofs.Laws.{and_both, or_right}
-use Rattle.words.specs.Words.{◌and◌}
+use Rattle.words.specs.Words.{◌and◌, if◌then◌otherwise◌}
 
 -- The phase awaits a frame with the header that it hears.
 pub record Awaits (f : Phase) (h : Header) : Type 0 where
@@ -76,12 +76,12 @@ unfolding reaction_of react_to byte_in
 mode-passes p o b s n f = passes p o b (mode_byte o.chip.core b) s (rw (f, heard-none o.chip.collector n))
 
 hear-skips : (h : Header) (b : ℕ) → (b ≡ header_byte h → ⊥) → hear h [] b ≡ []
-unfolding hear
+unfolding hear if◌then◌otherwise◌
 hear-skips h b n = simp (ne_eqb b (header_byte h) n)
 
 pub skip-passes : (p : Part) (o : Outcome) (h : Header) (b : ℕ) → Stands p o → o.chip.collector.len ≡ 0 → HearsFor (hearing o.chip.core.phase) h
     → (b ≡ header_byte h → ⊥) → Passes p o b o.chip.core
-unfolding reaction_of react_to byte_in heard_byte complete full ◌and◌
+unfolding reaction_of react_to byte_in heard_byte complete full ◌and◌ if◌then◌otherwise◌
 skip-passes p o h b s n w g = passes p o b o.chip.core s (rw (heard-none o.chip.collector n) (go (hearing o.chip.core.phase) h w g))
   where
     go : (f : Hearing) (i : Header) → HearsFor f i → (b ≡ header_byte i → ⊥) → byte_in f p o.chip.core [] b o.memory ≡ reaction [] (silent o.chip.core o.memory)

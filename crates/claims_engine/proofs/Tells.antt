@@ -1,6 +1,5 @@
 -- What a list of utterances says in all, and how the engine's sums of replies and faults grow by it (document 02, §7 and §4).
 -- Assumes nothing.
-use Rattle.std.specs.Prelude.{if◌then◌else◌}
 use mathlib.Core.Bool.{Bool, false, true}
 use mathlib.Core.List.{List, [], ◌++◌, ◌∷◌, append_assoc, append-nil, map}
 use mathlib.Core.Path.{◌∙◌, ◌≡◌, ap, refl, sym}
@@ -15,6 +14,7 @@ use Rattle.engine.specs.Engine.{Stand}
 use Rattle.frame.specs.Judgement.{is_good}
 use Rattle.frame.specs.declared.judgement.Judgement.{Judgement}
 use Rattle.frame.specs.declared.judgement.Judgement.TheVariants.{Good, UnfitLength, WrongFirst, WrongFooter, WrongSum}
+use Rattle.words.specs.Words.{if◌then◌otherwise◌}
 
 -- The bytes, the frames and the faults of a list of utterances.
 unfoldable pub said_by : List Utterance → List ℕ
@@ -46,9 +46,10 @@ faults-back (s ∷ ss) = rw (faults-back ss)
 
 -- The first of two faults: of two that are told one after the other.
 abbrev pub or_else : Judgement → Judgement → Judgement
-or_else j k = if is_good j then k else j
+or_else j k = if is_good j then k otherwise j
 
 or_assoc : (i j k : Judgement) → or_else (or_else i j) k ≡ or_else i (or_else j k)
+unfolding if◌then◌otherwise◌
 or_assoc Good j k = refl
 or_assoc (WrongFooter at) j k = refl
 or_assoc (WrongSum at) j k = refl
@@ -56,6 +57,7 @@ or_assoc UnfitLength j k = refl
 or_assoc WrongFirst j k = refl
 
 pub or-good : (j : Judgement) → or_else j Good ≡ j
+unfolding if◌then◌otherwise◌
 or-good Good = refl
 or-good (WrongFooter at) = refl
 or-good (WrongSum at) = refl
@@ -79,7 +81,7 @@ faults-append [] vs = refl
 faults-append (u ∷ us) vs = rw (faults-append us vs, append_assoc)
 
 first-joined : (j : Judgement) (js : List Judgement) → first_fault (fault_if_bad j ++ js) ≡ or_else j (first_fault js)
-unfolding first_fault
+unfolding first_fault if◌then◌otherwise◌
 first-joined Good js = refl
 first-joined (WrongFooter at) js = refl
 first-joined (WrongSum at) js = refl
@@ -87,7 +89,7 @@ first-joined UnfitLength js = refl
 first-joined WrongFirst js = refl
 
 pub first-append : (us vs : List Utterance) → first_fault (faults_by (us ++ vs)) ≡ or_else (first_fault (faults_by us)) (first_fault (faults_by vs))
-unfolding faults_by first_fault
+unfolding faults_by first_fault if◌then◌otherwise◌
 first-append [] vs = refl
 first-append (u ∷ us) vs =
     first-joined u.fault (faults_by (us ++ vs)) ∙ ap (or_else u.fault) (first-append us vs) ∙ sym (or_assoc u.fault _ _)
@@ -100,7 +102,7 @@ pub record Silent (us : List Utterance) : Type 0 where
   pub faults : faults_by us ≡ []
 
 pub silence-says : (n : ℕ) → Silent (replicate n silence)
-unfolding said_by frames_by faults_by
+unfolding said_by frames_by faults_by if◌then◌otherwise◌
 silence-says zero = record { said = refl; frames = refl; faults = refl }
 silence-says (suc n) = let r = silence-says n in record { said = r.said; frames = omega (arith, r.frames); faults = r.faults }
 
@@ -135,8 +137,8 @@ tells-silent {s} {t} us q a b c d =
 
 -- One utterance.
 pub tells-one : {s t : Stand} (u : Utterance) → t.said ≡ s.said ++ u.bytes → t.frames ≡ s.frames + frame_count u.answer
-    → t.faults ≡ (if is_good u.fault then s.faults else s.faults + 1) → t.first ≡ or_else s.first u.fault → Tells s (u ∷ []) t
-unfolding said_by frames_by faults_by first_fault
+    → t.faults ≡ (if is_good u.fault then s.faults otherwise s.faults + 1) → t.first ≡ or_else s.first u.fault → Tells s (u ∷ []) t
+unfolding said_by frames_by faults_by first_fault if◌then◌otherwise◌
 tells-one {s} {t} u a b c d =
     record {
       said = a ∙ rw append-nil;
@@ -145,7 +147,7 @@ tells-one {s} {t} u a b c d =
       first = d ∙ ap (or_else s.first) (sym (first-joined u.fault [] ∙ or-good u.fault));
     }
   where
-    go : (v : Bool) → (if v then s.faults else s.faults + 1) ≡ s.faults + length ((if v then [] else u.fault ∷ []) ++ [])
+    go : (v : Bool) → (if v then s.faults otherwise s.faults + 1) ≡ s.faults + length ((if v then [] otherwise u.fault ∷ []) ++ [])
     go true = omega arith
     go false = omega arith
 

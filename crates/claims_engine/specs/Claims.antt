@@ -1,6 +1,6 @@
 -- The statements of document 02, §7, each proved in proofs/ under its own name: the plain engine, `engine_of`, does what `step_of`, demand 2's definition, does with the
 -- bytes fed one by one, "for every stretch, empty too, wherever it begins"; what it refuses; and that a stretch may be cut anywhere.
-use Rattle.std.specs.Prelude.{List, ◌++◌, map, ◌≢◌, ◌≡◌, ◌*◌, ◌+◌, ◌<◌, ◌≤◌, ℕ, drop, length, take, if◌then◌else◌}
+use Rattle.std.specs.Prelude.{List, ◌++◌, map, ◌≢◌, ◌≡◌, ◌*◌, ◌+◌, ◌<◌, ◌≤◌, ℕ, drop, length, take}
 use Rattle.chip.specs.Run.{Spoken, answers, before, heard_back, run}
 use Rattle.chip.specs.Step.{Outcome, step_of}
 use Rattle.chip.specs.declared.Answer.TheVariants as Answer
@@ -18,6 +18,7 @@ use Rattle.frame.specs.Judgement.{is_good}
 use Rattle.part.specs.declared.Part.{Part}
 use Rattle.part.specs.declared.refusal.Refusal.{Refusal}
 use Rattle.part.specs.declared.refusal.Refusal.TheVariants.{ShortRoom}
+use Rattle.words.specs.Words.{if◌then◌otherwise◌}
 
 -- "gives all replies, the final flash and the options": e is what the engine left of a chip c and a room that was lent; u is what the same bytes left that were fed
 -- one by one, and ss what was said to each of them. The replies are the same, byte for byte, at the start of the room, and the rest of the room is as it was; the
@@ -84,7 +85,7 @@ pub record Joined (d f e : EngineLeft) : Type 0 where
   pub said : replies_in e ≡ replies_in d ++ replies_in f
   pub answer : e.answer ≡ EngineAnswer.Replied (reply_bytes d.answer + reply_bytes f.answer) (reply_frames d.answer + reply_frames f.answer)
   pub faults : e.faults ≡ d.faults + f.faults
-  pub first : e.first ≡ (if is_good d.first then f.first else d.first)
+  pub first : e.first ≡ (if is_good d.first then f.first otherwise d.first)
   pub alike : Alike (before f.chip f.memory f.room) (before e.chip e.memory e.room)
 
 abbrev pub EngineAppend : Type 0

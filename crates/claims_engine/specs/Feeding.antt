@@ -1,12 +1,13 @@
 -- What feeding bytes one by one says in all: document 02, §7, "equal to feeding the bytes one by one". The reply bytes are `heard_back` (chip, specs/Run); here are
 -- the number of reply frames, and the faults of §4.
-use Rattle.std.specs.Prelude.{List, [], ◌++◌, ◌∷◌, ◌+◌, ℕ, if◌then◌else◌}
+use Rattle.std.specs.Prelude.{List, [], ◌++◌, ◌∷◌, ◌+◌, ℕ}
 use Rattle.chip.specs.Run.{Spoken}
 use Rattle.chip.specs.declared.Answer.{Answer}
 use Rattle.chip.specs.declared.Answer.TheVariants.{Refused, Replied}
 use Rattle.frame.specs.Judgement.{is_good}
 use Rattle.frame.specs.declared.judgement.Judgement.{Judgement}
 use Rattle.frame.specs.declared.judgement.Judgement.TheVariants.{Good}
+use Rattle.words.specs.Words.{if◌then◌otherwise◌}
 
 -- The reply frames of an answer, and of all answers together.
 abbrev pub frame_count : Answer → ℕ
@@ -19,7 +20,7 @@ frames_back (x ∷ xs) = frame_count x.answer + frames_back xs
 
 -- The judgements of the frames that were bad, one after the other.
 abbrev pub fault_if_bad : Judgement → List Judgement
-fault_if_bad j = if is_good j then [] else j ∷ []
+fault_if_bad j = if is_good j then [] otherwise j ∷ []
 
 unfoldable pub faults_back : List Spoken → List Judgement
 faults_back [] = []

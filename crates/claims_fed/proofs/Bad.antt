@@ -1,6 +1,5 @@
 -- What a frame does that is not good: it is blamed, flash and sums stay, and a command that awaited data is over.
 -- Assumes nothing.
-use Rattle.std.specs.Prelude.{if◌then◌else◌}
 use mathlib.Core.Bool.{Bool, false, not, true}
 use mathlib.Core.List.{List, [], append-nil}
 use mathlib.Core.Path.{◌≡◌, ap, refl}
@@ -28,6 +27,7 @@ use Rattle.frame.specs.declared.judgement.Judgement.{Judgement}
 use Rattle.part.specs.declared.Part.{Part}
 use Rattle.chip_reply.specs.Reply.{fault_in, frames_of, payloads}
 use Rattle.chip_reply.specs.declared.Reply.TheVariants.{BadFrame, BadPage}
+use Rattle.words.specs.Words.{if◌then◌otherwise◌}
 
 blames-once : (p : Part) (k : Core) (m : Memory) (j : Judgement) → utterance_of p (reaction [] (effect (told (BadFrame j) k) m)) ≡ blames_once j
 unfolding utterance_of fault_in payloads frames_of
@@ -38,10 +38,10 @@ unfolding utterance_of fault_in payloads frames_of
 blames-twice p k m j = rw append-nil
 
 bad-command : (p : Part) (k : Core) (m : Memory) (g : List ℕ) → good_for a_command g ≡ false → command_does p k g m ≡ effect (told (BadFrame (judge_of Last g)) k) m
-unfolding command_does good_for
+unfolding command_does good_for if◌then◌otherwise◌
 bad-command p k m g e =
-    let rest = if not (allowed_in k.phase (get_or (payload g) 0 0)) then effect (says command_error k) m else reading_does (read_command (payload g)) p k m in
-    ap (λ (t : Bool). if not t then effect (told (BadFrame (judge_of Last g)) k) m else rest) e
+    let rest = if not (allowed_in k.phase (get_or (payload g) 0 0)) then effect (says command_error k) m otherwise reading_does (read_command (payload g)) p k m in
+    ap (λ (t : Bool). if not t then effect (told (BadFrame (judge_of Last g)) k) m otherwise rest) e
 
 pub command-blamed : (f : Phase) (p : Part) (k : Core) (m : Memory) (j : Judgement) → AwaitsCommand f → BadDoes f p k m j (effect (told (BadFrame j) k) m)
 unfolding bad_core
@@ -50,22 +50,22 @@ command-blamed f p k m j in_ready = record { core = refl; memory = refl; utters 
 
 bad-data : (p : Part) (k : Core) (w : Awaited) (m : Memory) (g : List ℕ) → good_for (awaits_in (Awaiting w)) g ≡ false
     → data_does p k w g m ≡ effect (bad_data w (judged_in (awaits_in (Awaiting w)) g) k) m
-unfolding data_does good_for
+unfolding data_does good_for if◌then◌otherwise◌
 bad-data p k w m g e =
     let j = judged_in (awaits_in (Awaiting w)) g in
     let b : is_good j ≡ false = e in
-    ap (λ (t : Bool). if not t then effect (bad_data w j k) m else good_data p k w (payload g) m) b
+    ap (λ (t : Bool). if not t then effect (bad_data w j k) m otherwise good_data p k w (payload g) m) b
 
 data-blamed : (p : Part) (k : Core) (w : Awaited) (m : Memory) (j : Judgement) → BadDoes (Awaiting w) p k m j (effect (bad_data w j k) m)
-unfolding bad_data bad_core
+unfolding bad_data bad_core if◌then◌otherwise◌
 data-blamed p k w m j = record { core = core-so (eqb w.command 0xA0); memory = refl; utters = says_so (eqb w.command 0xA0) }
   where
-    core-so : (t : Bool) → (if t then told (BadFrame j) (ready k) else told (BadPage j) (ready k)).core ≡ ready k
+    core-so : (t : Bool) → (if t then told (BadFrame j) (ready k) otherwise told (BadPage j) (ready k)).core ≡ ready k
     core-so true = refl
     core-so false = refl
 
-    says_so : (t : Bool) → utterance_of p (reaction [] (effect (if t then told (BadFrame j) (ready k) else told (BadPage j) (ready k)) m))
-        ≡ (if t then blames_once j else blames_twice j)
+    says_so : (t : Bool) → utterance_of p (reaction [] (effect (if t then told (BadFrame j) (ready k) otherwise told (BadPage j) (ready k)) m))
+        ≡ (if t then blames_once j otherwise blames_twice j)
     says_so true = blames-once p (ready k) m j
     says_so false = blames-twice p (ready k) m j
 

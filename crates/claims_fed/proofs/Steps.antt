@@ -1,6 +1,5 @@
 -- One sound, as the chip hears it and as the framing rule hears it: they complete the same frames, and a frame does its work.
 -- Assumes nothing.
-use Rattle.std.specs.Prelude.{if◌then◌else◌}
 use mathlib.Core.Bool.{Bool, false, true}
 use mathlib.Core.List.{List, [], ◌∷◌}
 use mathlib.Core.Path.{◌∙◌, ◌≡◌, ap, refl, sym}
@@ -26,6 +25,7 @@ use Rattle.frame.specs.Frame.{complete}
 use Rattle.frame.specs.Framing.{Framing, Sound, byte, framing, gap}
 use Rattle.frame.specs.declared.Header.TheVariants.{Command, Data}
 use Rattle.part.specs.declared.Part.{Part}
+use Rattle.words.specs.Words.{if◌then◌otherwise◌}
 
 -- What a chip makes of what its collector has: x is what a complete frame does.
 by_taken : List (List ℕ) → (List ℕ → Effect) → Core → Memory → List ℕ → Reaction
@@ -36,11 +36,11 @@ collected_by : (List ℕ → Effect) → Core → Memory → Collected → React
 collected_by x k m c = by_taken c.taken x k m c.holds
 
 heard-collects : (hs : List ℕ) (x : List ℕ → Effect) (k : Core) (m : Memory) → heard_byte hs (x hs) k m ≡ collected_by x k m (take-up hs)
-unfolding heard_byte take-up collected_by by_taken
+unfolding heard_byte take-up if◌then◌otherwise◌ collected_by by_taken
 heard-collects hs x k m = go (complete hs)
   where
-    go : (t : Bool) → (if t then reaction [] (x hs) else reaction hs (silent k m))
-        ≡ collected_by x k m (if t then record { holds = []; taken = hs ∷ [] } else record { holds = hs; taken = [] })
+    go : (t : Bool) → (if t then reaction [] (x hs) otherwise reaction hs (silent k m))
+        ≡ collected_by x k m (if t then record { holds = []; taken = hs ∷ [] } otherwise record { holds = hs; taken = [] })
     go true = refl
     go false = refl
 

@@ -1,5 +1,5 @@
 -- What a frame does that is fed to the chip byte by byte, and what one does that is not good: demand 2's judgement, as noise, recordings and a whole cable need it.
-use Rattle.std.specs.Prelude.{List, [], ◌++◌, ◌∷◌, map, ◌≡◌, ◌-◌, ℕ, eqb, length, replicate, if◌then◌else◌}
+use Rattle.std.specs.Prelude.{List, [], ◌++◌, ◌∷◌, map, ◌≡◌, ◌-◌, ℕ, eqb, length, replicate}
 use Rattle.chip.specs.Run.{run, spoken_in}
 use Rattle.chip.specs.Step.{Outcome, reaction}
 use Rattle.chip_frame.specs.Does.{frame_does}
@@ -19,6 +19,7 @@ use Rattle.frame.specs.declared.Footer.TheVariants.{Last}
 use Rattle.frame.specs.declared.judgement.Judgement.{Judgement}
 use Rattle.frame.specs.declared.judgement.Judgement.TheVariants.{Good}
 use Rattle.part.specs.declared.Part.{Part}
+use Rattle.words.specs.Words.{if◌then◌otherwise◌}
 
 -- A frame does its work in its phase.
 unfoldable pub does : Phase → Part → Core → Memory → List ℕ → Effect
@@ -59,7 +60,7 @@ abbrev pub blames : Phase → Judgement → Utterance
 blames ModeByte j = blames_once j
 blames Setup j = blames_once j
 blames Ready j = blames_once j
-blames (Awaiting w) j = if eqb w.command 0xA0 then blames_once j else blames_twice j
+blames (Awaiting w) j = if eqb w.command 0xA0 then blames_once j otherwise blames_twice j
 
 -- The record after it.
 unfoldable pub bad_core : Phase → Core → Core

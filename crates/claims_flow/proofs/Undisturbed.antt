@@ -1,6 +1,5 @@
 -- The undisturbed flow is the one written out, for every job: by induction over its blocks.
 -- Assumes nothing.
-use Rattle.std.specs.Prelude.{if◌then◌else◌}
 use mathlib.Core.Bool.{Bool, false, true}
 use mathlib.Core.List.{List, [], ◌++◌, ◌∷◌, append-nil}
 use mathlib.Core.Path.{◌∙◌, ◌≡◌, ap, refl, sym}
@@ -43,7 +42,7 @@ use Rattle.part.specs.Part.{Arrays, block_size}
 use Rattle.part.specs.Rate.{mode_of}
 use Rattle.part.specs.Signature.{signature}
 use Rattle.part.specs.declared.Part.{Part}
-use Rattle.words.specs.Words.{◌and◌, ◌or◌}
+use Rattle.words.specs.Words.{◌and◌, ◌or◌, if◌then◌otherwise◌}
 
 -- The frames of a history from a stage on, with no retry spent, and the job finished.
 record Runs (j : Job) (image : List ℕ) (st : Stage) (hs : List Heard) (fs : List (List ℕ)) : Type 0 where
@@ -54,7 +53,7 @@ record Runs (j : Job) (image : List ℕ) (st : Stage) (hs : List Heard) (fs : Li
 -- One exchange before it.
 step : (j : Job) (image : List ℕ) (st after : Stage) (h : Heard) (hs : List Heard) (fs : List (List ℕ)) → is_over st ≡ false → after_heard j 0 st h ≡ leads after 0
     → Runs j image after hs fs → Runs j image st (h ∷ hs) (frame_at j image st ∷ fs)
-unfolding exchanges place_after frames_in spent_in
+unfolding exchanges place_after frames_in spent_in if◌then◌otherwise◌
 step j image st after h hs fs o e r =
     record {
       sent = rw (o, e) (ap (λ (xs : List (List ℕ)). frame_at j image st ∷ xs) r.sent);
@@ -65,15 +64,15 @@ step j image st after h hs fs o e r =
 -- An answer that is read as 06h and matches leads to what follows.
 well : (j : Job) (st : Stage) (bs : List ℕ) → (read_answer j.part j.supply (query_at j st).form bs).decoded ≡ Said 0x06 true
     → after_heard j 0 st (answered bs) ≡ leads (next j st) 0
-unfolding after_heard after_answer after_status
+unfolding after_heard after_answer after_status if◌then◌otherwise◌
 well j st bs e = rw e
 
 -- The good answers are read so.
 rate-read : (p : Part) (supply : ℕ)
-    → (read_answer p supply WithRate (data_frame (0x06 ∷ p.clock ∷ (if leb 27 supply then 0x00 else 0x01) ∷ []) Last)).decoded ≡ Said 0x06 true
-unfolding read_answer judge_answer judge_frames shape statuses deciding matching rate_matches mode_of framed ◌and◌
+    → (read_answer p supply WithRate (data_frame (0x06 ∷ p.clock ∷ (if leb 27 supply then 0x00 otherwise 0x01) ∷ []) Last)).decoded ≡ Said 0x06 true
+unfolding read_answer judge_answer judge_frames shape statuses deciding matching rate_matches mode_of framed ◌and◌ if◌then◌otherwise◌
 rate-read p supply =
-    let m : ℕ = if leb 27 supply then 0x00 else 0x01 in
+    let m : ℕ = if leb 27 supply then 0x00 otherwise 0x01 in
     rw ((read_back (0x06 ∷ p.clock ∷ m ∷ []) [] (omega arith) (omega arith)).read true refl, eq-eqb p.clock p.clock refl, eq-eqb m m refl)
 
 -- The two frames that answer C0h.
@@ -97,13 +96,13 @@ module _ (sig : List ℕ) (l : length sig ≡ 22) where
       ap (λ (xs : List ℕ). take 22 xs) second-carries ∙ ap (λ (n : ℕ). take n (drop 2 (data_frame sig Last))) (sym l) ∙ second.payload
 
   two-frames : judge_frames (1 ∷ 22 ∷ []) both-frames ≡ Good
-  unfolding judge_frames ◌and◌
+  unfolding judge_frames if◌then◌otherwise◌ ◌and◌
   two-frames =
       let first = read_back (0x06 ∷ []) (data_frame sig Last) (omega arith) (omega arith) in
       rw (first.read false refl, first.follows, ap (λ (n : ℕ). judge_reply n true (data_frame sig Last)) (sym l) ∙ second.read true refl)
 
 signature-read : (p : Part) (supply : ℕ) → Arrays p → (read_answer p supply WithSignature (data_frame (0x06 ∷ []) Last ++ data_frame (signature p) Last)).decoded ≡ Said 0x06 true
-unfolding read_answer judge_answer shape statuses deciding matching signature_matches
+unfolding read_answer judge_answer shape statuses deciding matching signature_matches if◌then◌otherwise◌
 signature-read p supply a =
     let l = signature-long p a.device_long a.name_long a.version_long in
     let sig = signature p in
@@ -112,23 +111,23 @@ signature-read p supply a =
 -- The other answers are the same in every job, and are read by computation.
 one-read : (p : Part) (supply : ℕ) → (read_answer p supply OneStatus (data_frame (0x06 ∷ []) Last)).decoded ≡ Said 0x06 true
 unfolding read_answer judge_answer judge_frames shape statuses deciding matching framed judge_reply unfit_reply counted is_frame judge_of summed less less_all sum_of ◌and◌
-    ◌or◌
+    ◌or◌ if◌then◌otherwise◌
 one-read p supply = refl
 
 not-blank-read : (p : Part) (supply : ℕ) → (read_answer p supply OneStatus (data_frame (0x1B ∷ []) Last)).decoded ≡ Said 0x1B true
 unfolding read_answer judge_answer judge_frames shape statuses deciding matching framed judge_reply unfit_reply counted is_frame judge_of summed less less_all sum_of ◌and◌
-    ◌or◌
+    ◌or◌ if◌then◌otherwise◌
 not-blank-read p supply = refl
 
 page-read : (p : Part) (supply : ℕ) → (read_answer p supply OfPage (data_frame (0x06 ∷ 0x06 ∷ []) Last)).decoded ≡ Said 0x06 true
 unfolding read_answer judge_answer judge_frames shape statuses deciding matching framed judge_reply unfit_reply counted is_frame judge_of summed less less_all sum_of ◌and◌
-    ◌or◌
+    ◌or◌ if◌then◌otherwise◌
 page-read p supply = refl
 
 last-page-read : (p : Part) (supply : ℕ)
     → (read_answer p supply OfLastPage (data_frame (0x06 ∷ 0x06 ∷ []) Last ++ data_frame (0x06 ∷ []) Last)).decoded ≡ Said 0x06 true
 unfolding read_answer judge_answer judge_frames shape statuses deciding matching framed judge_reply unfit_reply counted is_frame judge_of summed less less_all sum_of ◌and◌
-    ◌or◌
+    ◌or◌ if◌then◌otherwise◌
 last-page-read p supply = refl
 
 module _ (j : Job) (image : List ℕ) where
@@ -147,7 +146,7 @@ module _ (j : Job) (image : List ℕ) where
 
     verified : (after : Stage) (hs : List Heard) (fs : List (List ℕ)) → block_from j (k + 1) ≡ after → Runs j image after hs fs
         → Runs j image (InBlock k (VerifyPage 0)) (page_answers (both 0x06 0x06) ++ hs) (four_pages image k ++ fs)
-    unfolding is_over next after_work last_page block_size query_with stored_form frame_at work_frame page_footer
+    unfolding is_over next after_work last_page block_size query_with stored_form frame_at work_frame page_footer if◌then◌otherwise◌
     verified after hs fs n r =
         let e = page-read j.part j.supply in
         said (InBlock k (VerifyPage 0)) (InBlock k (VerifyPage 1)) OfPage _ _ _ refl refl e refl
@@ -157,7 +156,7 @@ module _ (j : Job) (image : List ℕ) where
 
     stored : (hs : List Heard) (fs : List (List ℕ)) → Runs j image (InBlock k VerifyBlock) hs fs
         → Runs j image (InBlock k (ProgramPage 0)) (page_answers (third 0x06) ++ hs) (four_pages image k ++ fs)
-    unfolding is_over next after_work last_page block_size query_with stored_form frame_at work_frame page_footer
+    unfolding is_over next after_work last_page block_size query_with stored_form frame_at work_frame page_footer if◌then◌otherwise◌
     stored hs fs r =
         let e = page-read j.part j.supply in
         said (InBlock k (ProgramPage 0)) (InBlock k (ProgramPage 1)) OfPage _ _ _ refl refl e refl
@@ -173,7 +172,7 @@ module _ (j : Job) (image : List ℕ) where
     programmed after hs fs n r = one Program (ProgramPage 0) _ _ refl refl (stored _ _ (one VerifyBlock (VerifyPage 0) _ _ refl refl (verified after hs fs n r)))
 
     not-blank : after_heard j 0 (InBlock k Blank) (say 0x1B) ≡ leads (InBlock k Erase) 0
-    unfolding after_heard after_answer after_status says_not_blank in_block query_with com_of ◌and◌
+    unfolding after_heard after_answer after_status says_not_blank in_block query_with com_of ◌and◌ if◌then◌otherwise◌
     not-blank = rw (not-blank-read j.part j.supply)
 
     -- A whole block: to 32h it says 06h, or 1Bh, and then 22h comes.
@@ -186,13 +185,13 @@ module _ (j : Job) (image : List ℕ) where
 
   -- The blocks that are left, and the end.
   blocks-run : (k : ℕ) (bs : List Bool) → k + length bs ≡ blocks_of j → Runs j image (block_from j k) (answers_of bs) (frames_from j image k bs)
-  unfolding answers_of frames_from block_from exchanges frames_in spent_in place_after
+  unfolding answers_of frames_from block_from exchanges frames_in spent_in place_after if◌then◌otherwise◌
   blocks-run k [] e = rw (le-ltb k (blocks_of j) (omega arith)) (record { sent = refl; spent = refl; place = refl })
   blocks-run k (b ∷ bs) e =
       rw (lt-ltb k (blocks_of j) (omega arith)) (block_runs k b (block_from j (k + 1)) (answers_of bs) (frames_from j image (k + 1) bs) refl (blocks-run (k + 1) bs (omega arith)))
 
   setup-runs : (bs : List Bool) → Arrays j.part → length bs ≡ blocks_of j → Runs j image (SetUp BaudRate) (all_answers j bs) (all_frames j image bs)
-  unfolding is_over next after_setup setup_from setup query_with frame_at payload_of com_of information_of
+  unfolding is_over next after_setup setup_from setup query_with frame_at payload_of com_of information_of if◌then◌otherwise◌
   setup-runs bs a e =
       said (SetUp BaudRate) (SetUp ResetChip) WithRate _ _ _ refl refl (rate-read j.part j.supply) refl
       (said (SetUp ResetChip) (SetUp SiliconSignature) OneStatus _ _ _ refl refl (one-read j.part j.supply) refl

@@ -1,7 +1,6 @@
 -- Any dock that invents counts, that reports the same whatever happened, or that sends a frame too many is not the flow, and an input is named on which it
 -- differs. The proved dock is the flow, and there are docks of each wrong kind.
 -- Assumes nothing.
-use Rattle.std.specs.Prelude.{if◌then◌else◌}
 use mathlib.Core.Bool.{Bool, false, true}
 use mathlib.Core.List.{List, [], ◌++◌, ◌∷◌, map}
 use mathlib.Core.Logic.{◌≢◌}
@@ -39,7 +38,7 @@ use Rattle.part.specs.Part.{block_of, block_size, described, ends_block, lies_in
 use Rattle.part.specs.Rate.{accepts_rate}
 use Rattle.part.specs.Refusal.{first_of}
 use Rattle.part.specs.declared.refusal.Verdict.TheVariants.{Accepted}
-use Rattle.words.specs.Words.{◌and◌, ◌from◌to◌, ◌or◌}
+use Rattle.words.specs.Words.{◌and◌, ◌from◌to◌, ◌or◌, if◌then◌otherwise◌}
 
 -- The proved dock is the flow, in every room of 260 bytes; a dock that differs on an input is not.
 pub calls-are-flow : (room : List ℕ) → 260 ≤ length room → IsFlow (by_calls room)
@@ -89,13 +88,13 @@ invents-differs M j image hs v (wrong_retries before after a e n) =
 
 -- The flow sends no frame that is not answered.
 answered-frames : (j : Job) (image : List ℕ) (used : ℕ) (st : Stage) (hs : List Heard) → length (frames_in (exchanges j image used st hs)) ≤ length hs
-unfolding exchanges frames_in
+unfolding exchanges frames_in if◌then◌otherwise◌
 answered-frames j image used st [] = omega arith
 answered-frames j image used st (h ∷ hs) =
     go (is_over st) (answered-frames j image (used + (after_heard j used st h).spent) (after_heard j used st h).stage hs)
   where
     go : (o : Bool) → length (frames_in (exchanges j image (used + (after_heard j used st h).spent) (after_heard j used st h).stage hs)) ≤ length hs
-        → length (frames_in (if o then [] else record { frame = frame_at j image st; spends = (after_heard j used st h).spent } ∷ exchanges j image (used + (after_heard j used st h).spent) (after_heard j used st h).stage hs))
+        → length (frames_in (if o then [] otherwise record { frame = frame_at j image st; spends = (after_heard j used st h).spent } ∷ exchanges j image (used + (after_heard j used st h).spent) (after_heard j used st h).stage hs))
         ≤ length (h ∷ hs)
     go true rest = omega arith
     go false rest = omega arith
@@ -120,12 +119,12 @@ more-differs M j image hs v (undisturbed blank a l e h) =
 pub one-ending : OneEnding
 unfolding com_of deciding judge_answer judge_frames matching read_answer shape statuses after_answer after_heard after_status exchanges flow frames_in in_block
     place_after retried says_not_blank setup_from spent_in query_with is_over setup counted framed is_frame judge_of summed less less_all sum_of judge_reply unfit_reply result_at ◌and◌
-    ◌or◌
+    ◌or◌ if◌then◌otherwise◌
 one-ending = record { first = refl; second = refl }
 
 may-begin : call_verdict two_block_job (length two_block_image) Begins ≡ Accepted
 unfolding area_in blocks_in bad_job bad_state call_verdict is_bad out_of_turn short_room block_of block_size described ends_block lies_in range_of starts_block stretch
-    whole_blocks accepts_rate first_of ◌and◌ ◌from◌to◌ ◌or◌
+    whole_blocks accepts_rate first_of ◌and◌ ◌from◌to◌ ◌or◌ if◌then◌otherwise◌
 may-begin = refl
 
 -- A dock that is the flow on an input reports as many frames as it says.

@@ -1,6 +1,6 @@
 -- The undisturbed flow of a job, written out: document 01, "The dock's flow". "Frames: 9Ah .., 00h, C0h .. Then per block, ascending: 32h with 00h; 22h if
 -- that said 1Bh; 40h and four pages; 13h and four pages." Of each block a boolean says whether it was blank.
-use Rattle.std.specs.Prelude.{Bool, false, true, List, [], ◌++◌, ◌∷◌, ◌≡◌, ◌*◌, ◌+◌, ◌≤◌, ℕ, leb, drop, length, take, if◌then◌else◌}
+use Rattle.std.specs.Prelude.{Bool, false, true, List, [], ◌++◌, ◌∷◌, ◌≡◌, ◌*◌, ◌+◌, ◌≤◌, ℕ, leb, drop, length, take}
 use Rattle.claims_dock.specs.Examples.{both, rate_said, say, signed_as, third}
 use Rattle.claims_dock.specs.Stepping.{Course, results_in, stepping}
 use Rattle.dock.specs.Calls.{begin_of}
@@ -19,6 +19,7 @@ use Rattle.numbers.specs.Numbers.{low_first}
 use Rattle.part.specs.Part.{Arrays}
 use Rattle.part.specs.Signature.{signature}
 use Rattle.part.specs.declared.refusal.Verdict.TheVariants.{Accepted}
+use Rattle.words.specs.Words.{if◌then◌otherwise◌}
 
 -- A command's frame by COM and information.
 abbrev pub command_frame : List ℕ → List ℕ
@@ -66,7 +67,7 @@ all_frames j image blank = setup_frames j ++ frames_from j image 0 blank
 
 -- The good answers: the part's clock and the supply's mode, 06h, the part's signature; and of each block 06h to everything, but 1Bh to 32h where it was not blank.
 abbrev pub setup_answers : Job → List Heard
-setup_answers j = rate_said j.part.clock (if leb 27 j.supply then 0x00 else 0x01) ∷ say 0x06 ∷ signed_as (signature j.part) ∷ []
+setup_answers j = rate_said j.part.clock (if leb 27 j.supply then 0x00 otherwise 0x01) ∷ say 0x06 ∷ signed_as (signature j.part) ∷ []
 
 unfoldable pub blank_answers : Bool → List Heard
 blank_answers true = say 0x06 ∷ []

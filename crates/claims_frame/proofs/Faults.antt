@@ -1,6 +1,5 @@
 -- The place told is the place of the byte that is wrong, and the wire says what it said before: specs/Faults.
 -- Assumes nothing.
-use Rattle.std.specs.Prelude.{if◌then◌else◌}
 use mathlib.Core.Bool.{Bool, false, not, true, true≢false}
 use mathlib.Core.List.{List}
 use mathlib.Core.Path.{◌∙◌, ◌≡◌, ap, refl, sym}
@@ -26,7 +25,7 @@ use Rattle.frame.specs.declared.Header.TheVariants.{Data}
 use Rattle.frame.specs.declared.judgement.Judgement.{Judgement}
 use Rattle.frame.specs.declared.judgement.Judgement.TheVariants.{Good, UnfitLength, WrongFirst, WrongFooter, WrongSum}
 use Rattle.words.proofs.Laws.{and_both, and_left, and_right, if-all}
-use Rattle.words.specs.Words.{◌and◌}
+use Rattle.words.specs.Words.{◌and◌, if◌then◌otherwise◌}
 
 pub place_is : PlaceIs
 unfolding judge_of
@@ -45,20 +44,20 @@ place_is f bs =
     (λ x. nothing w (eqb-true _ _ (not-false _ v)) (eqb-true _ _ (not-false _ x))))))
 
 pub data-place-is : DataPlaceIs
-unfolding fitting ◌and◌
+unfolding fitting ◌and◌ if◌then◌otherwise◌
 data-place-is n f bs = go (judge_of f bs) (place_is f bs)
   where
     good-frame : Blamed f bs Good → is_frame bs ≡ true
     good-frame (nothing w a b) = w
 
-    fitted : (b : Blamed f bs Good) → BlamedOf n f bs (if not (eqb (length bs) (n + 4)) then UnfitLength else Good)
+    fitted : (b : Blamed f bs Good) → BlamedOf n f bs (if not (eqb (length bs) (n + 4)) then UnfitLength otherwise Good)
     fitted b =
         let l : length bs ≡ counted (get_or bs 1 0) + 4 = frame-counted bs (good-frame b) in
         if-all (BlamedOf n f bs) (not (eqb (length bs) (n + 4)))
         (λ u. other_len b (λ e. eqb-false (length bs) (n + 4) (not-true _ u) (omega arith)))
         (λ u. let e : length bs ≡ n + 4 = eqb-true _ _ (not-false _ u) in fits b (omega arith))
 
-    go : (j : Judgement) → Blamed f bs j → BlamedOf n f bs (if is_good j and not (eqb (length bs) (n + 4)) then UnfitLength else j)
+    go : (j : Judgement) → Blamed f bs j → BlamedOf n f bs (if is_good j and not (eqb (length bs) (n + 4)) then UnfitLength otherwise j)
     go Good b = fitted b
     go (WrongFooter at) b = before refl b
     go (WrongSum at) b = before refl b
@@ -114,22 +113,22 @@ reply-place-is n last bs =
     (λ v. frame e (fit_is n last bs v) (fit-counted n last bs v) (front-frame n last bs v) (place_is Last (take (n + 4) bs))))
 
 pub judged-as-before : FrameJudgedAsBefore
-unfolding judge_of judge_before status_before good_before
+unfolding judge_of judge_before if◌then◌otherwise◌ status_before good_before
 judged-as-before f bs = go (is_frame bs) (eqb (get_or bs (length bs - 1) 0) (footer_byte f)) (eqb (get_or bs (length bs - 2) 0) (sum_of (summed bs)))
   where
     go : (t u v : Bool)
-        → AsJudgedBefore (if not t then UnfitLength else if not u then WrongFooter (length bs - 1) else if not v then WrongSum (length bs - 2) else Good)
-        (if not t then unfit_length else if not u then wrong_footer else if not v then wrong_sum else good)
+        → AsJudgedBefore (if not t then UnfitLength otherwise if not u then WrongFooter (length bs - 1) otherwise if not v then WrongSum (length bs - 2) otherwise Good)
+        (if not t then unfit_length otherwise if not u then wrong_footer otherwise if not v then wrong_sum otherwise good)
     go false u v = record { status = refl; good = refl }
     go true false v = record { status = refl; good = refl }
     go true true false = record { status = refl; good = refl }
     go true true true = record { status = refl; good = refl }
 
 pub data-judged-as-before : DataJudgedAsBefore
-unfolding fitting fitting_before ◌and◌ status_before good_before
+unfolding fitting fitting_before ◌and◌ if◌then◌otherwise◌ status_before good_before
 data-judged-as-before n f bs = go (judge_of f bs) (judge_before f bs) (judged-as-before f bs)
   where
-    fitted : (t : Bool) → AsJudgedBefore (if not t then UnfitLength else Good) (if t then good else unfit_length)
+    fitted : (t : Bool) → AsJudgedBefore (if not t then UnfitLength otherwise Good) (if t then good otherwise unfit_length)
     fitted true = record { status = refl; good = refl }
     fitted false = record { status = refl; good = refl }
 
@@ -140,7 +139,7 @@ data-judged-as-before n f bs = go (judge_of f bs) (judge_before f bs) (judged-as
     kept unfit_length j f e = e
 
     go : (j : Judgement) (b : JudgedBefore) → AsJudgedBefore j b
-        → AsJudgedBefore (if is_good j and not (eqb (length bs) (n + 4)) then UnfitLength else j) (fitting_before n bs b)
+        → AsJudgedBefore (if is_good j and not (eqb (length bs) (n + 4)) then UnfitLength otherwise j) (fitting_before n bs b)
     go Good good e = fitted (eqb (length bs) (n + 4))
     go Good wrong_footer e = absurd (true≢false e.good)
     go Good wrong_sum e = absurd (true≢false e.good)

@@ -1,6 +1,5 @@
 -- The framing rule: it agrees with the collector, a gap forgets, and one complete frame is heard as exactly that frame.
 -- Assumes nothing.
-use Rattle.std.specs.Prelude.{if◌then◌else◌}
 use mathlib.Core.Bool.{Bool, false, false≢true, true}
 use mathlib.Core.List.{List, [], ◌++◌, ◌∷◌, append_assoc, map}
 use mathlib.Core.Path.{◌∙◌, ◌≡◌, ap, refl}
@@ -18,7 +17,7 @@ use Rattle.frame.specs.Frame.{complete, counted, full, header_byte, is_frame}
 use Rattle.frame.specs.Framing.{Framed, Framing, Sound, begun, byte, completes, frames, framing, gap, idle, inside, quiet, stands_after}
 use Rattle.frame.specs.declared.Header.{Header}
 use Rattle.words.proofs.Laws.{and_left, and_right}
-use Rattle.words.specs.Words.{◌and◌}
+use Rattle.words.specs.Words.{◌and◌, if◌then◌otherwise◌}
 
 -- The machine and the collector stand at the same place of the same frame.
 pub data Same : Framing → List ℕ → Type 0 where
@@ -30,20 +29,20 @@ pub record Agree (f : Framed) (c : Collected) : Type 0 where
   pub stands : Same f.stands c.holds
   pub done : f.done ≡ c.taken
 
-begins : (h : Header) (b : ℕ) (t : Bool) → Agree (if t then quiet (begun b) else quiet idle) (take-up (if t then b ∷ [] else []))
-unfolding take-up complete full ◌and◌
+begins : (h : Header) (b : ℕ) (t : Bool) → Agree (if t then quiet (begun b) otherwise quiet idle) (take-up (if t then b ∷ [] otherwise []))
+unfolding take-up complete full ◌and◌ if◌then◌otherwise◌
 begins h b true = record { stands = header b; done = refl }
 begins h b false = record { stands = nothing; done = refl }
 
 measured : (x b : ℕ) → Agree (quiet (inside (x ∷ b ∷ []) (counted b + 2))) (take-up (x ∷ b ∷ []))
-unfolding take-up complete
+unfolding take-up if◌then◌otherwise◌ complete
 measured x b =
     rw (full-not 2 b (omega arith))
     (record { stands = some x b [] (counted b + 2) (omega arith) (omega arith); done = refl })
 
 more : (x l : ℕ) (rest : List ℕ) (n b : ℕ) → 1 ≤ n → length rest + n ≡ counted l + 2 → Dec (n ≤ 1)
-    → Agree (if leb n 1 then completes (x ∷ l ∷ (rest ++ b ∷ [])) else quiet (inside (x ∷ l ∷ (rest ++ b ∷ [])) (n - 1))) (take-up (x ∷ l ∷ (rest ++ b ∷ [])))
-unfolding take-up complete
+    → Agree (if leb n 1 then completes (x ∷ l ∷ (rest ++ b ∷ [])) otherwise quiet (inside (x ∷ l ∷ (rest ++ b ∷ [])) (n - 1))) (take-up (x ∷ l ∷ (rest ++ b ∷ [])))
+unfolding take-up if◌then◌otherwise◌ complete
 more x l rest n b h e (yes k) =
     let m : length (rest ++ b ∷ []) ≡ length rest + 1 = length-append rest (b ∷ []) in
     rw (le-leb n 1 k, full-yes (suc (suc (length (rest ++ b ∷ [])))) l (omega arith) (omega arith))
@@ -84,15 +83,15 @@ unfolding frames framing
 gap-forgets h w us vs = frames-append h w us (gap ∷ vs)
 
 pub step-begins : (h : Header) (x : ℕ) → x ≡ header_byte h → framing h idle (byte x) ≡ quiet (begun x)
-unfolding framing
+unfolding framing if◌then◌otherwise◌
 step-begins h x e = rw (eq-eqb x (header_byte h) e)
 
 pub step-last : (h : Header) (got : List ℕ) (n b : ℕ) → n ≤ 1 → framing h (inside got n) (byte b) ≡ completes (got ++ b ∷ [])
-unfolding framing
+unfolding framing if◌then◌otherwise◌
 step-last h got n b k = rw (le-leb n 1 k)
 
 pub step-more : (h : Header) (got : List ℕ) (n b : ℕ) → 1 < n → framing h (inside got n) (byte b) ≡ quiet (inside (got ++ b ∷ []) (n - 1))
-unfolding framing
+unfolding framing if◌then◌otherwise◌
 step-more h got n b k = rw (lt-leb n 1 k)
 
 -- A run of sounds, through one equation for its first.

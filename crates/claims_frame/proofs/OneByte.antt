@@ -1,7 +1,6 @@
 -- A good frame with exactly one byte after LEN changed is still one complete frame of the same length, and is not good.
 -- Any byte after LEN: COM, information, data, SUM or the footer, 03h against 17h included; any LEN, 00h included; any new value.
 -- Assumes nothing.
-use Rattle.std.specs.Prelude.{if◌then◌else◌}
 use mathlib.Core.Bool.{true}
 use mathlib.Core.List.{List}
 use mathlib.Core.Logic.{◌≢◌}
@@ -21,6 +20,7 @@ use Rattle.frame.specs.Judgement.{judge_of, summed}
 use Rattle.frame.specs.Sum.{less_all, sum_of}
 use Rattle.frame.specs.declared.Footer.{Footer}
 use Rattle.frame.specs.declared.judgement.Judgement.TheVariants.{Good, WrongFooter, WrongSum}
+use Rattle.words.specs.Words.{if◌then◌otherwise◌}
 
 module _ (f : Footer) (bs : List ℕ) (i v : ℕ) (good : judge_of f bs ≡ Good) (bytes : Below 256 bs) (after : 2 ≤ i) (inside : i < length bs) (small : v < 256)
     (changed : get_or bs i 0 ≢ v) where
@@ -86,7 +86,7 @@ module _ (f : Footer) (bs : List ℕ) (i v : ℕ) (good : judge_of f bs ≡ Good
 
   -- Which fault: of the footer, or else of the SUM, with the footer as it was.
   fault-is : judge_of f (set bs i v) ≡ fault_changed bs i
-  unfolding fault_changed
+  unfolding fault_changed if◌then◌otherwise◌
   fault-is = go (ℕ_discrete i (length bs - 1)) (dec_lt i (length bs - 2))
     where
       long : length (set bs i v) ≡ length bs
@@ -100,7 +100,7 @@ module _ (f : Footer) (bs : List ℕ) (i v : ℕ) (good : judge_of f bs ≡ Good
       sum-is-wrong h (no k) e = let l = long-enough in sum-changed (not_last h k) (at_length 2 ∙ e)
 
       go : Dec (i ≡ length bs - 1) → Dec (i < length bs - 2)
-          → judge_of f (set bs i v) ≡ (if eqb i (length bs - 1) then WrongFooter (length bs - 1) else WrongSum (length bs - 2))
+          → judge_of f (set bs i v) ≡ (if eqb i (length bs - 1) then WrongFooter (length bs - 1) otherwise WrongSum (length bs - 2))
       go (yes h) d =
           rw (eq-eqb i (length bs - 1) h)
           (judged-footer f (set bs i v) still-frame (λ e. footer-changed h (at_length 1 ∙ e)) ∙ ap (λ (n : ℕ). WrongFooter (n - 1)) long)

@@ -1,6 +1,5 @@
 -- What is written is read back: a written frame is one complete, good frame; a written data frame is a good reply, and its payload and what follows it lie there.
 -- Assumes nothing.
-use Rattle.std.specs.Prelude.{if◌then◌else◌}
 use mathlib.Core.Bool.{Bool, false, true}
 use mathlib.Core.List.{List, [], ◌++◌, ◌∷◌, append_assoc}
 use mathlib.Core.Path.{◌∙◌, ◌≡◌, ap, refl, sym}
@@ -24,13 +23,13 @@ use Rattle.frame.specs.declared.Footer.TheVariants.{Last}
 use Rattle.frame.specs.declared.Header.{Header}
 use Rattle.frame.specs.declared.Header.TheVariants.{Data}
 use Rattle.frame.specs.declared.judgement.Judgement.TheVariants.{Good}
-use Rattle.words.specs.Words.{◌and◌}
+use Rattle.words.specs.Words.{◌and◌, if◌then◌otherwise◌}
 
 pub counted-len : (n : ℕ) → 1 ≤ n → n ≤ 256 → counted (len_byte n) ≡ n
-unfolding counted
+unfolding counted if◌then◌otherwise◌
 counted-len n h k = go (dec_lt n 256)
   where
-    go : Dec (n < 256) → (if eqb (n % 256) 0 then 256 else n % 256) ≡ n
+    go : Dec (n < 256) → (if eqb (n % 256) 0 then 256 otherwise n % 256) ≡ n
     go (yes l) = let e : n % 256 ≡ n = omega arith in rw (e, ne_eqb n 0 (λ z. omega arith))
     go (no l) = let e : n % 256 ≡ 0 = omega arith in rw e (omega arith)
 

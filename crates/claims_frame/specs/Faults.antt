@@ -1,6 +1,6 @@
 -- Document 02, §4, "Which fault, and at which byte?": that the place told is the place of the byte that is wrong, and that none is wrong before it in the order of
 -- judging; and that the wire says what it said before. The judgement before it stands here as it was.
-use Rattle.std.specs.Prelude.{Bool, false, not, true, List, ◌≢◌, ◌≡◌, ◌+◌, ◌-◌, ◌<◌, ◌≤◌, ℕ, eqb, get_or, length, take, if◌then◌else◌}
+use Rattle.std.specs.Prelude.{Bool, false, not, true, List, ◌≢◌, ◌≡◌, ◌+◌, ◌-◌, ◌<◌, ◌≤◌, ℕ, eqb, get_or, length, take}
 use Rattle.frame.specs.Frame.{counted, footer_byte, header_byte, is_frame, overhead}
 use Rattle.frame.specs.Judgement.{fault_of, fitting, is_good, judge_of, status_of, summed}
 use Rattle.frame.specs.Sum.{sum_of}
@@ -10,6 +10,7 @@ use Rattle.frame.specs.declared.Footer.TheVariants.{Last}
 use Rattle.frame.specs.declared.Header.TheVariants.{Data}
 use Rattle.frame.specs.declared.judgement.Judgement.{Judgement}
 use Rattle.frame.specs.declared.judgement.Judgement.TheVariants.{Good, UnfitLength, WrongFirst, WrongFooter, WrongSum}
+use Rattle.words.specs.Words.{if◌then◌otherwise◌}
 
 -- Where a frame's SUM and its footer lie, counted from the header.
 abbrev pub sum_place : List ℕ → ℕ
@@ -69,12 +70,12 @@ pub data JudgedBefore : Type 0 where
 unfoldable pub judge_before : Footer → List ℕ → JudgedBefore
 judge_before f bs =
     if not (is_frame bs) then unfit_length
-    else if not (eqb (get_or bs (length bs - 1) 0) (footer_byte f)) then wrong_footer
-    else if not (eqb (get_or bs (length bs - 2) 0) (sum_of (summed bs))) then wrong_sum
-    else good
+    otherwise if not (eqb (get_or bs (length bs - 1) 0) (footer_byte f)) then wrong_footer
+    otherwise if not (eqb (get_or bs (length bs - 2) 0) (sum_of (summed bs))) then wrong_sum
+    otherwise good
 
 unfoldable pub fitting_before : ℕ → List ℕ → JudgedBefore → JudgedBefore
-fitting_before n bs good = if eqb (length bs) (n + overhead) then good else unfit_length
+fitting_before n bs good = if eqb (length bs) (n + overhead) then good otherwise unfit_length
 fitting_before n bs wrong_footer = wrong_footer
 fitting_before n bs wrong_sum = wrong_sum
 fitting_before n bs unfit_length = unfit_length

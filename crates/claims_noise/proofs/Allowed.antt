@@ -1,6 +1,5 @@
 -- The premise with one frame allowed: the proof of `AllowedOrNone`.
 -- Assumes nothing.
-use Rattle.std.specs.Prelude.{if◌then◌else◌}
 use mathlib.Core.Bool.{Bool, false, false≢true, not, true}
 use mathlib.Core.List.{List, [], ◌++◌, ◌∷◌}
 use mathlib.Core.Path.{◌∙◌, ◌≡◌, ap, refl, sym}
@@ -16,7 +15,7 @@ use Rattle.frame.specs.Frame.{header_byte}
 use Rattle.frame.specs.Framing.{Framed, Framing, Sound, begun, byte, completes, framing, gap, idle, inside, quiet}
 use Rattle.frame.specs.declared.Header.{Header}
 use Rattle.words.proofs.Laws.{and_both, and_left, and_right}
-use Rattle.words.specs.Words.{◌and◌, ◌or◌}
+use Rattle.words.specs.Words.{◌and◌, ◌or◌, if◌then◌otherwise◌}
 
 empty-is : {A : Type 0} (xs : List A) → empty xs ≡ true → xs ≡ []
 unfolding empty
@@ -42,18 +41,18 @@ bad-permitted g gs a end e = rw e
 
 -- A sound completes one frame at most, and nothing is begun then.
 pub done-completes : (h : Header) (w : Framing) (v : Sound) (g : List ℕ) (gs : List (List ℕ)) → (framing h w v).done ≡ g ∷ gs → framing h w v ≡ completes g
-unfolding framing
+unfolding framing if◌then◌otherwise◌
 done-completes h w gap g gs e = absurd (let z : ◌≡◌ {A = ℕ} 0 1 = cc in omega arith)
 done-completes h idle (byte b) g gs e = go (eqb b (header_byte h)) e
   where
-    go : (t : Bool) → (if t then quiet (begun b) else quiet idle).done ≡ g ∷ gs → (if t then quiet (begun b) else quiet idle) ≡ completes g
+    go : (t : Bool) → (if t then quiet (begun b) otherwise quiet idle).done ≡ g ∷ gs → (if t then quiet (begun b) otherwise quiet idle) ≡ completes g
     go true e = absurd (let z : ◌≡◌ {A = ℕ} 0 1 = cc in omega arith)
     go false e = absurd (let z : ◌≡◌ {A = ℕ} 0 1 = cc in omega arith)
 done-completes h (begun x) (byte b) g gs e = absurd (let z : ◌≡◌ {A = ℕ} 0 1 = cc in omega arith)
 done-completes h (inside bs n) (byte b) g gs e = go (leb n 1) e
   where
-    go : (t : Bool) → (if t then completes (bs ++ b ∷ []) else quiet (inside (bs ++ b ∷ []) (n - 1))).done ≡ g ∷ gs
-        → (if t then completes (bs ++ b ∷ []) else quiet (inside (bs ++ b ∷ []) (n - 1))) ≡ completes g
+    go : (t : Bool) → (if t then completes (bs ++ b ∷ []) otherwise quiet (inside (bs ++ b ∷ []) (n - 1))).done ≡ g ∷ gs
+        → (if t then completes (bs ++ b ∷ []) otherwise quiet (inside (bs ++ b ∷ []) (n - 1))) ≡ completes g
     go true e = let q : bs ++ b ∷ [] ≡ g = cc in ap (λ (f : List ℕ). completes f) q
     go false e = absurd (let z : ◌≡◌ {A = ℕ} 0 1 = cc in omega arith)
 

@@ -1,7 +1,6 @@
 -- Demand 3's first two claims, for the definition of demand 2: noise while a command is awaited, and while a data frame is; and both where something was
 -- collected before the noise.
 -- Assumes nothing.
-use Rattle.std.specs.Prelude.{if◌then◌else◌}
 use mathlib.Core.Bool.{Bool, false, not, true}
 use mathlib.Core.List.{List, map}
 use mathlib.Core.Path.{◌∙◌, ◌≡◌, ap, refl, subst, sym}
@@ -35,6 +34,7 @@ use Rattle.frame.specs.Framing.{Sound, frames, idle}
 use Rattle.frame.specs.declared.Header.TheVariants.{Data}
 use Rattle.part.specs.declared.Part.{Part}
 use Rattle.words.proofs.Laws.{and_both, and_right}
+use Rattle.words.specs.Words.{if◌then◌otherwise◌}
 
 command-left : (k : Core) (vs : List Sound) → AwaitsCommand k.phase → left_core k idle vs ≡ k
 unfolding left_core left_in
@@ -77,15 +77,15 @@ pub record LeftAt (p : Part) (o : Outcome) (us : List Sound) (q : Outcome) : Typ
 
 left-data : (p : Part) (o : Outcome) (us : List Sound) (w : Awaited) → Stands p o → o.chip.collector.len ≡ 0 → o.chip.core.phase ≡ Awaiting w
     → LeftAt p o us (left_by us o)
-unfolding left_by data_completed left_core left_in command_over
+unfolding left_by data_completed left_core left_in command_over if◌then◌otherwise◌
 left-data p o us w s n e = go (empty (frames Data idle us)) refl
   where
     core-is-left : (t : Bool) → empty (frames Data idle us) ≡ t
-        → (if t then o.chip.core else ready o.chip.core) ≡ left_in o.chip.core.phase o.chip.core idle us
+        → (if t then o.chip.core otherwise ready o.chip.core) ≡ left_in o.chip.core.phase o.chip.core idle us
     core-is-left t q =
-        sym (ap (λ (f : Phase). left_in f o.chip.core idle us) e ∙ ap (λ (t : Bool). if t then o.chip.core else ready o.chip.core) q)
+        sym (ap (λ (f : Phase). left_in f o.chip.core idle us) e ∙ ap (λ (t : Bool). if t then o.chip.core otherwise ready o.chip.core) q)
 
-    go : (t : Bool) → empty (frames Data idle us) ≡ t → LeftAt p o us (if not t then command_over o else o)
+    go : (t : Bool) → empty (frames Data idle us) ≡ t → LeftAt p o us (if not t then command_over o otherwise o)
     go true q = record { core = core-is-left true q; memory = refl; count = n; stands = s }
     go false q = record { core = core-is-left false q; memory = refl; count = n; stands = over-stands p o s n }
 
@@ -143,10 +143,10 @@ gap-ends-noise p o vs a n =
 
 -- Power-on drops the phase with it.
 powered-left : (k : Core) (us : List Sound) → powered_on (left_core k idle us) ≡ powered_on k
-unfolding left_core left_in
+unfolding left_core left_in if◌then◌otherwise◌
 powered-left k us = go k.phase
   where
-    over : (t : Bool) → powered_on (if t then k else ready k) ≡ powered_on k
+    over : (t : Bool) → powered_on (if t then k otherwise ready k) ≡ powered_on k
     over true = refl
     over false = refl
 
@@ -182,35 +182,38 @@ power-on-ends-noise p o vs a n =
     }))
 
 -- The phase that noise leaves.
-left-phase : (k : Core) (w : Awaited) (us : List Sound) → k.phase ≡ Awaiting w → (left_core k idle us).phase ≡ (if data_completed us then Ready else Awaiting w)
-unfolding left_core left_in data_completed
+left-phase : (k : Core) (w : Awaited) (us : List Sound) → k.phase ≡ Awaiting w → (left_core k idle us).phase ≡ (if data_completed us then Ready otherwise Awaiting w)
+unfolding left_core left_in data_completed if◌then◌otherwise◌
 left-phase k w us e = ap (λ (f : Phase). (left_in f k idle us).phase) e ∙ go (empty (frames Data idle us))
   where
-    go : (t : Bool) → (if t then k else ready k).phase ≡ (if not t then Ready else Awaiting w)
+    go : (t : Bool) → (if t then k otherwise ready k).phase ≡ (if not t then Ready otherwise Awaiting w)
     go true = e
     go false = refl
 
 apart : (w : Awaited) → Ready ≡ Awaiting w → ⊥
 apart w e = let z : ◌≡◌ {A = ℕ} 0 1 = cc in omega arith
 
-phase-branch : (w : Awaited) (t : Bool) → (if t then Ready else Awaiting w) ≡ Awaiting w → t ≡ false
+phase-branch : (w : Awaited) (t : Bool) → (if t then Ready otherwise Awaiting w) ≡ Awaiting w → t ≡ false
+unfolding if◌then◌otherwise◌
 phase-branch w true e = absurd (apart w e)
 phase-branch w false e = refl
 
-phase-ended : (w : Awaited) (t : Bool) → (if t then Ready else Awaiting w) ≡ Ready → t ≡ true
+phase-ended : (w : Awaited) (t : Bool) → (if t then Ready otherwise Awaiting w) ≡ Ready → t ≡ true
+unfolding if◌then◌otherwise◌
 phase-ended w true e = refl
 phase-ended w false e = absurd (apart w (sym e))
 
 pub noise-branches : NoiseBranches step_of
+unfolding if◌then◌otherwise◌
 noise-branches p o w vs e n =
     let us = with_collected o vs in
-    let f : (run_by step_of p (then_gap vs) o).chip.core.phase ≡ (if data_completed us then Ready else Awaiting w) =
+    let f : (run_by step_of p (then_gap vs) o).chip.core.phase ≡ (if data_completed us then Ready otherwise Awaiting w) =
     ap (λ (u : Outcome). u.chip.core.phase) (run-by p (then_gap vs) o)
     ∙ ap (λ (k : Core). k.phase) (noise-leaves p o vs (rw e (page w)) n).core
     ∙ left-phase o.chip.core w us e in
     record {
-      stays = λ q. f ∙ ap (λ (t : Bool). if t then Ready else Awaiting w) q;
-      ends = λ q. f ∙ ap (λ (t : Bool). if t then Ready else Awaiting w) q;
+      stays = λ q. f ∙ ap (λ (t : Bool). if t then Ready otherwise Awaiting w) q;
+      ends = λ q. f ∙ ap (λ (t : Bool). if t then Ready otherwise Awaiting w) q;
       stayed = λ q. phase-branch w (data_completed us) (sym f ∙ q);
       ended = λ q. phase-ended w (data_completed us) (sym f ∙ q);
     }

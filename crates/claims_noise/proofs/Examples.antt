@@ -49,7 +49,7 @@ use Rattle.chip_options.specs.Options.{fixed_bits, fresh_options, good_options, 
 use Rattle.part.specs.Refusal.{first_of}
 use Rattle.chip_reply.specs.Reply.{frames_of, payloads, said_of}
 use Rattle.words.proofs.Laws.{and_left, and_right}
-use Rattle.words.specs.Words.{◌and◌, ◌from◌to◌, ◌or◌}
+use Rattle.words.specs.Words.{◌and◌, ◌from◌to◌, ◌or◌, if◌then◌otherwise◌}
 
 -- Tests that the checker computes, for bytes.
 all_below : List ℕ → Bool
@@ -83,7 +83,7 @@ ready-stands =
     (length-replicate {A = ℕ} 16384 0xFF) (length-replicate {A = ℕ} 4096 0xFF) (omega (arith, length-replicate {A = ℕ} 32 0x00))
 
 pub writing-stands : Stands the_part writing_chip
-unfolding good_phase block_size good_awaited good_places place_of place_in lies_in block_of page_of ◌and◌ ◌or◌
+unfolding good_phase block_size good_awaited good_places place_of place_in lies_in block_of page_of ◌and◌ ◌or◌ if◌then◌otherwise◌
 writing-stands =
     new-stands the_part _ _ (replicate 32 0x00) the-part-is the-arrays (record { rate = omega arith; options = fresh-good the_part the-part-is; phase = refl })
     (length-replicate {A = ℕ} 16384 0xFF) (length-replicate {A = ℕ} 4096 0xFF) (omega (arith, length-replicate {A = ℕ} 32 0x00))
@@ -91,12 +91,12 @@ writing-stands =
 -- Noise with two bad frames in it, while a command is awaited.
 pub long-noise : Noise no_frame the_part ready_chip long_noise
 unfolding fresh long_noise bytes_only completes_only permitted then_awaits framing good_for allows empty counted judge_of is_frame summed sum_of less_all less ◌and◌
-    ◌or◌
+    ◌or◌ if◌then◌otherwise◌
 long-noise = record { stands = ready-stands; nothing = refl; bytes = proper-by long_noise refl; quiet = refl }
 
 -- In it the chip does answer: 07h, then 15h.
 pub long-noise-said : all_said (says_by step_of the_part (then_gap long_noise) ready_chip) ≡ 0x02 ∷ 0x01 ∷ 0x07 ∷ 0xF8 ∷ 0x03 ∷ 0x02 ∷ 0x01 ∷ 0x15 ∷ 0xEA ∷ 0x03 ∷ []
-unfolding all_said says_by then_gap long_noise step_of settled verdict_of first_of described ◌from◌to◌ ◌and◌ ◌or◌ good_state good_collected good_begun
+unfolding all_said says_by then_gap long_noise step_of settled verdict_of first_of described ◌from◌to◌ ◌and◌ ◌or◌ if◌then◌otherwise◌ good_state good_collected good_begun
     good_core good_options fixed_bits good_phase last_block fresh_options fresh heard holding hear complete full counted is_frame react_to byte_in hearing heard_byte
     frame_does command_does judge_of summed sum_of less_all less place_of lies_in place_in block_of page_of block_size said_of frames_of framed payloads
 long-noise-said = refl
@@ -107,27 +107,27 @@ long-noise-harmless = noise-at-command the_part ready_chip long_noise in_ready l
 
 -- A page cut short leaves the chip awaiting the page.
 pub cut-page : Noise no_frame the_part writing_chip cut_page
-unfolding fresh cut_page bytes_only completes_only permitted then_awaits framing good_for empty counted footer_of length_of is_last_page ◌and◌ ◌or◌
+unfolding fresh cut_page bytes_only completes_only permitted then_awaits framing good_for empty counted footer_of length_of is_last_page ◌and◌ ◌or◌ if◌then◌otherwise◌
 cut-page = record { stands = writing-stands; nothing = refl; bytes = proper-by cut_page refl; quiet = refl }
 
 pub cut-page-completes-none : data_completed cut_page ≡ false
-unfolding data_completed cut_page frames framing empty counted
+unfolding data_completed cut_page frames framing empty counted if◌then◌otherwise◌
 cut-page-completes-none = refl
 
 -- A page with the wrong footer ends the command, and what follows is framed as for a command.
 pub wrong-page : Noise no_frame the_part writing_chip wrong_page
 unfolding fresh wrong_page bytes_only completes_only permitted then_awaits framing good_for allows empty counted footer_of length_of is_last_page fitting judge_of
-    is_frame summed sum_of less_all less ◌and◌ ◌or◌
+    is_frame summed sum_of less_all less ◌and◌ ◌or◌ if◌then◌otherwise◌
 wrong-page = record { stands = writing-stands; nothing = refl; bytes = proper-by wrong_page refl; quiet = refl }
 
 pub wrong-page-completes-one : data_completed wrong_page ≡ true
-unfolding data_completed wrong_page frames framing empty counted
+unfolding data_completed wrong_page frames framing empty counted if◌then◌otherwise◌
 wrong-page-completes-one = refl
 
 -- In it the page is blamed twice over, 15h 15h, and then the command with the wrong footer.
 pub wrong-page-said : all_said (says_by step_of the_part (then_gap wrong_page) writing_chip) ≡ 0x02 ∷ 0x02 ∷ 0x15 ∷ 0x15 ∷ 0xD4 ∷ 0x03 ∷ 0x02 ∷ 0x01 ∷ 0x15 ∷ 0xEA ∷ 0x03 ∷ []
 unfolding all_said says_by then_gap wrong_page data_does bad_data fitting footer_of length_of is_last_page good_awaited good_places step_of settled verdict_of first_of
-    described ◌from◌to◌ ◌and◌ ◌or◌ good_state good_collected good_begun good_core good_options fixed_bits good_phase last_block fresh_options fresh heard
+    described ◌from◌to◌ ◌and◌ ◌or◌ if◌then◌otherwise◌ good_state good_collected good_begun good_core good_options fixed_bits good_phase last_block fresh_options fresh heard
     holding hear complete full counted is_frame react_to byte_in hearing heard_byte frame_does command_does judge_of summed sum_of less_all less place_of lies_in place_in
     block_of page_of block_size said_of frames_of framed payloads
 wrong-page-said = refl
@@ -135,18 +135,20 @@ wrong-page-said = refl
 -- The inner Reset: the premise fails, because the rule completes a good frame. It is met with that frame allowed, where nothing follows it.
 pub inner-reset-is-no-noise : completes_only no_frame a_command idle inner_reset ≡ false
 unfolding inner_reset completes_only permitted then_awaits framing good_for allows empty counted judge_of is_frame summed sum_of less_all less ◌and◌ ◌or◌
+    if◌then◌otherwise◌
 inner-reset-is-no-noise = refl
 
 pub inner-reset-completes : frames Command idle inner_reset ≡ reset ∷ []
-unfolding inner_reset frames framing counted
+unfolding inner_reset frames framing counted if◌then◌otherwise◌
 inner-reset-completes = refl
 
 pub inner-reset-is-good : good_for a_command reset ≡ true
-unfolding good_for counted judge_of is_frame summed sum_of less_all less ◌and◌
+unfolding good_for counted judge_of is_frame summed sum_of less_all less ◌and◌ if◌then◌otherwise◌
 inner-reset-is-good = refl
 
 pub inner-reset-allowed : completes_only (only reset) a_command idle (take 8 inner_reset) ≡ true
 unfolding inner_reset completes_only permitted then_awaits framing good_for allows same empty counted judge_of is_frame summed sum_of less_all less ◌and◌ ◌or◌
+    if◌then◌otherwise◌
 inner-reset-allowed = refl
 
 pub reset-carried : Noise (only reset) the_part ready_chip (take 8 inner_reset)
@@ -155,7 +157,7 @@ reset-carried = record { stands = ready-stands; nothing = refl; bytes = proper-b
 
 -- One byte: the erase command whose footer becomes 17h, and the page whose footer, 17h, becomes 03h.
 pub erase-changed : OneByte the_part ready_chip erase_frame 7 0x17
-unfolding fresh erase_frame all_below good_for counted judge_of is_frame summed sum_of less_all less ◌and◌
+unfolding fresh erase_frame all_below good_for counted judge_of is_frame summed sum_of less_all less ◌and◌ if◌then◌otherwise◌
 erase-changed =
     record {
       stands = ready-stands;
@@ -171,6 +173,7 @@ erase-changed =
 
 pub page-changed : OneByte the_part writing_chip page_frame 259 0x03
 unfolding fresh page_frame framed footer_of length_of is_last_page fitting all_below good_for counted judge_of is_frame summed sum_of less_all less ◌and◌ ◌or◌
+    if◌then◌otherwise◌
 page-changed =
     record {
       stands = writing-stands;
@@ -188,13 +191,13 @@ page-changed =
 pub page-stored : get_or (run_by step_of the_part (map Byte page_frame) writing_chip).memory.flash.code_flash 0x0500 0 ≡ 0xAA
 unfolding run_by page_frame data_does good_data payload page_status page_written told_written lands programmed same program_page page_in page_stored resummed blank
     all_are put_of put_at next_page stored_reply bad_data fitting footer_of length_of is_last_page good_awaited good_places step_of settled verdict_of first_of described
-    ◌from◌to◌ ◌and◌ ◌or◌ good_state good_collected good_begun good_core good_options fixed_bits good_phase last_block fresh_options fresh heard holding
+    ◌from◌to◌ ◌and◌ ◌or◌ if◌then◌otherwise◌ good_state good_collected good_begun good_core good_options fixed_bits good_phase last_block fresh_options fresh heard holding
     hear complete full counted is_frame react_to byte_in hearing heard_byte frame_does command_does judge_of summed sum_of less_all less place_of lies_in place_in block_of
     page_of block_size said_of frames_of framed payloads
 page-stored = refl
 
 pub page-changed-is-bad : IsBad step_of the_part writing_chip (set page_frame 259 0x03) (WrongFooter 259)
-unfolding fault_changed page_frame framed
+unfolding fault_changed page_frame framed if◌then◌otherwise◌
 page-changed-is-bad = one-byte-changed the_part writing_chip page_frame 259 0x03 (page second_page) page-changed
 
 pub page-changed-not-stored : get_or (run_by step_of the_part (map Byte (set page_frame 259 0x03)) writing_chip).memory.flash.code_flash 0x0500 0 ≡ 0xFF
@@ -211,7 +214,7 @@ record BegunFrames : Type 0 where
   page : Begun begun_page (Awaiting second_page) (take 130 page_frame)
 
 begun-frames : BegunFrames
-unfolding run erase_frame page_frame good_awaited good_places step_of settled verdict_of first_of described ◌from◌to◌ ◌and◌ ◌or◌ good_state good_collected
+unfolding run erase_frame page_frame good_awaited good_places step_of settled verdict_of first_of described ◌from◌to◌ ◌and◌ ◌or◌ if◌then◌otherwise◌ good_state good_collected
     good_begun good_core good_options fixed_bits good_phase last_block fresh_options fresh heard holding hear complete full counted is_frame react_to byte_in hearing
     heard_byte frame_does sum_of less_all less place_of lies_in place_in block_of page_of block_size said_of frames_of framed payloads
 begun-frames = record { erase = record { phase = refl; heard-so = refl }; page = record { phase = refl; heard-so = refl } }
@@ -219,7 +222,7 @@ begun-frames = record { erase = record { phase = refl; heard-so = refl }; page =
 -- With the rest of the frame damaged it is noise.
 pub damaged-rest : NoiseAfter the_part begun_erase damaged_rest
 unfolding erase_frame damaged_rest all_below bytes_only completes_only permitted then_awaits framing good_for allows empty counted judge_of is_frame summed sum_of less_all
-    less ◌and◌ ◌or◌
+    less ◌and◌ ◌or◌ if◌then◌otherwise◌
 damaged-rest =
     record {
       stands = run-stands the_part (map Byte (take 3 erase_frame)) ready_chip ready-stands (bytes-proper (below_by (take 3 erase_frame) refl));
@@ -229,17 +232,18 @@ damaged-rest =
 
 -- With the rest undamaged it is not, though the rest alone completes nothing: what is collected belongs to the premise.
 pub rest-alone : completes_only no_frame a_command idle rest_of_erase ≡ true
-unfolding erase_frame rest_of_erase completes_only permitted then_awaits framing empty counted ◌and◌
+unfolding erase_frame rest_of_erase completes_only permitted then_awaits framing empty counted ◌and◌ if◌then◌otherwise◌
 rest-alone = refl
 
 pub rest-completes : completes_only no_frame a_command idle (with_collected begun_erase rest_of_erase) ≡ false
 unfolding erase_frame rest_of_erase completes_only permitted then_awaits framing good_for allows empty counted judge_of is_frame summed sum_of less_all less ◌and◌ ◌or◌
+    if◌then◌otherwise◌
 rest-completes = rw begun-frames.erase.heard-so
 
 -- The rest of the page, with 03h where 17h is awaited, completes a data frame, and the command is over.
 pub damaged-half : NoiseAfter the_part begun_page damaged_half
 unfolding page_frame damaged_half all_below bytes_only completes_only permitted then_awaits framing good_for allows empty footer_of length_of is_last_page fitting counted
-    judge_of is_frame summed framed sum_of less_all less ◌and◌ ◌or◌
+    judge_of is_frame summed framed sum_of less_all less ◌and◌ ◌or◌ if◌then◌otherwise◌
 damaged-half =
     record {
       stands = run-stands the_part (map Byte (take 130 page_frame)) writing_chip writing-stands (bytes-proper (below_by (take 130 page_frame) refl));
@@ -248,7 +252,7 @@ damaged-half =
     }
 
 pub damaged-half-completes : data_completed (with_collected begun_page damaged_half) ≡ true
-unfolding page_frame damaged_half data_completed frames framing empty counted framed sum_of less_all less
+unfolding page_frame damaged_half data_completed frames framing empty counted framed sum_of less_all less if◌then◌otherwise◌
 damaged-half-completes = rw begun-frames.page.heard-so
 
 pub damaged-half-ends : (run_by step_of the_part (then_gap damaged_half) begun_page).chip.core.phase ≡ Ready

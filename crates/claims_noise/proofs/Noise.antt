@@ -1,6 +1,5 @@
 -- Noise changes nothing: the proofs of `NoiseAtCommand`, `NoiseAtData` and `NoiseBranches` for the definition of demand 2.
 -- Assumes nothing.
-use Rattle.std.specs.Prelude.{if◌then◌else◌}
 use mathlib.Core.Bool.{Bool, false, false≢true, not, true}
 use mathlib.Core.List.{List, [], ◌++◌, ◌∷◌, map}
 use mathlib.Core.Path.{◌∙◌, ◌≡◌, ap, refl, subst, sym}
@@ -30,14 +29,14 @@ use Rattle.frame.specs.Framing.{Framing, Sound, byte, frames, framing, idle}
 use Rattle.frame.specs.declared.Header.TheVariants.{Data}
 use Rattle.part.specs.declared.Part.{Part}
 use Rattle.words.proofs.Laws.{and_left, and_right}
-use Rattle.words.specs.Words.{◌and◌, ◌or◌}
+use Rattle.words.specs.Words.{◌and◌, ◌or◌, if◌then◌otherwise◌}
 
 -- The record that noise leaves, from a place in a frame.
 unfoldable pub left_in : Phase → Core → Framing → List Sound → Core
 left_in ModeByte k w vs = k
 left_in Setup k w vs = k
 left_in Ready k w vs = k
-left_in (Awaiting x) k w vs = if empty (frames Data w vs) then k else ready k
+left_in (Awaiting x) k w vs = if empty (frames Data w vs) then k otherwise ready k
 
 unfoldable pub left_core : Core → Framing → List Sound → Core
 left_core k w vs = left_in k.phase k w vs
@@ -58,18 +57,18 @@ left-on k w v vs a e = go k.phase a e
     go : (f : Phase) → AwaitsFrame f → (framing (header_in f) w v).done ≡ [] → left_in f k w (v ∷ vs) ≡ left_in f k (framing (header_in f) w v).stands vs
     go f (command in_setup) e = refl
     go f (command in_ready) e = refl
-    go f (page x) e = ap (λ (ds : List (List ℕ)). if empty (ds ++ frames Data (framing Data w v).stands vs) then k else ready k) e
+    go f (page x) e = ap (λ (ds : List (List ℕ)). if empty (ds ++ frames Data (framing Data w v).stands vs) then k otherwise ready k) e
 
 -- A sound that completes a bad frame.
 left-bad : (k : Core) (w x : Framing) (v : Sound) (vs : List Sound) (f : List ℕ) (fs : List (List ℕ)) → AwaitsFrame k.phase
     → (framing (header_in k.phase) w v).done ≡ f ∷ fs → left_core k w (v ∷ vs) ≡ left_core (bad_core k.phase k) x vs
-unfolding left_core left_in frames bad_core empty
+unfolding left_core left_in frames bad_core empty if◌then◌otherwise◌
 left-bad k w x v vs f fs a e = go k.phase refl a e
   where
     go : (g : Phase) → k.phase ≡ g → AwaitsFrame g → (framing (header_in g) w v).done ≡ f ∷ fs → left_in g k w (v ∷ vs) ≡ left_in (bad_core g k).phase (bad_core g k) x vs
     go g q (command in_setup) e = rw q
     go g q (command in_ready) e = rw q
-    go g q (page y) e = ap (λ (ds : List (List ℕ)). if empty (ds ++ frames Data (framing Data w v).stands vs) then k else ready k) e
+    go g q (page y) e = ap (λ (ds : List (List ℕ)). if empty (ds ++ frames Data (framing Data w v).stands vs) then k otherwise ready k) e
 
 -- Where no frame is allowed, a completed frame is bad.
 none_allowed : (a : Awaits) (f : List ℕ) (fs : List (List ℕ)) (end : Bool) → permitted no_frame a (f ∷ fs) end ≡ true → good_for a f ≡ false
@@ -93,7 +92,7 @@ bad-next f k g gs (command in_ready) e = rw e
 bad-next f k g gs (page w) e = refl
 
 left-none : (k : Core) (w : Framing) → left_core k w [] ≡ k
-unfolding left_core left_in frames empty
+unfolding left_core left_in frames empty if◌then◌otherwise◌
 left-none k w = go k.phase
   where
     go : (f : Phase) → left_in f k w [] ≡ k
@@ -188,7 +187,7 @@ left-leads {x} {us} k vs a l = go k.phase a l
     go : (f : Phase) → AwaitsFrame f → Leads (header_in f) idle us x → left_in f k x vs ≡ left_in f k idle (us ++ vs)
     go f (command in_setup) l = refl
     go f (command in_ready) l = refl
-    go f (page w) l = ap (λ (ds : List (List ℕ)). if empty ds then k else ready k) (sym (leads-frames l vs))
+    go f (page w) l = ap (λ (ds : List (List ℕ)). if empty ds then k otherwise ready k) (sym (leads-frames l vs))
 
 -- The chip after the noise, before what ends it.
 pub record NoiseHeard (p : Part) (o : Outcome) (vs : List Sound) (t : Outcome) : Type 0 where

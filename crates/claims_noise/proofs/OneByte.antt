@@ -1,6 +1,5 @@
 -- One changed byte: the proof of `OneByteChanged` for the definition of demand 2.
 -- Assumes nothing.
-use Rattle.std.specs.Prelude.{if◌then◌else◌}
 use mathlib.Core.Bool.{Bool, false, not, true}
 use mathlib.Core.List.{List, [], ◌++◌, ◌∷◌, map}
 use mathlib.Core.Path.{◌∙◌, ◌≡◌, ap, refl, sym}
@@ -36,19 +35,19 @@ use Rattle.frame.specs.declared.collector.Collector.{Collector}
 use Rattle.frame.specs.declared.judgement.Judgement.{Judgement}
 use Rattle.frame.specs.declared.judgement.Judgement.TheVariants.{Good, UnfitLength, WrongFooter, WrongSum}
 use Rattle.part.specs.declared.Part.{Part}
-use Rattle.words.specs.Words.{◌and◌}
+use Rattle.words.specs.Words.{◌and◌, if◌then◌otherwise◌}
 
 fitting-good : (n : ℕ) (bs : List ℕ) (j : Judgement) → is_good (fitting n bs j) ≡ true → is_good j ≡ true
-unfolding fitting ◌and◌
+unfolding fitting if◌then◌otherwise◌ ◌and◌
 fitting-good n bs j e = go (is_good j) refl e
   where
-    go : (t : Bool) → is_good j ≡ t → is_good (if t and not (eqb (length bs) (n + overhead)) then UnfitLength else j) ≡ true → t ≡ true
+    go : (t : Bool) → is_good j ≡ t → is_good (if t and not (eqb (length bs) (n + overhead)) then UnfitLength otherwise j) ≡ true → t ≡ true
     go true q g = refl
     go false q g = sym q ∙ g
 
 fitting-bad : (n : ℕ) (bs : List ℕ) (j : Judgement) → is_good j ≡ false → fitting n bs j ≡ j
-unfolding fitting ◌and◌
-fitting-bad n bs j e = ap (λ (t : Bool). if t and not (eqb (length bs) (n + overhead)) then UnfitLength else j) e
+unfolding fitting if◌then◌otherwise◌ ◌and◌
+fitting-bad n bs j e = ap (λ (t : Bool). if t and not (eqb (length bs) (n + overhead)) then UnfitLength otherwise j) e
 
 -- The footer that is awaited.
 pub footer_in : Awaits → Footer
@@ -67,10 +66,10 @@ bad-judged a_command bs j e b = e
 bad-judged (a_page f n) bs j e b = ap (fitting n bs) e ∙ fitting-bad n bs j b
 
 change-bad : (bs : List ℕ) (i : ℕ) → is_good (fault_changed bs i) ≡ false
-unfolding fault_changed
+unfolding fault_changed if◌then◌otherwise◌
 change-bad bs i = go (eqb i (length bs - 1))
   where
-    go : (t : Bool) → is_good (if t then WrongFooter (length bs - 1) else WrongSum (length bs - 2)) ≡ false
+    go : (t : Bool) → is_good (if t then WrongFooter (length bs - 1) otherwise WrongSum (length bs - 2)) ≡ false
     go true = refl
     go false = refl
 

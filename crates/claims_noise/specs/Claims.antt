@@ -1,6 +1,6 @@
 -- The statements of demand 3, each proved in proofs/ under its own name. They speak of any chip M, that is, of what a chip does with an event; the one
 -- that they are proved of is `step_of`, the definition of demand 2.
-use Rattle.std.specs.Prelude.{false, true, List, [], ◌++◌, ◌∷◌, map, ◌≢◌, ◌≡◌, ◌-◌, ◌<◌, ◌≤◌, ℕ, get_or, length, replicate, set, if◌then◌else◌}
+use Rattle.std.specs.Prelude.{false, true, List, [], ◌++◌, ◌∷◌, map, ◌≢◌, ◌≡◌, ◌-◌, ◌<◌, ◌≤◌, ℕ, get_or, length, replicate, set}
 use Rattle.claims_frame.specs.OneByte.{fault_changed}
 use Rattle.claims_fed.specs.Fed.{blames, silence}
 use Rattle.chip.specs.Run.{Spoken, spoken_in}
@@ -25,6 +25,7 @@ use Rattle.frame.specs.declared.judgement.Judgement.{Judgement}
 use Rattle.frame.specs.declared.judgement.Judgement.TheVariants.{Good}
 use Rattle.part.specs.declared.Part.{Part}
 use Rattle.part.specs.declared.refusal.Refusal.TheVariants.{ShortRoom}
+use Rattle.words.specs.Words.{if◌then◌otherwise◌}
 
 -- A chip, its runs, and what it says to each event.
 abbrev pub Machine : Type 0
@@ -113,7 +114,7 @@ command_over o =
 
 -- "If it awaited a data frame instead, either the same holds, or a bad frame was completed": the second exactly when a data frame was completed.
 unfoldable pub left_by : List Sound → Outcome → Outcome
-left_by vs o = if data_completed vs then command_over o else o
+left_by vs o = if data_completed vs then command_over o otherwise o
 
 abbrev pub NoiseAtData : Machine → Type 0
 NoiseAtData M =

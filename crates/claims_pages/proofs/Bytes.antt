@@ -1,6 +1,5 @@
 -- The proofs of `EachBit`, `AsMany`, `StatusIsTold`, `StatusByBits`, `OverBlank`, `Resent`, `MoreZeros`, `NothingCleared` and `AgainMixed`.
 -- Assumes nothing.
-use Rattle.std.specs.Prelude.{if◌then◌else◌}
 use mathlib.Core.Bool.{Bool, false, false≢true, true}
 use mathlib.Core.List.{List, [], ◌∷◌}
 use mathlib.Core.Logic.{◌≢◌}
@@ -17,7 +16,7 @@ use Rattle.claims_pages.specs.Bytes.{AgainMixed, AsMany, WrittenAs, BitAfter, Ea
 use Rattle.frame.proofs.Laws.Sum.{Below, more, none}
 use Rattle.lent.proofs.Laws.{same-is, same_self}
 use Rattle.lent.specs.Lent.{all_are, same}
-use Rattle.words.specs.Words.{◌and◌}
+use Rattle.words.specs.Words.{◌and◌, if◌then◌otherwise◌}
 
 pub as_many : AsMany
 as_many old new = programmed-long old new
@@ -27,7 +26,7 @@ each-bit old new i k h j = rw (programmed-at old new i h j) (bit-after k (get_or
 
 -- The status, by whether the page then is what was sent.
 landed : (old new : List ℕ) → programmed old new ≡ new → page_status old new ≡ 0x06
-unfolding page_status lands
+unfolding page_status lands if◌then◌otherwise◌
 landed old new e = rw (e, same_self)
 
 not_same : (bs cs : List ℕ) → bs ≢ cs → same bs cs ≡ false
@@ -38,14 +37,14 @@ not_same bs cs n = go (same bs cs) refl
     go false e = refl
 
 mixed : (old new : List ℕ) → programmed old new ≢ new → page_status old new ≡ 0x1C
-unfolding page_status lands
+unfolding page_status lands if◌then◌otherwise◌
 mixed old new n = rw (not_same (programmed old new) new n)
 
 told : (old new : List ℕ) → page_status old new ≡ 0x06 → programmed old new ≡ new
-unfolding page_status lands
+unfolding page_status lands if◌then◌otherwise◌
 told old new e = go (same (programmed old new) new) refl e
   where
-    go : (t : Bool) → same (programmed old new) new ≡ t → ◌≡◌ {A = ℕ} (if t then 0x06 else 0x1C) 0x06 → programmed old new ≡ new
+    go : (t : Bool) → same (programmed old new) new ≡ t → ◌≡◌ {A = ℕ} (if t then 0x06 otherwise 0x1C) 0x06 → programmed old new ≡ new
     go true q f = same-is (programmed old new) new q
     go false q f = absurd (let z : ◌≡◌ {A = ℕ} 0x1C 0x06 = f in omega arith)
 

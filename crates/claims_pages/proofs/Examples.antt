@@ -44,10 +44,10 @@ use Rattle.frame.specs.declared.Header.TheVariants.{Data}
 use Rattle.lent.specs.Lent.{put_at, put_of, same}
 use Rattle.part.specs.Part.{block_of, block_size, described, lies_in, page_of, place_in, place_of}
 use Rattle.part.specs.Refusal.{first_of}
-use Rattle.words.specs.Words.{◌and◌, ◌from◌to◌, ◌or◌}
+use Rattle.words.specs.Words.{◌and◌, ◌from◌to◌, ◌or◌, if◌then◌otherwise◌}
 
 pub bytes-over : BytesOver
-unfolding programmed page_status lands same ◌and◌
+unfolding programmed page_status lands same ◌and◌ if◌then◌otherwise◌
 bytes-over =
     record {
       blank = refl;
@@ -64,7 +64,7 @@ bytes-over =
 pub pages-over : PagesOver
 unfolding data_does footer_of good_data is_last_page length_of next_page page_in page_status page_stored page_written program_page stored_reply told_written lands programmed sum_of_bytes
     frames_of payloads block_sum range_bytes resummed slot counted framed is_frame payload fitting judge_of summed less less_all sum_of put_at put_of same block_of block_size lies_in
-    page_of place_in place_of described ◌and◌ ◌from◌to◌ ◌or◌
+    page_of place_in place_of described ◌and◌ ◌from◌to◌ ◌or◌ if◌then◌otherwise◌
 pages-over =
     record {
       again = record { said = refl; holds = refl; summed = refl; phase-is = refl };
@@ -81,7 +81,7 @@ unfolding crossed_frame
 frame_below = framed-below Data (replicate 256 0xAA) More (below_all 256 (omega arith))
 
 at-footer-stands : Stands the_part at_last_byte
-unfolding good_phase good_awaited good_places place_of place_in lies_in block_of page_of block_size put_at ◌and◌ ◌or◌
+unfolding good_phase good_awaited good_places place_of place_in lies_in block_of page_of block_size put_at ◌and◌ ◌or◌ if◌then◌otherwise◌
 at-footer-stands =
     run-stands the_part _ over_chip
     (new-stands the_part _ _ (replicate 32 0x00) the-part-is (record { device_long = refl; name_long = refl; version_long = refl })
@@ -96,7 +96,7 @@ at-footer : Footer
 unfolding crossed_frame good_for run step_of settled verdict_of first_of described good_state good_collected good_begun good_core good_options fixed_bits good_phase
     good_awaited good_places last_block fresh_options fresh heard holding hear complete full counted is_frame payload framed react_to byte_in hearing heard_byte fitting footer_of
     length_of is_last_page page_in programmed judge_of summed sum_of less_all less place_of lies_in place_in block_of page_of block_size put_at said_of frames_of payloads taken_in taken_as
-    collects_on take-up ◌from◌to◌ ◌and◌ ◌or◌
+    collects_on take-up ◌from◌to◌ ◌and◌ ◌or◌ if◌then◌otherwise◌
 at-footer = record { sent = record { frame = crossed_frame; phase = refl; command = refl; taken = refl; good = refl; carries = refl }; mixes = refl }
 
 mixed : programmed (old_page the_part first_awaited at_last_byte) (replicate 256 0xAA) ≢ replicate 256 0xAA

@@ -54,11 +54,12 @@ use Rattle.part.specs.declared.Part.{Part}
 use Rattle.part.specs.declared.Place.{Place}
 use Rattle.part.specs.declared.Place.TheVariants.{In}
 use Rattle.words.proofs.Laws.{and_right}
+use Rattle.words.specs.Words.{if◌then◌otherwise◌}
 
 -- A good page of 40h does what the rule for it says.
 good-does : (p : Part) (k : Core) (w : Awaited) (g : List ℕ) (m : Memory) → w.command ≡ 0x40 → is_good (fitting (length_of w) g (judge_of (footer_of w) g)) ≡ true
     → data_does p k w g m ≡ program_page p k w (place_of p w.next) (payload g) m
-unfolding data_does good_data
+unfolding data_does good_data if◌then◌otherwise◌
 good-does p k w g m c u = rw (u, c)
 
 -- The reaction to the event that completes it.
@@ -84,7 +85,7 @@ page-done p o v w ds q = go (went p o v)
 
 -- What is said of it, by its status.
 stored-said : (p : Part) (w : Awaited) (k : Core) (n : Memory) → utterance_of p (reaction [] (effect (told (stored_reply w) (next_page w k)) n)) ≡ says_stored w
-unfolding utterance_of stored_reply says_stored fault_in payloads frames_of framed
+unfolding utterance_of stored_reply says_stored fault_in payloads frames_of framed if◌then◌otherwise◌
 stored-said p w k n = go (is_last_page w) refl
   where
     go : (l : Bool) → is_last_page w ≡ l → utterance_of p (reaction [] (effect (told (stored_reply w) (next_page w k)) n)) ≡ says_stored w
@@ -92,11 +93,11 @@ stored-said p w k n = go (is_last_page w) refl
     go false e = rw e
 
 pub stored-told : (w : Awaited) (k : Core) {status : ℕ} → status ≡ 0x06 → told_written status w k ≡ told (stored_reply w) (next_page w k)
-unfolding told_written
+unfolding told_written if◌then◌otherwise◌
 stored-told w k e = rw e
 
 pub mixed-told : (w : Awaited) (k : Core) {status : ℕ} → status ≡ 0x1C → told_written status w k ≡ pair 0x06 0x1C (ready k)
-unfolding told_written
+unfolding told_written if◌then◌otherwise◌
 mixed-told w k e = rw e
 
 -- What the event leaves, where this is told of the page.

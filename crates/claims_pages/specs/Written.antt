@@ -1,6 +1,6 @@
 -- What a page of 40h does to a chip, whatever stood where it goes: document 02, §6. What is said, the record, every byte of flash and every kept sum; and that
 -- "Pages answered 1Ch also stand in demand 3".
-use Rattle.std.specs.Prelude.{List, [], ◌++◌, ◌∷◌, ◌≢◌, ◌≡◌, ◌<◌, ℕ, get_or, length, if◌then◌else◌}
+use Rattle.std.specs.Prelude.{List, [], ◌++◌, ◌∷◌, ◌≢◌, ◌≡◌, ◌<◌, ℕ, get_or, length}
 use Rattle.chip.specs.Run.{onward, spoken_in}
 use Rattle.chip.specs.Step.{Outcome, step_of}
 use Rattle.chip.specs.declared.Answer.TheVariants.{Replied}
@@ -26,6 +26,7 @@ use Rattle.part.specs.Part.{blocks, place_of}
 use Rattle.part.specs.declared.Area.{Area}
 use Rattle.part.specs.declared.Part.{Part}
 use Rattle.part.specs.declared.Place.TheVariants.{In}
+use Rattle.words.specs.Words.{if◌then◌otherwise◌}
 
 -- Flash and sums, whatever the status: the page is old AND new, every other byte is as it was; its block's sum is worked out afresh, every other slot is as it was.
 pub record WrittenThere (p : Part) (w : Awaited) (ds : List ℕ) (m n : Memory) : Type 0 where
@@ -50,7 +51,7 @@ unfoldable pub says_stored : Awaited → Utterance
 says_stored w =
     if is_last_page w
     then record { answer = Replied 11 2; fault = Good; bytes = data_frame (0x06 ∷ 0x06 ∷ []) Last ++ data_frame (0x06 ∷ []) Last }
-    else says_frame (0x06 ∷ 0x06 ∷ [])
+    otherwise says_frame (0x06 ∷ 0x06 ∷ [])
 
 pub record PageTold (u : Outcome) (says : Utterance) (core : Core) : Type 0 where
   pub said : uttered (spoken_in u) ≡ says

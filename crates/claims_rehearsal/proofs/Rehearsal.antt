@@ -36,12 +36,13 @@ use Rattle.part.specs.Rate.{accepts_rate, mode_of}
 use Rattle.part.specs.Refusal.{first_of}
 use Rattle.part.specs.Signature.{signature}
 use Rattle.chip_reply.specs.Reply.{frames_of, payloads, said_of}
-use Rattle.words.specs.Words.{◌and◌, ◌from◌to◌, ◌or◌}
+use Rattle.words.specs.Words.{◌and◌, ◌from◌to◌, ◌or◌, if◌then◌otherwise◌}
 use Rattle.frame.specs.Framing.{frames, framing}
 use Rattle.chip_core.specs.Hearing.{hearing}
 
 pub old-sums : OldSums
 unfolding sum_of_bytes all_summed block_sum flash_verdict range_bytes slot summed_by summed_to worked_out less less_all block_size described first_of ◌and◌ ◌from◌to◌
+    if◌then◌otherwise◌
 old-sums = refl
 
 -- Each rehearsal is computed once. Two blocks that were not blank: 3 + 2 * 12 frames. The chip is ready at the job's rate, the image in place, and all other flash
@@ -58,7 +59,7 @@ unfolding byte_in frame_does heard_byte mode_byte react_to settled step_of allow
     stored_form work_frame area_in blocks_in bound is_over setup bad_job bad_state call_verdict due good_block good_dock good_ending good_failure good_named_block
     good_named_page good_page good_stage good_work is_bad out_of_turn short_room spent fresh hear heard holding complete counted framed full is_frame payload frames
     framing fitting judge_of summed less less_all sum_of judge_reply unfit_reply all_are put_at put_of same low_first number_at block_of block_size described ends_block
-    last_of lies_in page_of place_in place_of range_of starts_block stretch whole_blocks accepts_rate mode_of first_of signature ◌and◌ ◌from◌to◌ ◌or◌
+    last_of lies_in page_of place_in place_of range_of starts_block stretch whole_blocks accepts_rate mode_of first_of signature ◌and◌ ◌from◌to◌ ◌or◌ if◌then◌otherwise◌
 rehearsal = refl
 
 pub rehearsal-dock : rehearsed.dock ≡ finished_after 27
@@ -90,7 +91,7 @@ unfolding byte_in frame_does heard_byte mode_byte react_to settled step_of allow
     query_with stored_form work_frame area_in blocks_in bound is_over setup bad_job bad_state call_verdict due good_block good_dock good_ending good_failure good_named_block
     good_named_page good_page good_stage good_work is_bad out_of_turn short_room spent fresh hear heard holding complete counted framed full is_frame payload frames
     framing fitting judge_of summed less less_all sum_of judge_reply unfit_reply all_are put_at put_of same low_first number_at block_of block_size described ends_block
-    last_of lies_in page_of place_in place_of range_of starts_block stretch whole_blocks accepts_rate mode_of first_of signature ◌and◌ ◌from◌to◌ ◌or◌
+    last_of lies_in page_of place_in place_of range_of starts_block stretch whole_blocks accepts_rate mode_of first_of signature ◌and◌ ◌from◌to◌ ◌or◌ if◌then◌otherwise◌
 data-rehearsal = refl
 
 pub rehearsal-data : rehearsed_data.dock ≡ finished_after 15

@@ -1,6 +1,6 @@
 -- The two ends of an undamaged cable: document 01, "The dock's flow". "a gap precedes every frame"; the frame's bytes come one by one, and the replies
 -- to them, one after the other, are the whole answer.
-use Rattle.std.specs.Prelude.{List, [], ◌++◌, ◌∷◌, map, suc, zero, ℕ, take, if◌then◌else◌}
+use Rattle.std.specs.Prelude.{List, [], ◌++◌, ◌∷◌, map, suc, zero, ℕ, take}
 use Rattle.chip.specs.Run.{bytes_said, onward}
 use Rattle.chip.specs.Step.{Outcome}
 use Rattle.chip.specs.declared.Event.{Event}
@@ -13,6 +13,7 @@ use Rattle.dock_job.specs.Job.{is_over}
 use Rattle.dock_job.specs.declared.Dock.{Dock}
 use Rattle.dock_job.specs.declared.Job.{Job}
 use Rattle.part.specs.declared.Part.{Part}
+use Rattle.words.specs.Words.{if◌then◌otherwise◌}
 
 pub record Ends : Type 0 where
   pub dock : Dock
@@ -47,4 +48,4 @@ exchange j image room e =
 -- At most so many of them, as long as the job is not over.
 unfoldable pub cable : ℕ → Job → List ℕ → List ℕ → Ends → Ends
 cable zero j image room e = e
-cable (suc n) j image room e = if is_over e.dock.stage then e else cable n j image room (exchange j image room e)
+cable (suc n) j image room e = if is_over e.dock.stage then e otherwise cable n j image room (exchange j image room e)

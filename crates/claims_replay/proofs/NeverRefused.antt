@@ -37,6 +37,7 @@ use Rattle.replay_records.specs.declared.Ended.TheVariants as Ended
 use Rattle.replay_play.specs.declared.RecordEnded.{RecordEnded}
 use Rattle.replay_play.specs.declared.RecordEnded.TheVariants.{NotGood, OutputShort, Played}
 use Rattle.replay_play.specs.declared.RecordEnded.TheVariants as RecordEnded
+use Rattle.words.specs.Words.{if◌then◌otherwise◌}
 
 -- An outcome stands whatever its last answer was.
 pub again : {p : Part} {o : Outcome} → Stands p o → Stands p (before o.chip o.memory o.room)
@@ -104,7 +105,7 @@ kept-turns p x output w = record { goes = λ r e. by-goes x.left.answer w.bytes 
 
 with-turns : (form : Form) (p : Part) (vs : List Event) (c : Chip) (m : Memory) (room output : List ℕ) → Stands p (before c m room) → AllProper vs → output_least form ≤ length output
     → Turns p (play_with form vs p c m room output)
-unfolding play_with
+unfolding play_with if◌then◌otherwise◌
 with-turns form p vs c m room output s e h =
     rw (le-ltb (length output) (output_least form) h)
     (kept-turns p (played p vs (before_playing c m room)) output (plays p vs (before_playing c m room) (record { bytes = 0; frames = 0; replied = refl; stands = s }) e))

@@ -44,6 +44,7 @@ use Rattle.replay_records.specs.declared.Ended.TheVariants as Ended
 use Rattle.replay_play.specs.declared.RecordEnded.{RecordEnded}
 use Rattle.replay_play.specs.declared.RecordEnded.TheVariants.{NotGood, OutputShort, Played}
 use Rattle.replay_play.specs.declared.RecordEnded.TheVariants as RecordEnded
+use Rattle.words.specs.Words.{if◌then◌otherwise◌}
 
 -- The upshot of one more record.
 unfoldable pub played_upshot : Answer → Playing → Upshot → Upshot
@@ -120,7 +121,7 @@ module _ (form : Form) (p : Part) (r : List ℕ) (x : Replaying) (within : x.byt
   played-upshot (Answer.Refused q) y = same-upshot (Ended.Refused q) _ _ _ refl refl (grown-none x.output _ x.bytes within)
 
   events-upshot : (vs : List Event) → let t = play_with form vs p x.chip x.memory x.room rest in upshot_of (next_by t.ended t x) ≡ events_upshot p vs (upshot_of x)
-  unfolding rest play_with played_into events_upshot
+  unfolding rest play_with played_into events_upshot if◌then◌otherwise◌
   events-upshot vs =
       let y = played p vs (before_playing x.chip x.memory x.room) in
       rw (le-ltb (length (drop x.bytes x.output)) (output_least form) roomy) (played-upshot y.left.answer y)

@@ -1,7 +1,6 @@
 -- Seat 1 is skipped: the proofs of `SkipsSeatOne`, `OtherSeatStays` and `LeastOutput`. A record of seat 1 adds one to the records and nothing else to an upshot, and no
 -- line of good records tells their number.
 -- Assumes nothing.
-use Rattle.std.specs.Prelude.{if◌then◌else◌}
 use mathlib.Core.Bool.{Bool, false, true}
 use mathlib.Core.List.{List, [], ◌++◌, ◌∷◌, append-nil}
 use mathlib.Core.Path.{◌∙◌, ◌≡◌, ap, refl, sym}
@@ -32,6 +31,7 @@ use Rattle.replay_records.specs.Records.{replay_part}
 use Rattle.replay_records.specs.declared.Ended.{Ended}
 use Rattle.replay_records.specs.declared.Ended.TheVariants.{AtBadRecord, OutputFull, Whole}
 use Rattle.replay_records.specs.declared.Ended.TheVariants as Ended
+use Rattle.words.specs.Words.{if◌then◌otherwise◌}
 
 pub other-seat-stays : OtherSeatStays
 other-seat-stays form p r c m room output e h = sym (other-quiet form p r c m room output h e)
@@ -41,12 +41,12 @@ least-output = (refl, refl)
 
 -- The records of seat 0 end to end are these records.
 zero-cut : (form : Form) (rs : List (List ℕ)) → AllPass (good_record form) rs → Cut (record_size form) (end_to_end (seat_zero form rs)) (seat_zero form rs)
-unfolding end_to_end seat_zero
+unfolding end_to_end seat_zero if◌then◌otherwise◌
 zero-cut form [] a = none refl
 zero-cut form (r ∷ rs) a = go (eqb (seat_of form r) 0) (zero-cut form rs (λ i h. a (suc i) (omega arith)))
   where
     go : (t : Bool) → Cut (record_size form) (end_to_end (seat_zero form rs)) (seat_zero form rs)
-        → Cut (record_size form) (end_to_end (if t then r ∷ seat_zero form rs else seat_zero form rs)) (if t then r ∷ seat_zero form rs else seat_zero form rs)
+        → Cut (record_size form) (end_to_end (if t then r ∷ seat_zero form rs otherwise seat_zero form rs)) (if t then r ∷ seat_zero form rs otherwise seat_zero form rs)
     go true c = next r refl (good-is form r (a 0 (omega arith))).long c
     go false c = c
 
@@ -118,7 +118,7 @@ other-of form r h s = go (record_of form r) (record-of-is form r)
 -- Without the records of seat 1 the upshot is the same, but for their number.
 skipped : (form : Form) (p : Part) (rs : List (List ℕ)) (g : Upshot) → AllPass (good_record form) rs → g.ended ≡ Whole
     → uncounted (upshot_from form p rs g) ≡ uncounted (upshot_from form p (seat_zero form rs) g)
-unfolding upshot_from seat_zero while_on
+unfolding upshot_from seat_zero while_on if◌then◌otherwise◌
 skipped form p [] g a w = refl
 skipped form p (r ∷ rs) g a w = go (eqb (seat_of form r) 0) refl (λ v. skipped form p rs k (λ i h. a (suc i) (omega arith)) v)
   where
@@ -133,7 +133,7 @@ skipped form p (r ∷ rs) g a w = go (eqb (seat_of form r) 0) refl (λ v. skippe
     kept (Ended.Refused q) v rest = refl
 
     go : (t : Bool) → eqb (seat_of form r) 0 ≡ t → (k.ended ≡ Whole → uncounted (upshot_from form p rs k) ≡ uncounted (upshot_from form p (seat_zero form rs) k))
-        → uncounted (while_on k.ended (upshot_from form p rs k) k) ≡ uncounted (upshot_from form p (if t then r ∷ seat_zero form rs else seat_zero form rs) g)
+        → uncounted (while_on k.ended (upshot_from form p rs k) k) ≡ uncounted (upshot_from form p (if t then r ∷ seat_zero form rs otherwise seat_zero form rs) g)
     go true s rest = kept k.ended refl rest
     go false s rest =
         let e : k ≡ and_then (one_record g) g = other-adds form p r g (other-of form r (a 0 (omega arith)) s) w in
@@ -159,11 +159,11 @@ shown-uncounted : (x : Upshot) → (x.ended ≡ AtBadRecord → ⊥) → shown x
 shown-uncounted x h = ap (λ (l : List ℕ). lines x.said ++ l) (last-uncounted x x.ended h)
 
 zero-good : (form : Form) (rs : List (List ℕ)) → AllPass (good_record form) rs → AllPass (good_record form) (seat_zero form rs)
-unfolding seat_zero
+unfolding seat_zero if◌then◌otherwise◌
 zero-good form [] a = a
 zero-good form (r ∷ rs) a = go (eqb (seat_of form r) 0) (zero-good form rs (λ i h. a (suc i) (omega arith)))
   where
-    go : (t : Bool) → AllPass (good_record form) (seat_zero form rs) → AllPass (good_record form) (if t then r ∷ seat_zero form rs else seat_zero form rs)
+    go : (t : Bool) → AllPass (good_record form) (seat_zero form rs) → AllPass (good_record form) (if t then r ∷ seat_zero form rs otherwise seat_zero form rs)
     go true b zero h = a 0 (omega arith)
     go true b (suc i) h = b i (omega arith)
     go false b i h = b i h

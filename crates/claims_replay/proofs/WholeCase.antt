@@ -26,7 +26,7 @@ use Rattle.part.specs.Refusal.{first_of}
 use Rattle.replay_records.specs.Records.{next_by, replay_of, replayed_from, while_whole}
 use Rattle.replay_play.specs.Play.{answering, ended_by, events_of, goes_on, play_by, play_of, play_with, played, played_into}
 use Rattle.chip_reply.specs.Reply.{frames_of, payloads, said_of}
-use Rattle.words.specs.Words.{◌and◌, ◌from◌to◌, ◌or◌}
+use Rattle.words.specs.Words.{◌and◌, ◌from◌to◌, ◌or◌, if◌then◌otherwise◌}
 use Rattle.chip_flash.specs.Flash.{blank, erase_of, lands, programmed, sum_of_bytes}
 use Rattle.chip_pages.specs.Pages.{bad_data, compared, data_does, footer_of, good_data, is_last_page, length_of, next_page, page_in}
 use Rattle.chip_pages.specs.Pages.{page_status, page_stored, page_written, program_page, security_data, stored_reply, told_written, verify_page, verify_status}
@@ -52,7 +52,7 @@ unfolding byte_in frame_does fresh_chip heard_byte mode_byte react_to settled st
     holding complete counted framed full is_frame payload frames framing fitting judge_of summed less less_all sum_of all_are put_at put_of same low_first number_at
     block_of block_size described ends_block last_of lies_in page_of place_in place_of range_of starts_block stretch whole_blocks accepts_rate mode_of first_of signature
     good_count good_record record_of records_in records_of seat_of spare_of unused digit_of line_of separator answering ended_by events_of goes_on next_by play_by play_of
-    play_with played played_into replay_of replayed_from while_whole ◌and◌ ◌from◌to◌ ◌or◌
+    play_with played played_into replay_of replayed_from while_whole ◌and◌ ◌from◌to◌ ◌or◌ if◌then◌otherwise◌
 computed = record { whole = refl; empty = refl; short = refl; stopped = refl; seats = refl; other = refl }
 
 pub whole-case : printed Old whole_case ≡ whole_printed

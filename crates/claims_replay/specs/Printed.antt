@@ -1,5 +1,5 @@
 -- What the replay of a capture, of either form, prints: document 01, "Replay", and 02, section 5, from the capture's bytes to the characters on standard output.
-use Rattle.std.specs.Prelude.{List, [], ◌++◌, ◌∷◌, ◌%◌, ◌*◌, ◌+◌, ◌/◌, suc, zero, ℕ, ltb, drop, get_or, length, replicate, take, if◌then◌else◌}
+use Rattle.std.specs.Prelude.{List, [], ◌++◌, ◌∷◌, ◌%◌, ◌*◌, ◌+◌, ◌/◌, suc, zero, ℕ, ltb, drop, get_or, length, replicate, take}
 use Rattle.chip.specs.Step.{fresh_chip}
 use Rattle.chip_state.specs.declared.Chip.{Chip}
 use Rattle.chip_core.specs.Effect.{Memory}
@@ -11,6 +11,7 @@ use Rattle.replay_records.specs.Records.{Replaying, replay_of, replay_part}
 use Rattle.replay_play.specs.Play.{output_least}
 use Rattle.replay_records.specs.declared.Ended.{Ended}
 use Rattle.replay_records.specs.declared.Ended.TheVariants.{AtBadRecord, OutputFull, Refused, Whole}
+use Rattle.words.specs.Words.{if◌then◌otherwise◌}
 
 -- "Each reply frame is one line of hex": frames end to end, cut by their LEN bytes. (No frames are more than their bytes.)
 unfoldable pub lines_in : ℕ → List ℕ → List ℕ
@@ -26,7 +27,7 @@ lines bs = lines_in (length bs) bs
 -- A number in decimal digits, the last written first.
 unfoldable pub digits_in : ℕ → ℕ → List ℕ
 digits_in zero n = []
-digits_in (suc most) n = if ltb n 10 then (0x30 + n) ∷ [] else digits_in most (n / 10) ++ (0x30 + n % 10) ∷ []
+digits_in (suc most) n = if ltb n 10 then (0x30 + n) ∷ [] otherwise digits_in most (n / 10) ++ (0x30 + n % 10) ∷ []
 
 abbrev pub decimal : ℕ → List ℕ
 decimal n = digits_in (suc n) n

@@ -1,6 +1,6 @@
 -- "Replay [..] skips seat 1": document 02, section 5. A capture of good records prints what its records of seat 0 alone would print; and a record of seat 1 leaves all
 -- as it was.
-use Rattle.std.specs.Prelude.{List, [], ◌++◌, ◌∷◌, ◌≡◌, ◌≤◌, ℕ, eqb, length, if◌then◌else◌}
+use Rattle.std.specs.Prelude.{List, [], ◌++◌, ◌∷◌, ◌≡◌, ◌≤◌, ℕ, eqb, length}
 use Rattle.chip_core.specs.Effect.{Memory}
 use Rattle.chip_state.specs.declared.Chip.{Chip}
 use Rattle.claims_capture.specs.Answers.{AllPass, records_from}
@@ -12,11 +12,12 @@ use Rattle.replay_capture.specs.declared.Form.TheVariants.{New, Old}
 use Rattle.replay_capture.specs.declared.Record.TheVariants.{OtherSeat}
 use Rattle.replay_play.specs.Play.{output_least, play_of, unchanged}
 use Rattle.replay_play.specs.declared.RecordEnded.TheVariants.{Played}
+use Rattle.words.specs.Words.{if◌then◌otherwise◌}
 
 -- The records of seat 0, and their bytes end to end.
 unfoldable pub seat_zero : Form → List (List ℕ) → List (List ℕ)
 seat_zero form [] = []
-seat_zero form (r ∷ rs) = if eqb (seat_of form r) 0 then r ∷ seat_zero form rs else seat_zero form rs
+seat_zero form (r ∷ rs) = if eqb (seat_of form r) 0 then r ∷ seat_zero form rs otherwise seat_zero form rs
 
 unfoldable pub end_to_end : List (List ℕ) → List ℕ
 end_to_end [] = []

@@ -42,7 +42,7 @@ use Rattle.part.specs.declared.Place.TheVariants.{In, Outside}
 use Rattle.part.specs.declared.Range.{Range}
 use Rattle.part.specs.declared.Range.TheVariants.{Bad, Blocks}
 use Rattle.words.proofs.Laws.{if-all}
-use Rattle.words.specs.Words.{◌and◌}
+use Rattle.words.specs.Words.{◌and◌, if◌then◌otherwise◌}
 
 -- The statuses of a reply: those of a data frame's two, else the first.
 statuses_of : Reply → List ℕ
@@ -58,7 +58,7 @@ statuses_of Signature = 0x06 ∷ []
 statuses_of Security = 0x06 ∷ []
 
 said-statuses : (p : Part) (o : Options) (r : Reply) → statuses_said (frames_of (payloads p o r)) ≡ statuses_of r
-unfolding statuses_said payloads frames_of framed statuses_of
+unfolding statuses_said payloads frames_of framed statuses_of if◌then◌otherwise◌
 said-statuses p o Silence = refl
 said-statuses p o (Status s) = refl
 said-statuses p o (BadFrame j) = refl
@@ -161,7 +161,7 @@ module _ (p : Part) (k : Core) (m : Memory) where
   stored-allowed w = if-all (λ r. denies r ≡ false) _ (λ t. refl) (λ t. refl)
 
   compares : (w : Awaited) → Same (ready k) m (effect (pair acknowledge (verify_status w) (next_page w k)) m)
-  unfolding verify_status next_page denies statuses_of refusing all_are same ◌and◌
+  unfolding verify_status next_page denies statuses_of refusing all_are same ◌and◌ if◌then◌otherwise◌
   compares w = go (is_last_page w) refl
     where
       go : (l : Bool) → is_last_page w ≡ l → Same (ready k) m (effect (pair acknowledge (verify_status w) (next_page w k)) m)

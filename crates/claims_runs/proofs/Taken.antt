@@ -1,6 +1,5 @@
 -- What an event does: nothing but that a byte is heard, a phase begun or power-on comes; or the work of the frame that it completes.
 -- Assumes nothing.
-use Rattle.std.specs.Prelude.{if◌then◌else◌}
 use mathlib.Core.Bool.{Bool, false, true}
 use mathlib.Core.List.{List, [], ◌∷◌}
 use mathlib.Core.Path.{◌≡◌, refl}
@@ -22,6 +21,7 @@ use Rattle.frame.specs.Collector.{hear}
 use Rattle.frame.specs.Frame.{complete}
 use Rattle.frame.specs.declared.Header.TheVariants.{Command, Data}
 use Rattle.part.specs.declared.Part.{Part}
+use Rattle.words.specs.Words.{if◌then◌otherwise◌}
 
 -- The record after an event that completes no frame.
 unfoldable pub quiet_in : Hearing → ℕ → Core → Core
@@ -40,11 +40,11 @@ pub data Went (ts : List (List ℕ)) (x : List ℕ → Effect) (s : Effect) (r :
   frame_done : (f : List ℕ) → ts ≡ f ∷ [] → r ≡ reaction [] (x f) → Went ts x s r
 
 heard-went : (hs : List ℕ) (x : List ℕ → Effect) (k : Core) (m : Memory) → Went (take-up hs).taken x (silent k m) (heard_byte hs (x hs) k m)
-unfolding heard_byte take-up
+unfolding heard_byte take-up if◌then◌otherwise◌
 heard-went hs x k m = go (complete hs)
   where
-    go : (t : Bool) → Went (if◌then◌else◌ {A = Collected} t (record { holds = []; taken = hs ∷ [] }) (record { holds = hs; taken = [] })).taken x (silent k m)
-        (if t then reaction [] (x hs) else reaction hs (silent k m))
+    go : (t : Bool) → Went (if◌then◌otherwise◌ {A = Collected} t (record { holds = []; taken = hs ∷ [] }) (record { holds = hs; taken = [] })).taken x (silent k m)
+        (if t then reaction [] (x hs) otherwise reaction hs (silent k m))
     go true = frame_done hs refl refl
     go false = only_heard refl refl
 

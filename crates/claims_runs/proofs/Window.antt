@@ -1,6 +1,5 @@
 -- The proof of `WindowRestrictsNothing`.
 -- Assumes nothing.
-use Rattle.std.specs.Prelude.{if◌then◌else◌}
 use mathlib.Core.Bool.{Bool, false, false≢true, not, true, true≢false}
 use mathlib.Core.List.{List, [], ◌∷◌}
 use mathlib.Core.Path.{◌∙◌, ◌≡◌, ap, refl, sym}
@@ -55,11 +54,12 @@ use Rattle.part.specs.declared.Place.TheVariants.{In, Outside}
 use Rattle.part.specs.declared.Range.{Range}
 use Rattle.part.specs.declared.Range.TheVariants.{Bad, Blocks}
 use Rattle.words.proofs.Laws.{if-all}
-use Rattle.words.specs.Words.{◌and◌}
+use Rattle.words.specs.Words.{◌and◌, if◌then◌otherwise◌}
 
 -- A claim about two choices by one test.
 pub if-two : {A B : Type 0} (P : A → B → Type 0) (t : Bool) {a c : A} {b d : B} → (t ≡ true → P a b) → (t ≡ false → P c d)
-    → P (if t then a else c) (if t then b else d)
+    → P (if t then a otherwise c) (if t then b otherwise d)
+unfolding if◌then◌otherwise◌
 if-two P true f g = f refl
 if-two P false f g = g refl
 
@@ -132,17 +132,18 @@ module _ (p : Part) (L : Type 0) (f : List ℕ) (k : Core) (m : Memory) (s e : �
 
   -- Two statuses, each by a test of its own: the frame looks.
   either : (t u : Bool) → L
-      → Beside p L (effect (if t then says not_blank k else says acknowledge k) m)
-      (effect (if u then says not_blank (with_window s e k) else says acknowledge (with_window s e k)) m)
+      → Beside p L (effect (if t then says not_blank k otherwise says acknowledge k) m)
+      (effect (if u then says not_blank (with_window s e k) otherwise says acknowledge (with_window s e k)) m)
+  unfolding if◌then◌otherwise◌
   either true true l = record { start = s; end = e; core = refl; memory = refl; tells = looks l }
   either true false l = record { start = s; end = e; core = refl; memory = refl; tells = looks l }
   either false true l = record { start = s; end = e; core = refl; memory = refl; tells = looks l }
   either false false l = record { start = s; end = e; core = refl; memory = refl; tells = looks l }
 
   fresh : (Looks f → L) → (start end d01 : ℕ) → read_command (payload f) ≡ Meant (BlankCheck start end d01) → (t : Bool) → eqb d01 0x01 ≡ t
-      → Beside p L (effect (if t and not (is_fresh p k.options) then says not_blank k else says acknowledge k) m)
-      (effect (if t and not (is_fresh p (with_window s e k).options) then says not_blank (with_window s e k) else says acknowledge (with_window s e k)) m)
-  unfolding ◌and◌ reads
+      → Beside p L (effect (if t and not (is_fresh p k.options) then says not_blank k otherwise says acknowledge k) m)
+      (effect (if t and not (is_fresh p (with_window s e k).options) then says not_blank (with_window s e k) otherwise says acknowledge (with_window s e k)) m)
+  unfolding ◌and◌ if◌then◌otherwise◌ reads
   fresh look start end d01 c true q =
       either (not (is_fresh p k.options)) (not (is_fresh p (with_window s e k).options))
       (look (at_fresh start end (c ∙ ap (λ (d : ℕ). Meant (BlankCheck start end d)) (eqb-true _ _ q))))
@@ -281,7 +282,7 @@ unfolding spoken payloads
 quiet-both L p hs k l m s e q = record { hears = refl; start = s; end = e; core = q; memory = refl; tells = alike refl }
 
 taken-whole : (hs : List ℕ) → complete hs ≡ true → (take-up hs).taken ≡ hs ∷ []
-unfolding take-up
+unfolding take-up if◌then◌otherwise◌
 taken-whole hs e = rw e
 
 heard-both : (p : Part) (L K : Type 0) (k : Core) (m : Memory) (s e : ℕ) (hs : List ℕ) (x y : Effect) → (complete hs ≡ true → L → K) → Beside p L x y

@@ -1,5 +1,5 @@
 -- Which fault is told, and when: document 02, §4, in document 01's order of judging a complete frame.
-use Rattle.std.specs.Prelude.{false, not, List, [], ◌∷◌, ◌≡◌, ℕ, get_or, if◌then◌else◌}
+use Rattle.std.specs.Prelude.{false, not, List, [], ◌∷◌, ◌≡◌, ℕ, get_or}
 use Rattle.chip.specs.Run.{onward}
 use Rattle.chip.specs.Step.{Outcome}
 use Rattle.chip.specs.declared.Event.{Event}
@@ -27,6 +27,7 @@ use Rattle.frame.specs.declared.judgement.Judgement.TheVariants.{Good, UnfitLeng
 use Rattle.part.specs.declared.Part.{Part}
 use Rattle.part.specs.declared.refusal.Verdict.{Verdict}
 use Rattle.part.specs.declared.refusal.Verdict.TheVariants.{Accepted, Refused}
+use Rattle.words.specs.Words.{if◌then◌otherwise◌}
 
 -- "command unknown .. 04h; LEN unfit for the command 15h": an unknown command has no LEN to fit, and no fault.
 unfoldable pub fault_read : Reading → Judgement
@@ -39,8 +40,8 @@ fault_read (Meant c) = Good
 unfoldable pub command_fault : Phase → List ℕ → Judgement
 command_fault ph f =
     if not (is_good (judge_of Last f)) then judge_of Last f
-    else if not (allowed_in ph (get_or (payload f) 0 0)) then Good
-    else fault_read (read_command (payload f))
+    otherwise if not (allowed_in ph (get_or (payload f) 0 0)) then Good
+    otherwise fault_read (read_command (payload f))
 
 -- A data frame: footer, SUM and LEN. (Phase 1 awaits no frame.)
 unfoldable pub fault_for : Phase → List ℕ → Judgement

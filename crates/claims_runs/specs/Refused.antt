@@ -1,6 +1,6 @@
 -- "A refused command changes nothing.": document 01, "Frames", of every frame and every status but 06h, and but 1Ch: that is no refusal any more, since the page that it
 -- is said of was written, and "the mixed bytes stay" (document 02, §6; claims_pages/specs/Written).
-use Rattle.std.specs.Prelude.{Bool, not, true, List, [], ◌∷◌, ◌≡◌, ℕ, eqb, drop, get_or, take, if◌then◌else◌}
+use Rattle.std.specs.Prelude.{Bool, not, true, List, [], ◌∷◌, ◌≡◌, ℕ, eqb, drop, get_or, take}
 use Rattle.chip.specs.Run.{onward, spoken_in}
 use Rattle.chip.specs.Step.{Outcome, reaction}
 use Rattle.chip.specs.declared.Event.{Event}
@@ -14,11 +14,11 @@ use Rattle.claims_good.specs.Good.{Stands, Utterance, uttered}
 use Rattle.commands.specs.declared.Command.{Command}
 use Rattle.lent.specs.Lent.{all_are, same}
 use Rattle.part.specs.declared.Part.{Part}
-use Rattle.words.specs.Words.{◌and◌}
+use Rattle.words.specs.Words.{◌and◌, if◌then◌otherwise◌}
 
 -- The statuses that are said: the first reply frame begins with one, and the answer to a page, of two bytes, holds two.
 unfoldable pub statuses_said : List ℕ → List ℕ
-statuses_said bs = take (if eqb (get_or bs 1 0) 0x02 then 2 else 1) (drop 2 bs)
+statuses_said bs = take (if eqb (get_or bs 1 0) 0x02 then 2 otherwise 1) (drop 2 bs)
 
 -- A status among these is not 06h, and they are not the two of a page that was written; where nothing is said there is none.
 unfoldable pub refusing : List ℕ → Bool

@@ -22,7 +22,7 @@ use Rattle.chip_options.specs.Options.{fixed_bits, fresh_options, good_options, 
 use Rattle.part.specs.Part.{block_of, block_size, described, ends_block, last_of, lies_in, page_of, place_in, place_of, range_of, starts_block, stretch, whole_blocks}
 use Rattle.part.specs.Refusal.{first_of}
 use Rattle.chip_reply.specs.Reply.{frames_of, payloads, said_of}
-use Rattle.words.specs.Words.{◌and◌, ◌from◌to◌, ◌or◌}
+use Rattle.words.specs.Words.{◌and◌, ◌from◌to◌, ◌or◌, if◌then◌otherwise◌}
 use Rattle.chip_pages.specs.Pages.{bad_data, compared, data_does, footer_of, good_data, is_last_page, length_of, next_page, page_in}
 use Rattle.chip_pages.specs.Pages.{page_status, page_stored, page_written, program_page, security_data, stored_reply, told_written, verify_page, verify_status}
 use Rattle.frame.specs.Framing.{frames, framing}
@@ -38,7 +38,7 @@ unfolding answers heard_back byte_in frame_does heard_byte mode_byte react_to se
     erased_in forbidden programming range_bytes rate_set security_release verify reply_by table command_table fitted read_command read_in fresh hear heard holding
     complete counted framed full is_frame payload frames framing fitting judge_of summed less less_all sum_of all_are put_at put_of same low_first number_at block_of
     block_size described ends_block last_of lies_in page_of place_in place_of range_of starts_block stretch whole_blocks accepts_rate mode_of first_of signature ◌and◌
-    ◌from◌to◌ ◌or◌ kept slot
+    ◌from◌to◌ ◌or◌ if◌then◌otherwise◌ kept slot
 stars = refl
 
 pub in_order : map (λ (x : Example). x.gives) order ≡ map (λ (x : Example). x.printed) order
@@ -49,9 +49,11 @@ unfolding answers heard_back byte_in frame_does heard_byte mode_byte react_to se
     forbidden programming range_bytes rate_set security_release verify order reply_by command_table fitted read_command read_in fresh hear heard holding complete
     counted framed full is_frame payload frames framing fitting judge_of summed less less_all sum_of all_are put_at put_of same low_first number_at block_of block_size
     described ends_block last_of lies_in page_of place_in place_of range_of starts_block stretch whole_blocks accepts_rate mode_of first_of signature ◌and◌ ◌from◌to◌ ◌or◌
+    if◌then◌otherwise◌
 in_order = refl
 
 -- The sums of fresh flash are those of the examples.
 pub fresh-sums : FreshSums
 unfolding sum_of_bytes all_summed block_sum flash_verdict range_bytes slot summed_by summed_to worked_out less less_all block_size described first_of ◌and◌ ◌from◌to◌
+    if◌then◌otherwise◌
 fresh-sums = refl

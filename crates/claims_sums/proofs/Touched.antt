@@ -53,6 +53,7 @@ use Rattle.part.specs.declared.Part.{Part}
 use Rattle.part.specs.declared.Place.{Place}
 use Rattle.part.specs.declared.Place.TheVariants.{In, Outside}
 use Rattle.words.proofs.Laws.{and_right, if-all}
+use Rattle.words.specs.Words.{if◌then◌otherwise◌}
 
 -- A block that begins at a block's start is that block; a page that begins at a page's start lies in its block.
 block_within : {p : Part} {at : ℕ} {a : Area} {offset block page : ℕ} → Spot p at a offset block page → offset % block_size p a ≡ 0
@@ -75,7 +76,7 @@ within-area {p} {a} {block} w h =
 -- The sum of a block of the part worked out afresh.
 pub resummed-is : (p : Part) (a : Area) (offset block page : ℕ) (m : Memory) → block < blocks p a
     → resummed p (In a offset block page) m ≡ record { flash = m.flash; sums = put_sum p a block m.flash m.sums }
-unfolding resummed
+unfolding resummed if◌then◌otherwise◌
 resummed-is p a offset block page m h = simp (lt-ltb _ _ h)
 
 record Does (p : Part) (m : Memory) (x : Effect) : Type 0 where

@@ -42,7 +42,7 @@ use Rattle.lent.specs.Lent.{same}
 use Rattle.numbers.specs.Numbers.{low_first}
 use Rattle.part.specs.Part.{block_of, block_size, ends_block, lies_in, page_of, place_in, place_of, range_of, starts_block, stretch, whole_blocks}
 use Rattle.part.specs.declared.Area.TheVariants.{CodeFlash}
-use Rattle.words.specs.Words.{◌and◌, ◌or◌}
+use Rattle.words.specs.Words.{◌and◌, ◌or◌, if◌then◌otherwise◌}
 
 -- What comes back is all that is said.
 said_all : (ss : List Spoken) → heard_back ss ≡ all_said (map (λ s. uttered s) ss)
@@ -74,7 +74,7 @@ second-pages : AllPages second_differs
 second-pages = and_page equal-page (and_page different-page (and_page equal-page (and_page equal-page no_page)))
 
 verifying-stands : (d : Bool) → Stands the_part (verifying_chip d)
-unfolding good_phase block_size good_awaited good_places place_of place_in lies_in block_of page_of ◌and◌ ◌or◌
+unfolding good_phase block_size good_awaited good_places place_of place_in lies_in block_of page_of ◌and◌ ◌or◌ if◌then◌otherwise◌
 verifying-stands d =
     new-stands the_part _ _ (replicate 32 0x00) the-part-is (record { device_long = refl; name_long = refl; version_long = refl })
     (record { rate = omega arith; options = fresh-good the_part the-part-is; phase = refl })
@@ -91,7 +91,7 @@ record Compared : Type 0 where
   remembered : any_differs the_part (block_awaited true) all_equal fresh_memory.flash ≡ true
 
 compared-so : Compared
-unfolding flash_from joined_pages equal_page different_page same block_size place_of place_in lies_in block_of page_of ◌and◌ ◌or◌
+unfolding flash_from joined_pages equal_page different_page same block_size place_of place_in lies_in block_of page_of ◌and◌ ◌or◌ if◌then◌otherwise◌
 compared-so = record { equal = refl; different = refl; remembered = refl }
 
 -- The replies to four pages.
@@ -100,7 +100,7 @@ record FourReplies (a b c e : List ℕ) : Type 0 where
   failed : all_said (to_pages true (a ∷ b ∷ c ∷ e ∷ [])) ≡ last_says verify_failed
 
 four-replies : (a b c e : List ℕ) → FourReplies a b c e
-unfolding all_said to_pages to_page framed sum_of less_all less
+unfolding all_said to_pages to_page framed sum_of less_all less if◌then◌otherwise◌
 four-replies a b c e = record { well = refl; failed = refl }
 
 told-by : (d : Bool) (a b c e : List ℕ) (t : Bool) → AllPages (a ∷ b ∷ c ∷ e ∷ []) → any_differs the_part (block_awaited d) (a ∷ b ∷ c ∷ e ∷ []) fresh_memory.flash ≡ t
@@ -121,7 +121,7 @@ told-late =
 
 -- The whole command.
 asked : (a b c e : List ℕ) → AllPages (a ∷ b ∷ c ∷ e ∷ []) → VerifyAsked the_part ready_chip 0x0400 0x07FF CodeFlash 1 1 (a ∷ b ∷ c ∷ e ∷ [])
-unfolding fresh range_of whole_blocks starts_block ends_block stretch block_of lies_in block_size ◌and◌
+unfolding fresh range_of whole_blocks starts_block ends_block stretch block_of lies_in block_size ◌and◌ if◌then◌otherwise◌
 asked a b c e ps = record { stands = ready-stands; nothing = refl; phase = refl; range = refl; pages = ps; all = refl }
 
 record ComparedRange : Type 0 where
@@ -133,7 +133,7 @@ unfolding range_bytes joined_pages equal_page different_page same block_size ◌
 range-so = record { equal = refl; different = refl }
 
 asked-replies : (us : List Utterance) → all_said (replicate 10 silence ++ says_frame (acknowledge ∷ []) ∷ us) ≡ acknowledged ++ all_said us
-unfolding all_said framed sum_of less_all less
+unfolding all_said framed sum_of less_all less if◌then◌otherwise◌
 asked-replies us = refl
 
 whole_by : (a b c e : List ℕ) (t : Bool) → AllPages (a ∷ b ∷ c ∷ e ∷ [])
@@ -146,7 +146,7 @@ whole_by a b c e t ps x =
     ∙ ap (λ (t : Bool). acknowledged ++ all_said (to_pages t (a ∷ b ∷ c ∷ e ∷ []))) x
 
 pub whole-told : WholeTold
-unfolding verify_frame payload_of com_of information_of low_first framed sum_of less_all less
+unfolding verify_frame payload_of com_of information_of low_first framed sum_of less_all less if◌then◌otherwise◌
 whole-told =
     let r = four-replies equal_page equal_page equal_page equal_page in
     let s = four-replies equal_page different_page equal_page equal_page in
@@ -169,14 +169,14 @@ first-told =
     (verifying false different_page equal_page equal_page equal_page (and_page different-page (and_page equal-page (and_page equal-page (and_page equal-page no_page)))))
 
 seen-so : page_seen the_part (block_awaited false) different_page fresh_memory.flash ≡ after_difference
-unfolding flash_from joined_pages different_page same block_size place_of place_in lies_in block_of page_of ◌and◌ ◌or◌
+unfolding flash_from joined_pages different_page same block_size place_of place_in lies_in block_of page_of ◌and◌ ◌or◌ if◌then◌otherwise◌
 seen-so = refl
 
 goes_on : Verifying the_part differed_chip after_difference three_equal
 goes_on = subst (λ (w : Awaited). Verifying the_part differed_chip w three_equal) seen-so first-told.verifies
 
 cut-quiet : completes_only no_frame (awaits_in (Awaiting after_difference)) idle cut_page ≡ true
-unfolding cut_page completes_only permitted then_awaits framing good_for empty counted footer_of length_of is_last_page ◌and◌ ◌or◌
+unfolding cut_page completes_only permitted then_awaits framing good_for empty counted footer_of length_of is_last_page ◌and◌ ◌or◌ if◌then◌otherwise◌
 cut-quiet = refl
 
 cut-noise : Noise no_frame the_part differed_chip cut_page
@@ -193,7 +193,7 @@ unfolding ◌or◌
 remembered-so = refl
 
 sum-damaged : Damaged the_part differed_chip after_difference wrong_sum
-unfolding wrong_sum equal_page good_for footer_of length_of is_last_page fitting judge_of is_frame counted summed sum_of less_all less ◌and◌ ◌or◌
+unfolding wrong_sum equal_page good_for footer_of length_of is_last_page fitting judge_of is_frame counted summed sum_of less_all less ◌and◌ ◌or◌ if◌then◌otherwise◌
 sum-damaged =
     record {
       stands = goes_on.stands;
@@ -215,7 +215,7 @@ record OtherReplies : Type 0 where
   blamed : all_said (replicate (length wrong_sum - 1) silence ++ blames_twice (judged_in (awaits_in (Awaiting after_difference)) wrong_sum) ∷ []) ≡ sum_blamed
 
 other-replies : OtherReplies
-unfolding all_said to_pages to_page wrong_sum equal_page framed footer_of length_of is_last_page fitting judge_of is_frame counted summed sum_of less_all less ◌and◌ ◌or◌
+unfolding all_said to_pages to_page wrong_sum equal_page framed footer_of length_of is_last_page fitting judge_of is_frame counted summed sum_of less_all less ◌and◌ ◌or◌ if◌then◌otherwise◌
 other-replies = record { first = refl; three = refl; blamed = refl }
 
 pub in_between : InBetween

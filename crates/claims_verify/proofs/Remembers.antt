@@ -1,6 +1,5 @@
 -- The proof of `Remembers`.
 -- Assumes nothing.
-use Rattle.std.specs.Prelude.{if◌then◌else◌}
 use mathlib.Core.Bool.{Bool, false, false≢true, not, true}
 use mathlib.Core.List.{List, [], ◌∷◌}
 use mathlib.Core.Logic.{◌≢◌}
@@ -51,7 +50,7 @@ use Rattle.part.specs.declared.Place.TheVariants.{In, Outside}
 use Rattle.part.specs.declared.Range.{Range}
 use Rattle.part.specs.declared.Range.TheVariants.{Bad, Blocks}
 use Rattle.words.proofs.Laws.{if-all, if-both, or_right}
-use Rattle.words.specs.Words.{◌or◌}
+use Rattle.words.specs.Words.{◌or◌, if◌then◌otherwise◌}
 
 -- The phase after a command: the one before, ready, or data awaited without a difference.
 data Begins (k : Core) (f : Phase) : Type 0 where
@@ -164,10 +163,10 @@ module _ (p : Part) (k : Core) (w : Awaited) (g : List ℕ) (m : Memory) (good :
 
 -- An event that completes no frame leaves data awaited as it was.
 quiet-phase : (v : Event) (k : Core) (u : Awaited) → (quiet_core v k).phase ≡ Awaiting u → k.phase ≡ Awaiting u
-unfolding quiet_core quiet_in mode_byte
+unfolding quiet_core quiet_in mode_byte if◌then◌otherwise◌
 quiet-phase (Byte b) k u e = go (hearing k.phase) e
   where
-    mode : (t : Bool) → (if t then entered k Setup else k).phase ≡ Awaiting u → k.phase ≡ Awaiting u
+    mode : (t : Bool) → (if t then entered k Setup otherwise k).phase ≡ Awaiting u → k.phase ≡ Awaiting u
     mode true e = absurd (let z : ◌≡◌ {A = ℕ} 0 1 = cc in omega arith)
     mode false e = e
 

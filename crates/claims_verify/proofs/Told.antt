@@ -1,6 +1,5 @@
 -- The proofs of `VerifyTold`, page by page from the last one on, and of `EarlierTold`.
 -- Assumes nothing.
-use Rattle.std.specs.Prelude.{if◌then◌else◌}
 use mathlib.Core.Bool.{Bool, false, not, true}
 use mathlib.Core.List.{List, [], ◌++◌, ◌∷◌, append-nil, map}
 use mathlib.Core.Path.{◌∙◌, ◌≡◌, ap, refl, subst, sym}
@@ -56,7 +55,7 @@ use Rattle.part.specs.declared.Part.{Part}
 use Rattle.part.specs.declared.Place.{Place}
 use Rattle.part.specs.declared.Place.TheVariants.{In, Outside}
 use Rattle.words.proofs.Laws.{and_assoc, and_right}
-use Rattle.words.specs.Words.{◌and◌, ◌or◌}
+use Rattle.words.specs.Words.{◌and◌, ◌or◌, if◌then◌otherwise◌}
 
 -- One run after another.
 says-append : (p : Part) (us vs : List Event) (o : Outcome) → utterances p (us ++ vs) o ≡ utterances p us o ++ utterances p vs (run p us o)
@@ -90,14 +89,14 @@ framed-header h ds f = refl
 -- A page of 13h, good where its footer is awaited, is compared.
 module _ (p : Part) (k : Core) (w : Awaited) (ds : List ℕ) (f : Footer) (m : Memory) (c : w.command ≡ 0x13) (d : Page ds) (e : footer_of w ≡ f) where
   page-judged : fitting (length_of w) (data_frame ds f) (judge_of (footer_of w) (data_frame ds f)) ≡ Good
-  unfolding fitting length_of ◌and◌
+  unfolding fitting length_of if◌then◌otherwise◌ ◌and◌
   page-judged =
       let n = d.long in
       let l : length (data_frame ds f) ≡ 260 = framed-long Data ds f ∙ (omega arith) in
       rw (e, framed-good Data ds f (omega arith) (omega arith), c, l)
 
   page-does : data_does p k w (data_frame ds f) m ≡ effect (verify_page k w (place_of p w.next) ds m.flash) m
-  unfolding data_does good_data
+  unfolding data_does good_data if◌then◌otherwise◌
   page-does = rw (page-judged, payload-framed Data ds f) (rw c)
 
 pub two_said : (p : Part) (k : Core) (m : Memory) (s t : ℕ) → utterance_of p (reaction [] (effect (pair s t k) m)) ≡ says_frame (s ∷ t ∷ [])
@@ -150,24 +149,24 @@ earlier-page : (w : Awaited) → w.next + page_size ≤ w.last → is_last_page 
 unfolding is_last_page
 earlier-page w h = le-ltb w.last (w.next + page_size) (omega arith)
 
-footer-so : (w : Awaited) → w.command ≡ 0x13 → footer_of w ≡ (if is_last_page w then Last else More)
+footer-so : (w : Awaited) → w.command ≡ 0x13 → footer_of w ≡ (if is_last_page w then Last otherwise More)
 unfolding footer_of ◌or◌
 footer-so w c = rw c
 
 last-next : (w : Awaited) (k : Core) → is_last_page w ≡ true → next_page w k ≡ ready k
-unfolding next_page
+unfolding next_page if◌then◌otherwise◌
 last-next w k e = rw e
 
 earlier-next : (w : Awaited) (k : Core) → is_last_page w ≡ false → next_page w k ≡ entered k (Awaiting (page_after w))
-unfolding next_page
+unfolding next_page if◌then◌otherwise◌
 earlier-next w k e = rw e
 
-last-status : (w : Awaited) → is_last_page w ≡ true → verify_status w ≡ (if w.differed then verify_error else acknowledge)
+last-status : (w : Awaited) → is_last_page w ≡ true → verify_status w ≡ (if w.differed then verify_error otherwise acknowledge)
 unfolding verify_status ◌and◌
 last-status w e = rw e
 
 earlier-status : (w : Awaited) → is_last_page w ≡ false → verify_status w ≡ acknowledge
-unfolding verify_status ◌and◌
+unfolding verify_status ◌and◌ if◌then◌otherwise◌
 earlier-status w e = rw e
 
 -- The flash that pages lie in.
@@ -259,14 +258,14 @@ any-one p w ds m =
 -- The last page.
 module _ (p : Part) (o : Outcome) (w : Awaited) (ds : List ℕ) (v : Verifying p o w (ds ∷ [])) where
   last-told : Told p o (page_frames (ds ∷ [])) (to_pages (any_differs p w (ds ∷ []) o.memory.flash) (ds ∷ []))
-  unfolding page_frames to_pages compared
+  unfolding page_frames to_pages compared if◌then◌otherwise◌
   last-told =
       let m = o.memory.flash in
       let l : is_last_page w ≡ true = last-page w v.all in
       let a : is_last_page (after_page p w ds m) ≡ true = last-page (after_page p w ds m) v.all in
       let t = page-told p o w ds Last v.stands v.nothing v.phase v.command (first-page v.pages) (rw (footer-so w v.command, l)) in
       record {
-        says = t.says ∙ ap (to_page acknowledge) (last-status _ a ∙ ap (λ (d : Bool). if d then verify_error else acknowledge) (any-one p w ds m));
+        says = t.says ∙ ap (to_page acknowledge) (last-status _ a ∙ ap (λ (d : Bool). if d then verify_error otherwise acknowledge) (any-one p w ds m));
         core = t.core ∙ last-next _ _ a;
         memory = t.memory;
         nothing = t.nothing;
@@ -284,6 +283,7 @@ module _ (p : Part) (o : Outcome) (w : Awaited) (ds es : List ℕ) (dss : List (
   more_left = omega (arith, v.all)
 
   page-fed : PageTold p o w ds More
+  unfolding if◌then◌otherwise◌
   page-fed = page-told p o w ds More v.stands v.nothing v.phase v.command (first-page v.pages) (rw (footer-so w v.command, earlier-page w more_left))
 
   not_last : is_last_page (after_page p w ds o.memory.flash) ≡ false

@@ -1,6 +1,5 @@
 -- The proofs of `NoNewRefusal` and `NeverLookedAt`: two chips that differ at most in what a command other than 13h remembers go on so, and say the same.
 -- Assumes nothing.
-use Rattle.std.specs.Prelude.{if◌then◌else◌}
 use mathlib.Core.Bool.{Bool, false, true}
 use mathlib.Core.List.{List, [], ◌∷◌}
 use mathlib.Core.Logic.{◌≢◌}
@@ -39,6 +38,7 @@ use Rattle.part.specs.Part.{page_size, place_of}
 use Rattle.part.specs.declared.Part.{Part}
 use Rattle.part.specs.declared.Place.{Place}
 use Rattle.part.specs.declared.refusal.Verdict.TheVariants.{Accepted}
+use Rattle.words.specs.Words.{if◌then◌otherwise◌}
 
 -- Nothing of it is judged.
 state-so : (p : Part) (k : Core) (d : Bool) (f : Phase) (count head len : ℕ)
@@ -61,7 +61,8 @@ data Like (d : Bool) (x y : Effect) : Type 0 where
   equal : x ≡ y → Like d x y
   apart : (w : Awaited) → y.core.phase ≡ Awaiting w → w.command ≢ 0x13 → x ≡ flagged d y → Like d x y
 
-like-if : {d : Bool} {a b x y : Effect} (t : Bool) → (t ≡ true → Like d a x) → (t ≡ false → Like d b y) → Like d (if t then a else b) (if t then x else y)
+like-if : {d : Bool} {a b x y : Effect} (t : Bool) → (t ≡ true → Like d a x) → (t ≡ false → Like d b y) → Like d (if t then a otherwise b) (if t then x otherwise y)
+unfolding if◌then◌otherwise◌
 like-if true f g = f refl
 like-if false f g = g refl
 
@@ -74,14 +75,14 @@ recalling_core d w k = entered k (Awaiting (recalling d w))
 module _ (p : Part) (k : Core) (d : Bool) (w : Awaited) (c : w.command ≢ 0x13) (m : Memory) where
   stores-like : (n : Memory)
       → Like d (effect (told (stored_reply (recalling d w)) (next_page (recalling d w) (recalling_core d w k))) n) (effect (told (stored_reply w) (next_page w k)) n)
-  unfolding stored_reply next_page is_last_page remembering
+  unfolding stored_reply next_page is_last_page remembering if◌then◌otherwise◌
   stores-like n = go (ltb w.last (w.next + page_size))
     where
       reply : Bool → Reply
-      reply t = if t then LastStored else Pair acknowledge acknowledge
+      reply t = if t then LastStored otherwise Pair acknowledge acknowledge
 
-      go : (t : Bool) → Like d (effect (told (reply t) (if t then ready (recalling_core d w k) else entered k (Awaiting (page_after (recalling d w))))) n)
-          (effect (told (reply t) (if t then ready k else entered k (Awaiting (page_after w)))) n)
+      go : (t : Bool) → Like d (effect (told (reply t) (if t then ready (recalling_core d w k) otherwise entered k (Awaiting (page_after (recalling d w))))) n)
+          (effect (told (reply t) (if t then ready k otherwise entered k (Awaiting (page_after w)))) n)
       go true = equal refl
       go false = apart (page_after w) refl c refl
 
@@ -111,10 +112,10 @@ module _ (p : Part) (k : Core) (d : Bool) (w : Awaited) (c : w.command ≢ 0x13)
   silent-like = apart w refl c refl
 
   heard-like : (hs : List ℕ) {x y : Effect} → Like d x y → LikeReaction d (heard_byte hs x (recalling_core d w k) m) (heard_byte hs y (entered k (Awaiting w)) m)
-  unfolding heard_byte
+  unfolding heard_byte if◌then◌otherwise◌
   heard-like hs {x} {y} l = go (complete hs)
     where
-      go : (t : Bool) → LikeReaction d (if t then reaction [] x else reaction hs (silent (recalling_core d w k) m)) (if t then reaction [] y else reaction hs (silent (entered k (Awaiting w)) m))
+      go : (t : Bool) → LikeReaction d (if t then reaction [] x otherwise reaction hs (silent (recalling_core d w k) m)) (if t then reaction [] y otherwise reaction hs (silent (entered k (Awaiting w)) m))
       go true = record { hears = refl; does = l }
       go false = record { hears = refl; does = silent-like }
 

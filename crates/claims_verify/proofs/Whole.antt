@@ -1,6 +1,5 @@
 -- The proofs of `CommandTold`, `ToldAfterNoise` and `DamagedEnds`.
 -- Assumes nothing.
-use Rattle.std.specs.Prelude.{if◌then◌else◌}
 use mathlib.Core.Bool.{Bool, false, not}
 use mathlib.Core.List.{List, [], ◌++◌, ◌∷◌, append-nil, map}
 use mathlib.Core.Path.{◌∙◌, ◌≡◌, ap, refl, subst, subst₂, sym}
@@ -58,7 +57,7 @@ use Rattle.part.proofs.Laws.{LiesIn, Stretch, blocks-most, first_small, range-go
 use Rattle.part.specs.Part.{block_size, first, page_size, place_of}
 use Rattle.part.specs.declared.Area.{Area}
 use Rattle.part.specs.declared.Part.{Part}
-use Rattle.words.specs.Words.{◌or◌}
+use Rattle.words.specs.Words.{◌or◌, if◌then◌otherwise◌}
 
 one-said : (p : Part) (k : Core) (m : Memory) (s : ℕ) → utterance_of p (reaction [] (effect (says s k) m)) ≡ says_frame (s ∷ [])
 unfolding utterance_of fault_in payloads frames_of
@@ -66,7 +65,8 @@ one-said p k m s = rw append-nil
 
 -- A damaged page: its status twice, and the command is over.
 blamed-twice : (w : Awaited) (j : Judgement) → w.command ≡ 0x13 → blames (Awaiting w) j ≡ blames_twice j
-blamed-twice w j c = ap (λ (n : ℕ). if eqb n 0xA0 then blames_once j else blames_twice j) c
+unfolding if◌then◌otherwise◌
+blamed-twice w j c = ap (λ (n : ℕ). if eqb n 0xA0 then blames_once j otherwise blames_twice j) c
 
 pub damaged-ends : DamagedEnds
 unfolding does_in bad_core
@@ -93,8 +93,8 @@ gap-proper [] no_event = and_event a_gap no_event
 gap-proper (v ∷ vs) (and_event h q) = and_event h (gap-proper vs q)
 
 none-completed : (vs : List Sound) (o : Outcome) → data_completed vs ≡ false → left_by vs o ≡ o
-unfolding left_by
-none-completed vs o e = ap (λ (t : Bool). if t then command_over o else o) e
+unfolding left_by if◌then◌otherwise◌
+none-completed vs o e = ap (λ (t : Bool). if t then command_over o otherwise o) e
 
 pub told-after-noise : ToldAfterNoise
 unfolding then_gap
@@ -144,7 +144,7 @@ module _ (p : Part) (o : Outcome) (start end : ℕ) (a : Area) (block count : �
   asked-bytes = more {b = 0x13} (omega arith) (below-append (below_each (low_first 3 start) (low_below 3 start)) (below_each (low_first 3 end) (low_below 3 end)))
 
   asked-does : command_does p o.chip.core (framed Command asked Last) o.memory ≡ effect (says acknowledge (awaiting 0x13 start end o.chip.core)) o.memory
-  unfolding command_does allowed_in reading_does work verify
+  unfolding command_does allowed_in reading_does work verify if◌then◌otherwise◌
   asked-does =
       let l = asked-long in
       rw (framed-good Command asked Last (omega arith) (omega arith), payload-framed Command asked Last, asked-first, v.phase, read_back (Verify start end) starts-short ends-short, v.range)

@@ -1,6 +1,6 @@
 -- What the pages of 13h are told: document 02, §2, "a verify error shows only at the end: every earlier good page gets 06h in its second status, and the last one
 -- gets 0Fh if any page differed." Said of all of a command's pages, as bytes on the line.
-use Rattle.std.specs.Prelude.{Bool, false, not, true, List, [], ◌++◌, ◌∷◌, map, ◌≡◌, ◌*◌, ◌+◌, ◌-◌, ℕ, drop, get_or, length, replicate, take, if◌then◌else◌}
+use Rattle.std.specs.Prelude.{Bool, false, not, true, List, [], ◌++◌, ◌∷◌, map, ◌≡◌, ◌*◌, ◌+◌, ◌-◌, ℕ, drop, get_or, length, replicate, take}
 use Rattle.chip.specs.Run.{run}
 use Rattle.chip.specs.Step.{Outcome}
 use Rattle.chip.specs.declared.Event.TheVariants.{Byte}
@@ -28,7 +28,7 @@ use Rattle.part.specs.declared.Part.{Part}
 use Rattle.part.specs.declared.Place.{Place}
 use Rattle.part.specs.declared.Place.TheVariants.{In, Outside}
 use Rattle.part.specs.declared.Range.TheVariants.{Blocks}
-use Rattle.words.specs.Words.{◌or◌}
+use Rattle.words.specs.Words.{◌or◌, if◌then◌otherwise◌}
 
 -- "Pages for 40h and 13h carry 256 bytes".
 pub record Page (ds : List ℕ) : Type 0 where
@@ -61,7 +61,7 @@ to_page s t = replicate 259 silence ++ says_frame (s ∷ t ∷ []) ∷ []
 -- "every earlier good page gets 06h in its second status, and the last one gets 0Fh if any page differed": d says whether one did.
 unfoldable pub to_pages : Bool → List (List ℕ) → List Utterance
 to_pages d [] = []
-to_pages d (ds ∷ []) = to_page acknowledge (if d then verify_error else acknowledge)
+to_pages d (ds ∷ []) = to_page acknowledge (if d then verify_error otherwise acknowledge)
 to_pages d (ds ∷ es ∷ dss) = to_page acknowledge acknowledge ++ to_pages d (es ∷ dss)
 
 -- A chip that verifies, from any of its pages on, with nothing collected; dss are all the pages that it still awaits.

@@ -1,7 +1,6 @@
 -- The deaf chip satisfies demand 3's claim while a command is awaited, and every chip that is wrong as document 01 names it differs from the definition on a
 -- worked input; there are such chips.
 -- Assumes nothing.
-use Rattle.std.specs.Prelude.{if◌then◌else◌}
 use mathlib.Core.Bool.{Bool, false}
 use mathlib.Core.List.{List, [], ◌∷◌, map}
 use mathlib.Core.Logic.{◌≢◌}
@@ -52,7 +51,7 @@ use Rattle.part.specs.Refusal.{first_of}
 use Rattle.part.specs.declared.Part.{Part}
 use Rattle.chip_reply.specs.Reply.{frames_of, payloads, said_of}
 use Rattle.words.proofs.Laws.{if-all}
-use Rattle.words.specs.Words.{◌and◌, ◌from◌to◌, ◌or◌}
+use Rattle.words.specs.Words.{◌and◌, ◌from◌to◌, ◌or◌, if◌then◌otherwise◌}
 
 -- Nothing that a deaf chip hears changes it, and it says the same to everything.
 deaf-same : (p : Part) (vs : List Event) (o : Outcome) → SameChip o (run_by deaf p vs o)
@@ -96,11 +95,11 @@ no-phase : (w : Awaited) → Ready ≡ Awaiting w → ⊥
 no-phase w e = let z : ◌≡◌ {A = ℕ} 0 1 = cc in omega arith
 
 pub deaf-fails-at-data : NoiseAtData deaf → ⊥
-unfolding left_by command_over
+unfolding left_by command_over if◌then◌otherwise◌
 deaf-fails-at-data claim =
     let a = (claim the_part writing_chip second_page wrong_page refl wrong-page).now.core in
     let l : (left_by wrong_page writing_chip).chip.core.phase ≡ Ready =
-    ap (λ (t : Bool). (if t then command_over writing_chip else writing_chip).chip.core.phase) wrong-page-completes-one in
+    ap (λ (t : Bool). (if t then command_over writing_chip otherwise writing_chip).chip.core.phase) wrong-page-completes-one in
     no-phase second_page (sym l ∙ ap (λ (k : Core). k.phase) a ∙ sym (ap (λ (c : Chip). c.core.phase) (deaf-same the_part (then_gap wrong_page) writing_chip).chip))
 
 -- The first status that is said at all, 256 where there is none.
@@ -151,7 +150,7 @@ unfolding first_status or_else says_by run_by byte_in frame_does heard_byte reac
     lands programmed same program_page resummed stored_reply frames_of payloads said_of good_awaited good_begun good_collected good_core good_phase good_places
     good_state verdict_of block_erase forbidden programming command_table fitted read_command read_in fresh hear heard holding complete counted framed full is_frame
     payload fitting judge_of summed less less_all sum_of all_are put_at put_of low_first number_at block_of block_size described ends_block lies_in page_of place_in place_of
-    range_of starts_block stretch whole_blocks first_of ◌and◌ ◌from◌to◌ ◌or◌
+    range_of starts_block stretch whole_blocks first_of ◌and◌ ◌from◌to◌ ◌or◌ if◌then◌otherwise◌
 computed = record { reset-says = refl; erase-says = refl; first-page = refl; second-page = refl }
 
 pub says-15h-differs : Says15hDiffers

@@ -1,7 +1,7 @@
 -- Wrong chips: document 01, "How tightly things are promised". "Demand 2 shuts out a chip that says 15h to all, one that always acknowledges, one that stores
 -- nothing, one that stores the first page and only acknowledges the rest ..; demand 3 alone would admit a deaf chip". Each of these is a property of a chip; the
 -- claims speak of every chip that has it, and the chips at the end show that there are some.
-use Rattle.std.specs.Prelude.{Bool, false, List, [], ◌++◌, ◌∷◌, map, ◌≢◌, ◌≡◌, ◌%◌, suc, zero, ℕ, eqb, ltb, drop, get_or, replicate, if◌then◌else◌}
+use Rattle.std.specs.Prelude.{Bool, false, List, [], ◌++◌, ◌∷◌, map, ◌≢◌, ◌≡◌, ◌%◌, suc, zero, ℕ, eqb, ltb, drop, get_or, replicate}
 use Rattle.chip.specs.Run.{spoken_in}
 use Rattle.chip.specs.Step.{Outcome, step_of}
 use Rattle.chip.specs.declared.Answer.{Answer}
@@ -18,7 +18,7 @@ use Rattle.frame.specs.Frame.{data_frame}
 use Rattle.frame.specs.declared.Footer.TheVariants.{Last, More}
 use Rattle.frame.specs.declared.judgement.Judgement.TheVariants.{Good}
 use Rattle.part.specs.declared.Part.{Part}
-use Rattle.words.specs.Words.{◌or◌}
+use Rattle.words.specs.Words.{◌or◌, if◌then◌otherwise◌}
 
 -- A chip meets demand 2 where it does with every event what the definition does.
 abbrev pub MeetsDemand2 : Machine → Type 0
@@ -95,7 +95,7 @@ says_always s p c v m room = let o = step_of p c v m room in saying s o.answer o
 -- A chip that answers as the definition does, and whose code flash takes new bytes only where t says so, and FFh anywhere.
 unfoldable pub taken_up : (ℕ → Bool) → List ℕ → List ℕ → List ℕ
 taken_up t [] new = []
-taken_up t (b ∷ bs) new = (if t 0 or eqb (get_or new 0 0) 0xFF then get_or new 0 0 else b) ∷ taken_up (λ i. t (suc i)) bs (drop 1 new)
+taken_up t (b ∷ bs) new = (if t 0 or eqb (get_or new 0 0) 0xFF then get_or new 0 0 otherwise b) ∷ taken_up (λ i. t (suc i)) bs (drop 1 new)
 
 unfoldable pub stores : (ℕ → Bool) → Machine
 stores t p c v m room =

@@ -1,6 +1,5 @@
 -- Laws of the commands: how they are laid in an array, that what is written is read back, and that a command read has its COM.
 -- Assumes nothing.
-use Rattle.std.specs.Prelude.{if◌then◌else◌}
 use mathlib.Core.Bool.{Bool, false, true}
 use mathlib.Core.List.{List, [], ◌++◌, ◌∷◌, append_assoc, append-nil}
 use mathlib.Core.Path.{◌∙◌, ◌≡◌, ap, refl, sym}
@@ -20,6 +19,7 @@ use Rattle.frame.specs.declared.Footer.TheVariants.{Last}
 use Rattle.frame.specs.declared.Header.TheVariants as Header
 use Rattle.numbers.proofs.Laws.{low-3-each, low-long, number-low}
 use Rattle.numbers.specs.Numbers.{low_first, number_at}
+use Rattle.words.specs.Words.{if◌then◌otherwise◌}
 
 -- The information of a command in its array.
 pub two-addresses : {a b : List ℕ} (s e last : ℕ) → a ≡ low_first 3 s → b ≡ low_first 3 e
@@ -82,7 +82,7 @@ long-three cmd s e d = ap suc (length-append (low_first 3 s ++ low_first 3 e) (d
     long-both s e = length-append (low_first 3 s) (low_first 3 e) ∙ rw (low-long, low-long)
 
 meant : (n len : ℕ) (c d : Command) → n ≡ len → c ≡ d → fitted n len c ≡ Meant d
-unfolding fitted
+unfolding fitted if◌then◌otherwise◌
 meant n len c d e f = simp (eq-eqb n len e, f)
 
 same-two : (f : ℕ → ℕ → Command) {a b c d : ℕ} → a ≡ b → c ≡ d → f a c ≡ f b d
@@ -125,7 +125,7 @@ payload-most SecurityRelease = omega arith
 
 -- What is written is read back.
 pub read_back : (c : Command) → start_of c < 256 ^ 3 → end_of c < 256 ^ 3 → read_command (payload_of c) ≡ Meant c
-unfolding read_command read_in command_table payload_of com_of information_of
+unfolding read_command read_in command_table payload_of com_of information_of if◌then◌otherwise◌
 read_back (RateSet rate supply) h k = meant 3 3 _ _ refl refl
 read_back Reset h k = meant 1 1 _ _ refl refl
 read_back (BlockErase s) h k = meant _ 4 _ _ (ap suc (low-long 3 s)) (ap BlockErase (start-alone 0x22 s h))
@@ -145,19 +145,19 @@ Fitting f [] = f ≡ f
 Fitting f (x ∷ xs) = (com_of (x.means f) ≡ x.cmd) × Fitting f xs
 
 fits : (n len : ℕ) (c d : Command) → fitted n len c ≡ Meant d → c ≡ d
-unfolding fitted
+unfolding fitted if◌then◌otherwise◌
 fits n len c d e = go (eqb n len) e
   where
-    go : (t : Bool) → (if t then Meant c else UnfitLen) ≡ Meant d → c ≡ d
+    go : (t : Bool) → (if t then Meant c otherwise UnfitLen) ≡ Meant d → c ≡ d
     go true e = cc
     go false e = absurd (let z : ◌≡◌ {A = ℕ} 0 1 = cc in omega arith)
 
 com-in : (f : List ℕ) (xs : List Row) (c : Command) → Fitting f xs → read_in xs f ≡ Meant c → get_or f 0 0 ≡ com_of c
-unfolding Fitting read_in
+unfolding Fitting read_in if◌then◌otherwise◌
 com-in f [] c w e = absurd (let z : ◌≡◌ {A = ℕ} 0 1 = cc in omega arith)
 com-in f (x ∷ xs) c w e = go (com-in f xs c w.1) (eqb (get_or f 0 0) x.cmd) refl e
   where
-    go : (read_in xs f ≡ Meant c → get_or f 0 0 ≡ com_of c) → (t : Bool) → eqb (get_or f 0 0) x.cmd ≡ t → (if t then fitted (length f) x.len (x.means f) else read_in xs f) ≡ Meant c → get_or f 0 0 ≡ com_of c
+    go : (read_in xs f ≡ Meant c → get_or f 0 0 ≡ com_of c) → (t : Bool) → eqb (get_or f 0 0) x.cmd ≡ t → (if t then fitted (length f) x.len (x.means f) otherwise read_in xs f) ≡ Meant c → get_or f 0 0 ≡ com_of c
     go on true u e = eqb-true _ _ u ∙ sym w.0 ∙ ap com_of (fits (length f) x.len (x.means f) c e)
     go on false u e = on e
 

@@ -1,6 +1,5 @@
 -- How far the search for a record that does not pass has come, over the form and what is asked.
 -- Assumes nothing.
-use Rattle.std.specs.Prelude.{if◌then◌else◌}
 use mathlib.Core.Bool.{Bool, false, true}
 use mathlib.Core.List.{List, ◌∷◌}
 use mathlib.Core.Path.{◌∙◌, ◌≡◌, ap, refl, sym}
@@ -15,6 +14,7 @@ use Rattle.replay_capture.proofs.Laws.{records_is, records-none, size-least}
 use Rattle.replay_capture.proofs.Records.{end_after, end-within, records-cut}
 use Rattle.replay_capture.specs.Capture.{record_end, record_size, records_in, records_of}
 use Rattle.replay_capture.specs.declared.Form.{Form}
+use Rattle.words.specs.Words.{if◌then◌otherwise◌}
 
 -- What is found among records that so many stand before.
 abbrev pub later : ℕ → Found → Found
@@ -56,12 +56,13 @@ module _ {form : Form} {asked : Asked} {bs : List ℕ} {at k : ℕ} {t : Found} 
   -- The record at a place, and those behind it.
   cut : (q : FoundFrom form asked bs at k t) → at < length bs
       → later k (if passes form asked (take (record_end (record_size form) at (length bs) - at) (drop at bs))
-      then one_later (first_not form asked (records_in (record_size form) (q.most - 1) (drop (record_end (record_size form) at (length bs)) bs))) else At 0) ≡ t
+      then one_later (first_not form asked (records_in (record_size form) (q.most - 1) (drop (record_end (record_size form) at (length bs)) bs))) otherwise At 0) ≡ t
   unfolding first_not
   cut q h = sym (ap (λ (rs : List (List ℕ)). later k (first_not form asked rs)) (records-cut (record_size form) at bs q.most h q.enough)) ∙ q.rest
 
   pub found_turn : {end : ℕ} {r : Bool} → FoundFrom form asked bs at k t → at < length bs → end ≡ record_end (record_size form) at (length bs)
       → r ≡ passes form asked (take (end - at) (drop at bs)) → r ≡ true → FoundFrom form asked bs end (k + 1) t
+  unfolding if◌then◌otherwise◌
   found_turn {end} {r} q h g e p =
       let l : length (drop end bs) ≡ length bs - end = length-drop end bs in
       let m : length (drop at bs) ≡ length bs - at = length-drop at bs in
@@ -75,19 +76,20 @@ module _ {form : Form} {asked : Asked} {bs : List ℕ} {at k : ℕ} {t : Found} 
         counted = omega (arith, q.counted, a.0);
         rest =
             later-one k (first_not form asked rs)
-            ∙ ap (λ (b : Bool). later k (if b then one_later (first_not form asked rs) else At 0)) (sym yes)
-            ∙ ap (λ (i : ℕ). later k (if passes form asked (take (i - at) (drop at bs)) then one_later (first_not form asked (records_in (record_size form) (q.most - 1) (drop i bs))) else At 0)) g
+            ∙ ap (λ (b : Bool). later k (if b then one_later (first_not form asked rs) otherwise At 0)) (sym yes)
+            ∙ ap (λ (i : ℕ). later k (if passes form asked (take (i - at) (drop at bs)) then one_later (first_not form asked (records_in (record_size form) (q.most - 1) (drop i bs))) otherwise At 0)) g
             ∙ cut q h;
       }
 
   pub found_here : {end : ℕ} {r : Bool} → FoundFrom form asked bs at k t → at < length bs → end ≡ record_end (record_size form) at (length bs)
       → r ≡ passes form asked (take (end - at) (drop at bs)) → r ≡ false → At k ≡ t
+  unfolding if◌then◌otherwise◌
   found_here {end} {r} q h g e p =
       let no : passes form asked (take (end - at) (drop at bs)) ≡ false = sym e ∙ p in
       let rs : ℕ → Found = λ (i : ℕ). one_later (first_not form asked (records_in (record_size form) (q.most - 1) (drop i bs))) in
       ap At (omega arith)
-      ∙ ap (λ (b : Bool). later k (if b then rs end else At 0)) (sym no)
-      ∙ ap (λ (i : ℕ). later k (if passes form asked (take (i - at) (drop at bs)) then rs i else At 0)) g
+      ∙ ap (λ (b : Bool). later k (if b then rs end otherwise At 0)) (sym no)
+      ∙ ap (λ (i : ℕ). later k (if passes form asked (take (i - at) (drop at bs)) then rs i otherwise At 0)) g
       ∙ cut q h
 
   pub found-end : FoundFrom form asked bs at k t → length bs ≤ at → Nowhere ≡ t
@@ -104,10 +106,10 @@ later-nowhere (At n) e = absurd (let z : ◌≡◌ {A = ℕ} 0 1 = cc in omega a
 
 pub none_found : (form : Form) (asked : Asked) (r : List ℕ) (rs : List (List ℕ)) → first_not form asked (r ∷ rs) ≡ Nowhere
     → (passes form asked r ≡ true) × (first_not form asked rs ≡ Nowhere)
-unfolding first_not
+unfolding first_not if◌then◌otherwise◌
 none_found form asked r rs e = go (passes form asked r) refl e
   where
-    go : (t : Bool) → passes form asked r ≡ t → (if t then one_later (first_not form asked rs) else At 0) ≡ Nowhere
+    go : (t : Bool) → passes form asked r ≡ t → (if t then one_later (first_not form asked rs) otherwise At 0) ≡ Nowhere
         → (passes form asked r ≡ true) × (first_not form asked rs ≡ Nowhere)
     go true p h = (p, later-nowhere (first_not form asked rs) h)
     go false p h = absurd (let z : ◌≡◌ {A = ℕ} 0 1 = cc in omega arith)

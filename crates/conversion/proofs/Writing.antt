@@ -21,6 +21,7 @@ use Rattle.replay_capture.proofs.Laws.{good-is, records_is, records-next, record
 use Rattle.replay_capture.specs.Capture.{record_size, records_in, records_of}
 use Rattle.replay_capture.specs.declared.Form.{Form}
 use Rattle.replay_capture.specs.declared.Form.TheVariants.{New, Old}
+use Rattle.words.specs.Words.{if◌then◌otherwise◌}
 
 good-long : (form : Form) (r : List ℕ) → passes form Good r ≡ true → length r ≡ record_size form
 unfolding passes
@@ -103,7 +104,7 @@ module _ {from : Form} {bs out₀ : List ℕ} {at written : ℕ} {out t : List �
 
 pub writing-end : {from : Form} {bs out₀ : List ℕ} {at written : ℕ} {out t : List ℕ} → WritingFrom from bs out₀ at written out t → length bs ≤ at
     → converting (Wrote written) out ≡ written_into t out₀
-unfolding rewritten_all written_into
+unfolding rewritten_all written_into if◌then◌otherwise◌
 writing-end {from} {bs} {out₀} {at} {written} {out} {t} q h =
     let none : records_in (record_size from) q.most (drop at bs) ≡ [] = ap (records_in (record_size from) q.most) (drop_of_length-le bs h) ∙ records-none (record_size from) q.most in
     let is : q.done ≡ t = sym (append-nil q.done) ∙ ap (λ (rs : List (List ℕ)). q.done ++ rewritten_all from rs) (sym none) ∙ q.rest in
@@ -167,7 +168,7 @@ room-enough New n x h = omega (arith, x.read, x.taken)
 module _ (from : Form) {to : Form} {size-from size-to : ℕ} (bs : List ℕ) (g : first_not from Good (records_of (record_size from) bs) ≡ Nowhere)
     (f : size-from ≡ record_size from) (o : to ≡ other from) (t : size-to ≡ record_size to) where
   pub not_written : (out : List ℕ) → length out / size-to < length bs / size-from → converting NoRoom out ≡ written_into (rewritten_all from (records_of (record_size from) bs)) out
-  unfolding written_into
+  unfolding written_into if◌then◌otherwise◌
   not_written out h = simp (lt-ltb _ _ (room-short from (length out) (counts from bs g) (rw (f, t, o) at h)))
 
   pub room-for-all : {n : ℕ} → length bs / size-from ≤ n / size-to → length (rewritten_all from (records_of (record_size from) bs)) ≤ n

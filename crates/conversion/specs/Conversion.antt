@@ -1,5 +1,5 @@
 -- Conversion of a capture from one form to the other: document 02, section 5.
-use Rattle.std.specs.Prelude.{Bool, List, [], ◌++◌, ◌∷◌, ◌-◌, suc, ℕ, eqb, leb, ltb, drop, length, replicate, take, if◌then◌else◌}
+use Rattle.std.specs.Prelude.{Bool, List, [], ◌++◌, ◌∷◌, ◌-◌, suc, ℕ, eqb, leb, ltb, drop, length, replicate, take}
 use Rattle.conversion.specs.declared.Asked.{Asked}
 use Rattle.conversion.specs.declared.Asked.TheVariants.{Good, Held}
 use Rattle.conversion.specs.declared.Converted.{Converted}
@@ -9,7 +9,7 @@ use Rattle.conversion.specs.declared.Found.TheVariants.{At, Nowhere}
 use Rattle.replay_capture.specs.Capture.{bad_record_number, count, data_in, data_size, head_size, good_record, record_size, records_of, seat_of, tick_of}
 use Rattle.replay_capture.specs.declared.Form.{Form}
 use Rattle.replay_capture.specs.declared.Form.TheVariants.{New, Old}
-use Rattle.words.specs.Words.{◌and◌}
+use Rattle.words.specs.Words.{◌and◌, if◌then◌otherwise◌}
 
 -- The form that a capture is converted to.
 abbrev pub other : Form → Form
@@ -45,7 +45,7 @@ one_later (At n) = At (suc n)
 
 unfoldable pub first_not : Form → Asked → List (List ℕ) → Found
 first_not form a [] = Nowhere
-first_not form a (r ∷ rs) = if passes form a r then one_later (first_not form a rs) else At 0
+first_not form a (r ∷ rs) = if passes form a r then one_later (first_not form a rs) otherwise At 0
 
 -- What a conversion leaves: its answer, and all of the output.
 pub record Converting : Type 0 where
@@ -60,7 +60,7 @@ converting c output = record { converted = c; output = output }
 unfoldable pub written_into : List ℕ → List ℕ → Converting
 written_into bs output =
     if ltb (length output) (length bs) then converting NoRoom output
-    else converting (Wrote (length bs)) (bs ++ drop (length bs) output)
+    otherwise converting (Wrote (length bs)) (bs ++ drop (length bs) output)
 
 unfoldable pub convert_by : Found → Found → List ℕ → List ℕ → Converting
 convert_by (At n) held bs output = converting (BadRecordAt n) output

@@ -1,5 +1,5 @@
 -- The answer to one frame: document 01, "The dock's flow". "The whole answer to one frame is handed in at once". Which fault it has: document 02, §4.
-use Rattle.std.specs.Prelude.{Bool, false, true, List, [], ◌∷◌, ◌+◌, ◌-◌, ℕ, eqb, drop, get_or, length, take, if◌then◌else◌}
+use Rattle.std.specs.Prelude.{Bool, false, true, List, [], ◌∷◌, ◌+◌, ◌-◌, ℕ, eqb, drop, get_or, length, take}
 use Rattle.dock_answer.specs.declared.Decoded.TheVariants.{Garbled, Said}
 use Rattle.dock_answer.specs.declared.Form.{Form}
 use Rattle.dock_answer.specs.declared.Form.TheVariants.{OfLastPage, OfPage, OneStatus, WithRate, WithSignature}
@@ -13,7 +13,7 @@ use Rattle.lent.specs.Lent.{same}
 use Rattle.part.specs.Rate.{mode_of}
 use Rattle.part.specs.Signature.{signature}
 use Rattle.part.specs.declared.Part.{Part}
-use Rattle.words.specs.Words.{◌and◌}
+use Rattle.words.specs.Words.{◌and◌, if◌then◌otherwise◌}
 
 -- Of the frames of an answer the last is the one behind which none is left.
 abbrev pub none_left : List ℕ → Bool
@@ -26,7 +26,7 @@ unfoldable pub judge_frames : List ℕ → List ℕ → Judgement
 judge_frames [] bs = Good
 judge_frames (n ∷ ns) bs =
     let front = judge_reply n (none_left ns) bs in
-    if is_good front then judge_frames ns (drop (n + overhead) bs) else front
+    if is_good front then judge_frames ns (drop (n + overhead) bs) otherwise front
 
 -- A byte of what the first frame carries, and where what the second carries begins, after a first frame that carries so many bytes.
 abbrev pub in_first : ℕ → List ℕ → ℕ
@@ -39,10 +39,10 @@ second_after n = n + overhead + payload_at
 -- 06h 06h to 40h's last)": by the first two bytes that the first frame carries.
 unfoldable pub shape : Form → ℕ → ℕ → List ℕ
 shape OneStatus s t = 1 ∷ []
-shape WithRate s t = if eqb s 0x06 then 3 ∷ [] else 1 ∷ []
-shape WithSignature s t = if eqb s 0x06 then 1 ∷ 22 ∷ [] else 1 ∷ []
+shape WithRate s t = if eqb s 0x06 then 3 ∷ [] otherwise 1 ∷ []
+shape WithSignature s t = if eqb s 0x06 then 1 ∷ 22 ∷ [] otherwise 1 ∷ []
 shape OfPage s t = 2 ∷ []
-shape OfLastPage s t = if eqb s 0x06 and eqb t 0x06 then 2 ∷ 1 ∷ [] else 2 ∷ []
+shape OfLastPage s t = if eqb s 0x06 and eqb t 0x06 then 2 ∷ 1 ∷ [] otherwise 2 ∷ []
 
 unfoldable pub judge_answer : Form → List ℕ → Judgement
 judge_answer f bs = judge_frames (shape f (in_first 0 bs) (in_first 1 bs)) bs
@@ -70,7 +70,7 @@ statuses OfLastPage bs = in_first 0 bs ∷ in_first 1 bs ∷ get_or bs (second_a
 -- "The first unexpected status in an answer decides": the first that is not 06h; 06h where all are.
 unfoldable pub deciding : List ℕ → ℕ
 deciding [] = 0x06
-deciding (s ∷ ss) = if eqb s 0x06 then deciding ss else s
+deciding (s ∷ ss) = if eqb s 0x06 then deciding ss otherwise s
 
 -- "9Ah (the reply must hold the part's clock and the supply's mode)"
 unfoldable pub rate_matches : Part → ℕ → ℕ → ℕ → Bool
@@ -91,6 +91,6 @@ matching p supply OfLastPage bs = true
 unfoldable pub read_answer : Part → ℕ → Form → List ℕ → JudgedAnswer
 read_answer p supply f bs =
     record {
-      decoded = if readable f bs then Said (deciding (statuses f bs)) (matching p supply f bs) else Garbled;
+      decoded = if readable f bs then Said (deciding (statuses f bs)) (matching p supply f bs) otherwise Garbled;
       fault = judge_answer f bs;
     }

@@ -1,6 +1,6 @@
 -- What each call on the dock does and tells through the door: the dock's own definitions on the state that crossed as bytes, refusals by document 01's numbers.
 -- A refused call leaves the state and the numbers told as they are.
-use Rattle.std.specs.Prelude.{Bool, false, true, List, [], ◌∷◌, ℕ, eqb, length, if◌then◌else◌}
+use Rattle.std.specs.Prelude.{Bool, false, true, List, [], ◌∷◌, ℕ, eqb, length}
 use Rattle.dock.specs.Calls.{Asking, ask_of, begin_of, hear_of, wants_of}
 use Rattle.dock.specs.declared.Report.{Report}
 use Rattle.dock.specs.declared.Report.TheVariants.{Due, Ended, Put}
@@ -19,6 +19,7 @@ use Rattle.part.specs.declared.refusal.Refusal.TheVariants.{BadState}
 use Rattle.part.specs.declared.refusal.Verdict.{Verdict}
 use Rattle.part.specs.declared.refusal.Verdict.TheVariants.{Accepted}
 use Rattle.part.specs.declared.refusal.Verdict.TheVariants as Verdict
+use Rattle.words.specs.Words.{if◌then◌otherwise◌}
 
 -- "for the dock: 1, 5, 6, 7, 9, 4, 8": bytes that are no state are refused as a job's refusals come first, with 9 where there is none. On a state the dock
 -- itself judges.
@@ -52,7 +53,7 @@ start_told n state = record { refusal = n; state = state }
 unfoldable pub started_by : Stepped → List ℕ → StartTold
 started_by s state =
     let f = figures_of s.report in
-    if eqb f.refusal 0 then start_told 0 (dock_bytes s.dock) else start_told f.refusal state
+    if eqb f.refusal 0 then start_told 0 (dock_bytes s.dock) otherwise start_told f.refusal state
 
 abbrev pub start_through : Job → List ℕ → List ℕ → StartTold
 start_through j image state = started_by (begin_of j image) state
@@ -70,12 +71,12 @@ ask_told n told state room = record { refusal = n; told = told; state = state; r
 unfoldable pub asked_by : Asking → List ℕ → List ℕ → AskTold
 asked_by a told state =
     let f = figures_of a.report in
-    if eqb f.refusal 0 then ask_told 0 (f.bytes ∷ []) (dock_bytes a.dock) a.room else ask_told f.refusal told state a.room
+    if eqb f.refusal 0 then ask_told 0 (f.bytes ∷ []) (dock_bytes a.dock) a.room otherwise ask_told f.refusal told state a.room
 
 unfoldable pub ask_through : Job → List ℕ → List ℕ → List ℕ → List ℕ → AskTold
 ask_through j image told state room =
     if is_dock state then asked_by (ask_of j image (dock_in state) room) told state
-    else ask_told (no_state (call_verdict j (length image) Begins)) told state room
+    otherwise ask_told (no_state (call_verdict j (length image) Begins)) told state room
 
 -- To hand in an answer, or to report a timeout: an answer came, or none did. Told are how the job ended, and the frames and the retries used.
 unfoldable pub heard_as : Bool → List ℕ → Heard
@@ -93,13 +94,13 @@ hear_told n told state = record { refusal = n; told = told; state = state }
 unfoldable pub heard_by : Stepped → List ℕ → List ℕ → HearTold
 heard_by s told state =
     let f = figures_of s.report in
-    if eqb f.refusal 0 then hear_told 0 (f.ended ∷ f.frames ∷ f.retries ∷ []) (dock_bytes s.dock) else hear_told f.refusal told state
+    if eqb f.refusal 0 then hear_told 0 (f.ended ∷ f.frames ∷ f.retries ∷ []) (dock_bytes s.dock) otherwise hear_told f.refusal told state
 
 unfoldable pub hear_through : Job → List ℕ → List ℕ → List ℕ → Heard → HearTold
 hear_through j image told state h =
     if is_dock state then heard_by (hear_of j image (dock_in state) h) told state
-    else hear_told (no_state (call_verdict j (length image) Begins)) told state
+    otherwise hear_told (no_state (call_verdict j (length image) Begins)) told state
 
 -- How many bytes are still wanted of the awaited answer; 0 where it is to be handed in.
 unfoldable pub wants_through : Job → List ℕ → List ℕ → List ℕ → ℕ
-wants_through j image state bs = if is_dock state then wants_of j image (dock_in state) bs else 0
+wants_through j image state bs = if is_dock state then wants_of j image (dock_in state) bs otherwise 0

@@ -1,6 +1,5 @@
 -- Laws about the flow: pages that are not the last, and retries within the allowance.
 -- Assumes nothing.
-use Rattle.std.specs.Prelude.{if◌then◌else◌}
 use mathlib.Core.Bool.{Bool, false, true}
 use mathlib.Core.Path.{◌≡◌, refl}
 use Prim.Native.Nat.{◌+◌, ◌<◌, ◌^◌, ◌≤◌, ℕ}
@@ -22,7 +21,7 @@ use Rattle.frame.specs.declared.judgement.Judgement.{Judgement}
 use Rattle.frame.specs.declared.judgement.Judgement.TheVariants.{Good}
 use Rattle.part.proofs.Laws.{pages-small}
 use Rattle.words.proofs.Laws.{if-both}
-use Rattle.words.specs.Words.{◌or◌}
+use Rattle.words.specs.Words.{◌or◌, if◌then◌otherwise◌}
 
 -- A page that is not the last has one after it, which is a number of 32 bits.
 pub not_last : (j : Job) (p : ℕ) → last_page j p ≡ false → p + 1 < pages_of j
@@ -40,10 +39,10 @@ within_none : (j : Job) (used : ℕ) (st : Stage) → used ≤ j.retries → Wit
 within_none j used st h = record { allowed = omega arith }
 
 retried-within : (j : Job) (used : ℕ) (st : Stage) (s : ℕ) → used ≤ j.retries → Within j used (retried j used st s)
-unfolding retried
+unfolding retried if◌then◌otherwise◌
 retried-within j used st s h = go (ltb used j.retries) refl
   where
-    go : (t : Bool) → ltb used j.retries ≡ t → Within j used (if t then leads (in_block Blank st) 1 else fails j UnexpectedStatus s Good st)
+    go : (t : Bool) → ltb used j.retries ≡ t → Within j used (if t then leads (in_block Blank st) 1 otherwise fails j UnexpectedStatus s Good st)
     go true e = record { allowed = omega (arith, ltb-true used j.retries e) }
     go false e = within_none j used _ h
 

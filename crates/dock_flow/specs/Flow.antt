@@ -1,6 +1,6 @@
 -- Document 01, "The dock's flow": which answer follows which frame and what it leads to; and from a job, its image and the history of answers the frames
 -- sent, the retries spent and the place. Which fault a failure names: document 02, §4.
-use Rattle.std.specs.Prelude.{Bool, List, [], ◌∷◌, ◌+◌, ℕ, eqb, ltb, if◌then◌else◌}
+use Rattle.std.specs.Prelude.{Bool, List, [], ◌∷◌, ◌+◌, ℕ, eqb, ltb}
 use Rattle.commands.specs.Commands.{com_of}
 use Rattle.dock_answer.specs.Answer.{read_answer, wanted}
 use Rattle.dock_answer.specs.declared.Decoded.{Decoded}
@@ -21,11 +21,11 @@ use Rattle.dock_job.specs.declared.Work.{Work}
 use Rattle.dock_job.specs.declared.Work.TheVariants.{Blank, Erase, Program, ProgramPage, VerifyBlock, VerifyPage}
 use Rattle.frame.specs.declared.judgement.Judgement.{Judgement}
 use Rattle.frame.specs.declared.judgement.Judgement.TheVariants.{Good}
-use Rattle.words.specs.Words.{◌and◌, ◌or◌}
+use Rattle.words.specs.Words.{◌and◌, ◌or◌, if◌then◌otherwise◌}
 
 -- "Then per block, ascending": the first block that is left from k on, or the end.
 unfoldable pub block_from : Job → ℕ → Stage
-block_from j k = if ltb k (blocks_of j) then InBlock k Blank else Over Finished
+block_from j k = if ltb k (blocks_of j) then InBlock k Blank otherwise Over Finished
 
 -- The first of the setup's commands that are left; after the last of them the first block.
 unfoldable pub setup_from : Job → List Setup → Stage
@@ -38,16 +38,16 @@ first_stage j = setup_from j (setup j)
 
 unfoldable pub after_setup : Job → Setup → List Setup → Stage
 after_setup j s [] = block_from j 0
-after_setup j s (x ∷ xs) = if eqb (com_of (query_at j (SetUp s)).command) (com_of (query_at j (SetUp x)).command) then setup_from j xs else after_setup j s xs
+after_setup j s (x ∷ xs) = if eqb (com_of (query_at j (SetUp s)).command) (com_of (query_at j (SetUp x)).command) then setup_from j xs otherwise after_setup j s xs
 
 -- What follows in a block: "32h with 00h; 22h if that said 1Bh; 40h and four pages; 13h and four pages."
 unfoldable pub after_work : Job → ℕ → Work → Stage
 after_work j k Blank = InBlock k Program
 after_work j k Erase = InBlock k Program
 after_work j k Program = InBlock k (ProgramPage 0)
-after_work j k (ProgramPage p) = if last_page j p then InBlock k VerifyBlock else InBlock k (ProgramPage (p + 1))
+after_work j k (ProgramPage p) = if last_page j p then InBlock k VerifyBlock otherwise InBlock k (ProgramPage (p + 1))
 after_work j k VerifyBlock = InBlock k (VerifyPage 0)
-after_work j k (VerifyPage p) = if last_page j p then block_from j (k + 1) else InBlock k (VerifyPage (p + 1))
+after_work j k (VerifyPage p) = if last_page j p then block_from j (k + 1) otherwise InBlock k (VerifyPage (p + 1))
 
 -- What follows where the answer was as expected.
 unfoldable pub next : Job → Stage → Stage
@@ -78,15 +78,15 @@ fails j c s fault st = leads (Over (Failed (failing c s fault (query_at j st))))
 
 -- "A status 07h or 15h spends one retry and restarts the block (or the setup command) ..; with none left the job fails."
 unfoldable pub retried : Job → ℕ → Stage → ℕ → Turned
-retried j used st s = if ltb used j.retries then leads (in_block Blank st) 1 else fails j UnexpectedStatus s Good st
+retried j used st s = if ltb used j.retries then leads (in_block Blank st) 1 otherwise fails j UnexpectedStatus s Good st
 
 -- "Any other unexpected status .. fails it, as a mismatch does"; the status named is "06h for a mismatch".
 unfoldable pub after_status : Job → ℕ → Stage → ℕ → Bool → Turned
 after_status j used st s matches =
-    if eqb s 0x06 then (if matches then leads (next j st) 0 else fails j Mismatch 0x06 Good st)
-    else if says_not_blank j st s then leads (in_block Erase st) 0
-    else if eqb s 0x07 or eqb s 0x15 then retried j used st s
-    else fails j UnexpectedStatus s Good st
+    if eqb s 0x06 then (if matches then leads (next j st) 0 otherwise fails j Mismatch 0x06 Good st)
+    otherwise if says_not_blank j st s then leads (in_block Erase st) 0
+    otherwise if eqb s 0x07 or eqb s 0x15 then retried j used st s
+    otherwise fails j UnexpectedStatus s Good st
 
 -- "an unreadable reply or a reported timeout fails it": "00h if unreadable or timed out". The fault of what was decoded stands beside it.
 unfoldable pub after_answer : Job → ℕ → Stage → Decoded → Judgement → Turned
@@ -119,11 +119,11 @@ unfoldable pub exchanges : Job → List ℕ → ℕ → Stage → List Heard →
 exchanges j image used st [] = []
 exchanges j image used st (h ∷ hs) =
     if is_over st then []
-    else let t = after_heard j used st h in record { frame = frame_at j image st; spends = t.spent } ∷ exchanges j image (used + t.spent) t.stage hs
+    otherwise let t = after_heard j used st h in record { frame = frame_at j image st; spends = t.spent } ∷ exchanges j image (used + t.spent) t.stage hs
 
 unfoldable pub place_after : Job → ℕ → Stage → List Heard → Stage
 place_after j used st [] = st
-place_after j used st (h ∷ hs) = if is_over st then st else let t = after_heard j used st h in place_after j (used + t.spent) t.stage hs
+place_after j used st (h ∷ hs) = if is_over st then st otherwise let t = after_heard j used st h in place_after j (used + t.spent) t.stage hs
 
 -- The frames of the exchanges, in order, and the retries spent in all of them.
 unfoldable pub frames_in : List Exchange → List (List ℕ)

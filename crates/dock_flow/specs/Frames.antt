@@ -1,5 +1,5 @@
 -- Document 01, "The dock's flow", "Frames": which frame is sent at a stage, what its answer looks like, and how it is handed out.
-use Rattle.std.specs.Prelude.{Bool, List, [], ◌++◌, ◌*◌, ◌+◌, ◌-◌, ℕ, leb, drop, length, take, if◌then◌else◌}
+use Rattle.std.specs.Prelude.{Bool, List, [], ◌++◌, ◌*◌, ◌+◌, ◌-◌, ℕ, leb, drop, length, take}
 use Rattle.commands.specs.Commands.{payload_of}
 use Rattle.commands.specs.declared.Command.{Command}
 use Rattle.commands.specs.declared.Command.TheVariants.{BlankCheck, BlockErase, Programming, RateSet, Reset, SignatureGet, Verify}
@@ -28,6 +28,7 @@ use Rattle.part.specs.Part.{page_size}
 use Rattle.part.specs.declared.refusal.Verdict.{Verdict}
 use Rattle.part.specs.declared.refusal.Verdict.TheVariants.{Accepted}
 use Rattle.part.specs.declared.refusal.Verdict.TheVariants as Verdict
+use Rattle.words.specs.Words.{if◌then◌otherwise◌}
 
 -- The block's last page is the one after which none is left.
 unfoldable pub last_page : Job → ℕ → Bool
@@ -35,7 +36,7 @@ last_page j p = leb (pages_of j) (p + 1)
 
 -- What the answer to a page of 40h looks like: the last has a status more.
 unfoldable pub stored_form : Job → ℕ → Form
-stored_form j p = if last_page j p then OfLastPage else OfPage
+stored_form j p = if last_page j p then OfLastPage otherwise OfPage
 
 -- A block of the job, counted from 0: its first address and its last.
 unfoldable pub first_of_block : Job → ℕ → ℕ
@@ -69,7 +70,7 @@ abbrev pub page_bytes : Job → List ℕ → ℕ → ℕ → List ℕ
 page_bytes j image k p = take page_size (drop (k * size_of j + p * page_size) image)
 
 unfoldable pub page_footer : Job → ℕ → Footer
-page_footer j p = if last_page j p then Last else More
+page_footer j p = if last_page j p then Last otherwise More
 
 -- The frame that is sent at a stage: the command's, or the page's in a block.
 abbrev pub frame_of : Command → List ℕ

@@ -1,5 +1,5 @@
 -- How a dock's state crosses the door as bytes: one layout of 26 bytes. Numbers cross as the crate `numbers` says.
-use Rattle.std.specs.Prelude.{Bool, List, ◌++◌, ◌∷◌, ℕ, eqb, ltb, get_or, if◌then◌else◌}
+use Rattle.std.specs.Prelude.{Bool, List, ◌++◌, ◌∷◌, ℕ, eqb, ltb, get_or}
 use Rattle.dock_layout.specs.declared.Flat.{Flat}
 use Rattle.dock_job.specs.declared.Cause.{Cause}
 use Rattle.dock_job.specs.declared.Cause.TheVariants.{Mismatch, TimedOut, UnexpectedStatus, Unreadable}
@@ -20,6 +20,7 @@ use Rattle.frame.specs.declared.judgement.Judgement.{Judgement}
 use Rattle.frame.specs.declared.judgement.Judgement.TheVariants.{Good, UnfitLength, WrongFirst, WrongFooter, WrongSum}
 use Rattle.numbers.specs.Numbers.{bit, low_first, number_at}
 use Rattle.lent.specs.Lent.{same}
+use Rattle.words.specs.Words.{if◌then◌otherwise◌}
 
 -- "cause (status, mismatch, unreadable, timeout)": 1 to 4 in this order.
 unfoldable pub cause_number : Cause → ℕ
@@ -29,16 +30,16 @@ cause_number Unreadable = 3
 cause_number TimedOut = 4
 
 unfoldable pub cause_in : ℕ → Cause
-cause_in n = if eqb n 1 then UnexpectedStatus else if eqb n 2 then Mismatch else if eqb n 3 then Unreadable else TimedOut
+cause_in n = if eqb n 1 then UnexpectedStatus otherwise if eqb n 2 then Mismatch otherwise if eqb n 3 then Unreadable otherwise TimedOut
 
 -- The judgement that a fault's number and its place are of; what is no fault is read as none.
 unfoldable pub judgement_in : ℕ → ℕ → Judgement
 judgement_in n at =
     if eqb n 1 then WrongFooter at
-    else if eqb n 2 then WrongSum at
-    else if eqb n 3 then UnfitLength
-    else if eqb n 4 then WrongFirst
-    else Good
+    otherwise if eqb n 2 then WrongSum at
+    otherwise if eqb n 3 then UnfitLength
+    otherwise if eqb n 4 then WrongFirst
+    otherwise Good
 
 -- A stage in numbers: which it is, 1 to 11 in the flow's order; the block and the page that it names; of a failure the cause, the command, the status and the
 -- fault, else 0.
@@ -104,7 +105,7 @@ dock_bytes d = bytes_with (flat_of d.stage) (bit d.awaited) d.retries d.frames
 
 -- And back.
 unfoldable pub named_in : ℕ → ℕ → Named
-named_in given n = if eqb given 1 then It n else Unnamed
+named_in given n = if eqb given 1 then It n otherwise Unnamed
 
 unfoldable pub fault_at : List ℕ → Fault
 fault_at bs = fault (get_or bs 23 0) (number_at 2 24 bs)
@@ -115,21 +116,21 @@ flat_in bs =
     (get_or bs 22 0) (fault_at bs)
 
 unfoldable pub setup_in : ℕ → Setup
-setup_in n = if eqb n 1 then BaudRate else if eqb n 2 then ResetChip else SiliconSignature
+setup_in n = if eqb n 1 then BaudRate otherwise if eqb n 2 then ResetChip otherwise SiliconSignature
 
 unfoldable pub work_in : ℕ → ℕ → Work
 work_in n page =
     if eqb n 4 then Blank
-    else if eqb n 5 then Erase
-    else if eqb n 6 then Program
-    else if eqb n 7 then ProgramPage page
-    else if eqb n 8 then VerifyBlock
-    else VerifyPage page
+    otherwise if eqb n 5 then Erase
+    otherwise if eqb n 6 then Program
+    otherwise if eqb n 7 then ProgramPage page
+    otherwise if eqb n 8 then VerifyBlock
+    otherwise VerifyPage page
 
 unfoldable pub ending_in : Flat → Ending
 ending_in f =
     if eqb f.stage 10 then Finished
-    else Failed
+    otherwise Failed
     (record {
       cause = cause_in f.cause;
       command = f.command;
@@ -142,8 +143,8 @@ ending_in f =
 unfoldable pub stage_in : Flat → Stage
 stage_in f =
     if ltb f.stage 4 then SetUp (setup_in f.stage)
-    else if ltb f.stage 10 then InBlock (named f.block) (work_in f.stage (named f.page))
-    else Over (ending_in f)
+    otherwise if ltb f.stage 10 then InBlock (named f.block) (work_in f.stage (named f.page))
+    otherwise Over (ending_in f)
 
 unfoldable pub dock_in : List ℕ → Dock
 dock_in bs = record { stage = stage_in (flat_in bs); awaited = eqb (get_or bs 1 0) 1; retries = number_at 4 2 bs; frames = number_at 4 6 bs }

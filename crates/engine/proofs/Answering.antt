@@ -1,6 +1,5 @@
 -- Laws of what is told: a reply goes into the room behind those before it, and the room past it stays.
 -- Assumes nothing.
-use Rattle.std.specs.Prelude.{if◌then◌else◌}
 use mathlib.Core.Bool.{Bool, false, true}
 use mathlib.Core.List.{List, [], ◌++◌, append_assoc, append-nil}
 use mathlib.Core.Path.{◌∙◌, ◌≡◌, ap, refl, sym}
@@ -32,6 +31,7 @@ use Rattle.frame.specs.Judgement.{is_good}
 use Rattle.frame.specs.declared.judgement.Judgement.{Judgement}
 use Rattle.part.specs.Part.{Arrays, described}
 use Rattle.part.specs.declared.Part.{Part}
+use Rattle.words.specs.Words.{if◌then◌otherwise◌}
 
 -- What is sent into the room from a place on, which is lent as a part to the end, and comes back in this form.
 pub record SentPast (at : ℕ) (rs : List (List ℕ)) (s : Sent) (room room' : List ℕ) : Type 0 where
@@ -78,7 +78,7 @@ sent-short p o r t s room l e d a h = let x = sent-past p o r t.bytes s room l d
 -- A whole frame is answered: where the engine stands then.
 pub answered : (p : Part) (k : Core) (t : ToldSoFar) (f : List ℕ) (m m' : Memory) (room l : List ℕ) (d : Done) (s : Sent) (j g : Judgement) (n : ℕ)
     → effect d m' ≡ frame_does (hearing k.phase) p k f m → said s l ≡ send_of p d.core.options d.reply (take (length room - t.bytes) (drop t.bytes room))
-    → j ≡ fault_in d.reply → n ≡ (if is_good j then t.faults else t.faults + 1) → g ≡ (if is_good t.first then j else t.first)
+    → j ≡ fault_in d.reply → n ≡ (if is_good j then t.faults otherwise t.faults + 1) → g ≡ (if is_good t.first then j otherwise t.first)
     → described p ≡ true → Arrays p → RoomAhead t 1 room
     → stand_of d.core (record { bytes = t.bytes + s.bytes; frames = t.frames + s.frames; faults = n; first = g }) m'
     (take t.bytes room ++ (l ++ drop (length room - t.bytes) (drop t.bytes room)))
@@ -90,13 +90,14 @@ answered p k t f m m' room l d s j g n e se je ne ge de a h =
 
 -- The numbers told after it, and the room.
 pub grown : (p : Part) (o : Options) (r : Reply) (t : ToldSoFar) (room l : List ℕ) (s : Sent) (j g : Judgement) (n : ℕ)
-    → said s l ≡ send_of p o r (take (length room - t.bytes) (drop t.bytes room)) → n ≡ (if is_good j then t.faults else t.faults + 1)
+    → said s l ≡ send_of p o r (take (length room - t.bytes) (drop t.bytes room)) → n ≡ (if is_good j then t.faults otherwise t.faults + 1)
     → described p ≡ true → Arrays p → RoomAhead t 1 room
     → (RoomAhead (record { bytes = t.bytes + s.bytes; frames = t.frames + s.frames; faults = n; first = g }) 0
     (take t.bytes room ++ (l ++ drop (length room - t.bytes) (drop t.bytes room))))
     × Past t (record { bytes = t.bytes + s.bytes; frames = t.frames + s.frames; faults = n; first = g })
     (take t.bytes room ++ (l ++ drop (length room - t.bytes) (drop t.bytes room))) room
     × (t.bytes + s.bytes ≤ t.bytes + 31) × (n ≤ t.faults + 1)
+unfolding if◌then◌otherwise◌
 grown p o r t room l s j g n se ne de a h =
     let x = sent-past p o r t.bytes s room l de a (omega (arith, h.left)) se in (
       record { left = omega (arith, x.long, x.short, h.left); framed = omega (arith, x.framed, h.framed) },
@@ -105,7 +106,7 @@ grown p o r t room l s j g n se ne de a h =
       few (is_good j) ne,
     )
   where
-    few : (b : Bool) → n ≡ (if b then t.faults else t.faults + 1) → n ≤ t.faults + 1
+    few : (b : Bool) → n ≡ (if b then t.faults otherwise t.faults + 1) → n ≤ t.faults + 1
     few true e = omega arith
     few false e = omega arith
 

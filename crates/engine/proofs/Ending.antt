@@ -1,6 +1,5 @@
 -- What a play leaves, as the code hands it back.
 -- Assumes nothing.
-use Rattle.std.specs.Prelude.{if◌then◌else◌}
 use mathlib.Core.Bool.{Bool}
 use mathlib.Core.List.{List}
 use mathlib.Core.Path.{◌∙◌, ◌≡◌, ap, sym}
@@ -22,6 +21,7 @@ use Rattle.part.specs.declared.Part.{Part}
 use Rattle.part.specs.declared.refusal.Refusal.{Refusal}
 use Rattle.part.specs.declared.refusal.Verdict.{Verdict}
 use Rattle.part.specs.declared.refusal.Verdict.TheVariants.{Accepted, Refused}
+use Rattle.words.specs.Words.{if◌then◌otherwise◌}
 
 -- What was said stands at the start of the room, and the room past it stays.
 pub leaves-is : (k : Core) (t₀ t : ToldSoFar) (m' : Memory) (room' room hs : List ℕ) (c : Chip) → Past t₀ t room' room
@@ -50,15 +50,15 @@ engine-refuses p bs c m room r e = engine-by p bs c m room (Refused r) e
 pub engine-short : (p : Part) (bs : List ℕ) (c : Chip) (m : Memory) (room : List ℕ)
     → verdict_on p c (length m.flash.code_flash) (length m.flash.data_flash) 32 ≡ Accepted → length room / 32 < length bs
     → refused_with NoRoom c m room ≡ engine_of p bs c m room
-unfolding engine_by
+unfolding engine_by if◌then◌otherwise◌
 engine-short p bs c m room e h =
-    sym (ap (λ (t : Bool). if t then refused_with NoRoom c m room else leaves (played_out p (begins c bs m)) c room) (lt-ltb (length room / 32) (length bs) h))
+    sym (ap (λ (t : Bool). if t then refused_with NoRoom c m room otherwise leaves (played_out p (begins c bs m)) c room) (lt-ltb (length room / 32) (length bs) h))
     ∙ engine-by p bs c m room Accepted e
 
 pub engine-plays : (p : Part) (bs : List ℕ) (c : Chip) (m : Memory) (room : List ℕ)
     → verdict_on p c (length m.flash.code_flash) (length m.flash.data_flash) 32 ≡ Accepted → length bs ≤ length room / 32
     → leaves (played_out p (begins c bs m)) c room ≡ engine_of p bs c m room
-unfolding engine_by
+unfolding engine_by if◌then◌otherwise◌
 engine-plays p bs c m room e h =
-    sym (ap (λ (t : Bool). if t then refused_with NoRoom c m room else leaves (played_out p (begins c bs m)) c room) (le-ltb (length room / 32) (length bs) h))
+    sym (ap (λ (t : Bool). if t then refused_with NoRoom c m room otherwise leaves (played_out p (begins c bs m)) c room) (le-ltb (length room / 32) (length bs) h))
     ∙ engine-by p bs c m room Accepted e

@@ -1,6 +1,5 @@
 -- Laws of what lies at the front, as the code decides it.
 -- Assumes nothing.
-use Rattle.std.specs.Prelude.{if◌then◌else◌}
 use mathlib.Core.Bool.{Bool, false, true}
 use mathlib.Core.List.{List, [], ◌∷◌}
 use mathlib.Core.Path.{◌∙◌, ◌≡◌, ap, refl, sym}
@@ -17,29 +16,30 @@ use Rattle.engine.specs.Inner.Answering.{whole_of}
 use Rattle.frame.specs.Frame.{complete, counted, header_byte}
 use Rattle.frame.specs.declared.Header.{Header}
 use Rattle.frame.specs.declared.Header.TheVariants.{Command, Data}
+use Rattle.words.specs.Words.{if◌then◌otherwise◌}
 
 pub front-skips : (h : Header) (bs : List ℕ) → (get_or bs 0 0 ≡ header_byte h → ⊥) → Skipped ≡ front_for h bs
-unfolding front_for
+unfolding front_for if◌then◌otherwise◌
 front-skips h bs e = rw (ne_eqb _ _ e)
 
 -- From its header on a frame is held, or whole.
-from-header : (h : Header) (bs : List ℕ) → get_or bs 0 0 ≡ header_byte h → front_for h bs ≡ (if complete bs then Whole (counted (get_or bs 1 0) + 4) else Held)
-unfolding front_for
+from-header : (h : Header) (bs : List ℕ) → get_or bs 0 0 ≡ header_byte h → front_for h bs ≡ (if complete bs then Whole (counted (get_or bs 1 0) + 4) otherwise Held)
+unfolding front_for if◌then◌otherwise◌
 from-header h bs e = rw (eq-eqb _ _ e)
 
 pub front-holds : (h : Header) (bs : List ℕ) (n : ℕ) → get_or bs 0 0 ≡ header_byte h → n ≡ whole_of bs → n ≡ 0 → Held ≡ front_for h bs
-unfolding whole_of
+unfolding whole_of if◌then◌otherwise◌
 front-holds h bs n e w z = go (complete bs) w ∙ sym (from-header h bs e)
   where
-    go : (t : Bool) → n ≡ (if t then counted (get_or bs 1 0) + 4 else 0) → Held ≡ (if t then Whole (counted (get_or bs 1 0) + 4) else Held)
+    go : (t : Bool) → n ≡ (if t then counted (get_or bs 1 0) + 4 otherwise 0) → Held ≡ (if t then Whole (counted (get_or bs 1 0) + 4) otherwise Held)
     go true q = absurd (omega arith)
     go false q = refl
 
 pub front-whole : (h : Header) (bs : List ℕ) (n : ℕ) → get_or bs 0 0 ≡ header_byte h → n ≡ whole_of bs → (n ≡ 0 → ⊥) → Whole n ≡ front_for h bs
-unfolding whole_of
+unfolding whole_of if◌then◌otherwise◌
 front-whole h bs n e w z = go (complete bs) w ∙ sym (from-header h bs e)
   where
-    go : (t : Bool) → n ≡ (if t then counted (get_or bs 1 0) + 4 else 0) → Whole n ≡ (if t then Whole (counted (get_or bs 1 0) + 4) else Held)
+    go : (t : Bool) → n ≡ (if t then counted (get_or bs 1 0) + 4 otherwise 0) → Whole n ≡ (if t then Whole (counted (get_or bs 1 0) + 4) otherwise Held)
     go true q = ap Whole q
     go false q = absurd (z q)
 

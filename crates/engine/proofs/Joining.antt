@@ -1,6 +1,5 @@
 -- A frame that the chip holds the begin of: the bytes that follow are joined to those held, as far as the longest frame reaches.
 -- Assumes nothing.
-use Rattle.std.specs.Prelude.{if◌then◌else◌}
 use mathlib.Core.Bool.{Bool, false, true}
 use mathlib.Core.List.{List, [], ◌++◌, ◌∷◌}
 use mathlib.Core.Path.{◌∙◌, ◌≡◌, ap, refl, subst, sym}
@@ -34,6 +33,7 @@ use Rattle.lent.specs.Lent.{left, put_of}
 use Rattle.lent.specs.declared.Room.{Room}
 use Rattle.part.specs.declared.Part.{Part}
 use Rattle.part.specs.declared.refusal.Verdict.TheVariants.{Accepted}
+use Rattle.words.specs.Words.{if◌then◌otherwise◌}
 
 -- A part is lent from its start.
 pub from_start : (n : ℕ) (l : List ℕ) → take (n - 0) l ≡ take n l
@@ -45,10 +45,11 @@ pub record Joins (count n k : ℕ) : Type 0 where
   pub placed : count + k ≤ 260
   pub enough : count + k < 260 → n ≡ k
 
-pub joins : (count n k : ℕ) → k ≡ (if ltb n (260 - count) then n else 260 - count) → count ≤ 260 → Joins count n k
+pub joins : (count n k : ℕ) → k ≡ (if ltb n (260 - count) then n otherwise 260 - count) → count ≤ 260 → Joins count n k
+unfolding if◌then◌otherwise◌
 joins count n k e h = go (ltb n (260 - count)) refl e
   where
-    go : (t : Bool) → ltb n (260 - count) ≡ t → k ≡ (if t then n else 260 - count) → Joins count n k
+    go : (t : Bool) → ltb n (260 - count) ≡ t → k ≡ (if t then n otherwise 260 - count) → Joins count n k
     go true t e = let l : n < 260 - count = ltb-true n (260 - count) t in record { there = omega arith; placed = omega arith; enough = λ q. sym e }
     go false t e = let l : 260 - count ≤ n = ltb-false n (260 - count) t in record { there = omega arith; placed = omega arith; enough = λ q. absurd (omega arith) }
 
@@ -67,7 +68,7 @@ joined_is c bs l k a h p t e =
     ap (take (c.len + k)) w.is ∙ take_at (heard c ++ take k bs) _ (c.len + k) j
 
 whole_is : (xs : List ℕ) → complete xs ≡ true → whole_of xs ≡ counted (get_or xs 1 0) + 4
-unfolding whole_of
+unfolding whole_of if◌then◌otherwise◌
 whole_is xs e = rw e
 
 pub joined-ahead : (c : Collector) (bs l : List ℕ) (k : ℕ) (a : Room) → length c.bytes ≡ 260 → c.len ≤ 260 → Joins c.len (length bs) k
@@ -101,10 +102,10 @@ whole-joined xs c = go (dec_lt (length xs) 260)
         wholes (take 260 xs) xs (complete-is (take 260 xs) ∙ full_at _ _ c (omega arith) ∙ sym (full_at _ _ d (omega arith)) ∙ sym (complete-is xs)) f
 
 pub whole_long : (xs : List ℕ) (m : ℕ) → m ≡ whole_of xs → (m ≡ 0 → ⊥) → (m ≤ length xs) × (m ≡ counted (get_or xs 1 0) + 4)
-unfolding whole_of
+unfolding whole_of if◌then◌otherwise◌
 whole_long xs m e z = go (complete xs) refl e
   where
-    go : (t : Bool) → complete xs ≡ t → m ≡ (if t then counted (get_or xs 1 0) + 4 else 0) → (m ≤ length xs) × (m ≡ counted (get_or xs 1 0) + 4)
+    go : (t : Bool) → complete xs ≡ t → m ≡ (if t then counted (get_or xs 1 0) + 4 otherwise 0) → (m ≤ length xs) × (m ≡ counted (get_or xs 1 0) + 4)
     go true t e = (omega (arith, complete-long xs t), e)
     go false t e = absurd (z e)
 

@@ -1,6 +1,5 @@
 -- Laws of the engine's turns: a turn takes a byte at least, or what lies ahead is held and stays; so more turns than bytes change nothing.
 -- Assumes nothing.
-use Rattle.std.specs.Prelude.{if◌then◌else◌}
 use mathlib.Core.Bool.{Bool, false, not, true}
 use mathlib.Core.List.{List, [], ◌∷◌}
 use mathlib.Core.Path.{◌∙◌, ◌≡◌, ap, refl, sym}
@@ -21,6 +20,7 @@ use Rattle.frame.specs.declared.Header.TheVariants.{Command, Data}
 use Rattle.part.specs.declared.Part.{Part}
 use Rattle.frame.proofs.Laws.Collector.{complete-is}
 use Rattle.frame.proofs.Laws.Frame.{full-not, full-room, full-short}
+use Rattle.words.specs.Words.{if◌then◌otherwise◌}
 
 abbrev pub front_in : Plain → Front
 front_in x = front_of (hearing x.stands.core.phase) x.ahead
@@ -33,14 +33,14 @@ pub data Fronted (bs : List ℕ) : Front → Type 0 where
   whole_frame : {n : ℕ} → complete bs ≡ true → n ≡ counted (get_or bs 1 0) + 4 → Fronted bs (Whole n)
 
 front-for : (h : Header) (bs : List ℕ) → 1 ≤ length bs → Fronted bs (front_for h bs)
-unfolding front_for
+unfolding front_for if◌then◌otherwise◌
 front-for h bs l = go (not (eqb (get_or bs 0 0) (header_byte h)))
   where
-    inside : (t : Bool) → complete bs ≡ t → Fronted bs (if t then Whole (counted (get_or bs 1 0) + 4) else Held)
+    inside : (t : Bool) → complete bs ≡ t → Fronted bs (if t then Whole (counted (get_or bs 1 0) + 4) otherwise Held)
     inside true e = whole_frame e refl
     inside false e = held_ahead e
 
-    go : (t : Bool) → Fronted bs (if t then Skipped else if complete bs then Whole (counted (get_or bs 1 0) + 4) else Held)
+    go : (t : Bool) → Fronted bs (if t then Skipped otherwise if complete bs then Whole (counted (get_or bs 1 0) + 4) otherwise Held)
     go true = one_skipped l
     go false = inside (complete bs) refl
 

@@ -1,6 +1,6 @@
 -- A plain engine: document 02, §7. A second software chip, to be read before the first. All bytes of a stretch lie ahead at once, those that the chip held from
 -- before first; turn by turn the front of them is taken: a mode byte, a byte before a header, or a whole frame where it lies. Nothing is collected.
-use Rattle.std.specs.Prelude.{not, List, [], ◌++◌, ◌∷◌, ◌+◌, ◌/◌, suc, zero, ℕ, eqb, ltb, drop, get_or, length, take, if◌then◌else◌}
+use Rattle.std.specs.Prelude.{not, List, [], ◌++◌, ◌∷◌, ◌+◌, ◌/◌, suc, zero, ℕ, eqb, ltb, drop, get_or, length, take}
 use Rattle.chip_core.specs.Effect.{Memory}
 use Rattle.chip_core.specs.Hearing.{hearing}
 use Rattle.chip_core.specs.declared.Core.{Core}
@@ -26,14 +26,15 @@ use Rattle.frame.specs.declared.judgement.Judgement.TheVariants.{Good}
 use Rattle.part.specs.declared.Part.{Part}
 use Rattle.part.specs.declared.refusal.Verdict.{Verdict}
 use Rattle.part.specs.declared.refusal.Verdict.TheVariants.{Accepted, Refused}
+use Rattle.words.specs.Words.{if◌then◌otherwise◌}
 
 -- What lies at the front of the bytes ahead, by what the phase hears. Before the header that is awaited bytes are skipped; from it on a frame is whole at LEN + 4
 -- bytes; where fewer lie ahead, all of them are held.
 unfoldable pub front_for : Header → List ℕ → Front
 front_for h bs =
     if not (eqb (get_or bs 0 0) (header_byte h)) then Skipped
-    else if complete bs then Whole (counted (get_or bs 1 0) + overhead)
-    else Held
+    otherwise if complete bs then Whole (counted (get_or bs 1 0) + overhead)
+    otherwise Held
 
 unfoldable pub front_of : Hearing → List ℕ → Front
 front_of f [] = Held
@@ -65,8 +66,8 @@ after_frame p f s =
       memory = does.memory;
       said = s.said ++ frames_of replies;
       frames = s.frames + length replies;
-      faults = if is_good judgement then s.faults else s.faults + 1;
-      first = if is_good s.first then judgement else s.first;
+      faults = if is_good judgement then s.faults otherwise s.faults + 1;
+      first = if is_good s.first then judgement otherwise s.first;
     }
 
 -- The bytes ahead, and where the engine stands before them.
@@ -130,7 +131,7 @@ unfoldable pub engine_by : Verdict → Part → List ℕ → Chip → Memory →
 engine_by (Refused r) p bs c m room = refused_with (EngineAnswer.Refused r) c m room
 engine_by Accepted p bs c m room =
     if ltb (length room / 32) (length bs) then refused_with NoRoom c m room
-    else leaves (played_out p (begins c bs m)) c room
+    otherwise leaves (played_out p (begins c bs m)) c room
 
 unfoldable pub engine_of : Part → List ℕ → Chip → Memory → List ℕ → EngineLeft
 engine_of p bs c m room = engine_by (verdict_on p c (length m.flash.code_flash) (length m.flash.data_flash) 32) p bs c m room

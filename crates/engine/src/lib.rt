@@ -2,7 +2,7 @@
 // frame that the chip held the begin of is joined first. What a frame does is one definition for both chips.
 #![tactic(auto)]
 
-ghost use Rattle.std.specs.Prelude.{◌≡◌, true, ◌++◌, ◌+◌, ◌-◌, ◌*◌, ◌≤◌, ◌<◌, ltb, drop, get_or, length, take, if◌then◌else◌};
+ghost use Rattle.std.specs.Prelude.{◌≡◌, true, ◌++◌, ◌+◌, ◌-◌, ◌*◌, ◌≤◌, ◌<◌, ltb, drop, get_or, length, take};
 ghost use Rattle.chip_core.specs.Effect.{memory};
 ghost use Rattle.chip_state.specs.Refusals.{verdict_on};
 ghost use Rattle.engine.specs.Engine.{after_frame, begins, engine_left, engine_of, front_for, front_of, leaves, facing, played_out};
@@ -10,6 +10,7 @@ ghost use Rattle.engine.specs.Inner.Answering.{Ample, Past, RoomAhead, ended_of,
 ghost use Rattle.frame.specs.Collector.{heard};
 ghost use Rattle.frame.specs.Frame.{counted};
 ghost use Rattle.frame.specs.Judgement.{is_good};
+ghost use Rattle.words.specs.Words.{if◌then◌otherwise◌};
 ghost use Rattle.part.specs.Part.{described};
 ghost use Rattle.part.specs.declared.refusal.Verdict.TheVariants.{Accepted};
 
@@ -111,7 +112,7 @@ fn front_of(hears: Hearing, bytes: &[u8]) -> Front
 // How many frames were judged bad, with one judgement more; and the first of the bad ones.
 fn faults_after(faults: usize, judgement: Judgement) -> usize
     requires { faults + 1 < 18446744073709551616 }
-    ensures { result ≡ (if is_good judgement then faults else faults + 1) }
+    ensures { result ≡ (if is_good judgement then faults otherwise faults + 1) }
 {
     if judgement.is_good() {
         return faults;
@@ -120,7 +121,7 @@ fn faults_after(faults: usize, judgement: Judgement) -> usize
 }
 
 fn first_of(first: Judgement, judgement: Judgement) -> Judgement
-    ensures { result ≡ (if is_good first then judgement else first) }
+    ensures { result ≡ (if is_good first then judgement otherwise first) }
 {
     if first.is_good() {
         return judgement;
@@ -242,7 +243,7 @@ fn ended(reached: Reached, collector: Collector, held: &[u8]) -> Played
 // How much of the stretch is joined to what is held: as much as the longest frame can take.
 fn room_behind(count: usize, n: usize) -> usize
     requires { count ≤ 260 }
-    ensures { result ≡ (if ltb n (260 - count) then n else 260 - count) }
+    ensures { result ≡ (if ltb n (260 - count) then n otherwise 260 - count) }
 {
     if n < frame::LONGEST - count {
         return n;

@@ -1,11 +1,11 @@
 -- What a frame is: document 01, "Frames", first paragraph, and 000, chapter 2, table 2-1.
-use Rattle.std.specs.Prelude.{ℕ, ◌+◌, ◌-◌, ◌%◌, Bool, leb, List, [], ◌∷◌, ◌++◌, length, take, drop, ◌==◌, nat_eq, nat_le, nat_lt, slice_index, if◌then◌else◌}
+use Rattle.std.specs.Prelude.{ℕ, ◌+◌, ◌-◌, ◌%◌, Bool, leb, List, [], ◌∷◌, ◌++◌, length, take, drop, ◌==◌, nat_eq, nat_le, nat_lt, slice_index}
 use Rattle.frame.specs.Sum.{sum_of}
 use Rattle.frame.specs.declared.Footer.{Footer}
 use Rattle.frame.specs.declared.Footer.TheVariants.{Last, More}
 use Rattle.frame.specs.declared.Header.{Header}
 use Rattle.frame.specs.declared.Header.TheVariants.{Command, Data}
-use Rattle.words.specs.Words.{◌and◌}
+use Rattle.words.specs.Words.{◌and◌, if◌then◌otherwise◌}
 
 -- "Command: 01h, .. Data: 02h, .."
 abbrev pub header_byte : Header → ℕ
@@ -22,7 +22,7 @@ abbrev pub len_byte : ℕ → ℕ
 len_byte n = n % 256
 
 unfoldable pub counted : ℕ → ℕ
-counted len = if len == 0x00 then 256 else len
+counted len = if len == 0x00 then 256 otherwise len
 
 -- What surrounds a payload: header, LEN, SUM and footer. It begins after header and LEN. The longest frame carries 256 bytes.
 abbrev pub overhead : ℕ
@@ -59,8 +59,8 @@ before_last = overhead - 1
 -- Once header and LEN have come, so many of the bytes still to come are added without completing the frame.
 unfoldable pub lacking_of : ℕ → ℕ → ℕ → ℕ
 lacking_of count len rest =
-    if nat_le 2 count then (if nat_lt rest (counted len + before_last - count) then rest else counted len + before_last - count)
-    else 0
+    if nat_le 2 count then (if nat_lt rest (counted len + before_last - count) then rest otherwise counted len + before_last - count)
+    otherwise 0
 
 -- These bytes are one complete frame and nothing after it.
 unfoldable pub is_frame : List ℕ → Bool

@@ -1,8 +1,9 @@
 -- The framing rule as a machine of its own: document 01, "Frames", "Collecting". It knows the awaited header, bytes and gaps, and says
 -- which frames they complete; it counts down what is still to come, and knows nothing of a collector, flash or options.
-use Rattle.std.specs.Prelude.{ℕ, ◌+◌, ◌-◌, List, [], ◌∷◌, ◌++◌, ◌==◌, nat_le, if◌then◌else◌}
+use Rattle.std.specs.Prelude.{ℕ, ◌+◌, ◌-◌, List, [], ◌∷◌, ◌++◌, ◌==◌, nat_le}
 use Rattle.frame.specs.Frame.{counted, header_byte}
 use Rattle.frame.specs.declared.Header.{Header}
+use Rattle.words.specs.Words.{if◌then◌otherwise◌}
 
 pub data Sound : Type 0 where
   byte : ℕ → Sound
@@ -27,9 +28,9 @@ completes f = record { stands = idle; done = f ∷ [] }
 
 unfoldable pub framing : Header → Framing → Sound → Framed
 framing h w gap = quiet idle
-framing h idle (byte b) = if b == header_byte h then quiet (begun b) else quiet idle
+framing h idle (byte b) = if b == header_byte h then quiet (begun b) otherwise quiet idle
 framing h (begun x) (byte b) = quiet (inside (x ∷ b ∷ []) (counted b + 2))
-framing h (inside bs n) (byte b) = if nat_le n 1 then completes (bs ++ b ∷ []) else quiet (inside (bs ++ b ∷ []) (n - 1))
+framing h (inside bs n) (byte b) = if nat_le n 1 then completes (bs ++ b ∷ []) otherwise quiet (inside (bs ++ b ∷ []) (n - 1))
 
 -- The frames that a list of sounds completes, in order, and where the machine stands after them.
 unfoldable pub frames : Header → Framing → List Sound → List (List ℕ)

@@ -1,12 +1,12 @@
 -- The judgement of a complete frame: document 01, "Frames", third paragraph; the faults that it tells apart, and where they lie: document 02, §4.
-use Rattle.std.specs.Prelude.{ℕ, ◌+◌, ◌-◌, Bool, true, false, not, List, length, take, drop, ◌==◌, slice_index, if◌then◌else◌}
+use Rattle.std.specs.Prelude.{ℕ, ◌+◌, ◌-◌, Bool, true, false, not, List, length, take, drop, ◌==◌, slice_index}
 use Rattle.frame.specs.Frame.{footer_byte, is_frame, overhead}
 use Rattle.frame.specs.Sum.{sum_of}
 use Rattle.frame.specs.declared.Footer.{Footer}
 use Rattle.frame.specs.declared.judgement.Fault.{Fault}
 use Rattle.frame.specs.declared.judgement.Judgement.{Judgement}
 use Rattle.frame.specs.declared.judgement.Judgement.TheVariants.{Good, UnfitLength, WrongFirst, WrongFooter, WrongSum}
-use Rattle.words.specs.Words.{◌and◌}
+use Rattle.words.specs.Words.{◌and◌, if◌then◌otherwise◌}
 
 -- LEN and each byte after it, up to SUM.
 unfoldable pub summed : List ℕ → List ℕ
@@ -17,9 +17,9 @@ summed bs = take (length bs - 3) (drop 1 bs)
 unfoldable pub judge_of : Footer → List ℕ → Judgement
 judge_of f bs =
     if not (is_frame bs) then UnfitLength
-    else if not (slice_index bs (length bs - 1) == footer_byte f) then WrongFooter (length bs - 1)
-    else if not (slice_index bs (length bs - 2) == sum_of (summed bs)) then WrongSum (length bs - 2)
-    else Good
+    otherwise if not (slice_index bs (length bs - 1) == footer_byte f) then WrongFooter (length bs - 1)
+    otherwise if not (slice_index bs (length bs - 2) == sum_of (summed bs)) then WrongSum (length bs - 2)
+    otherwise Good
 
 abbrev pub is_good : Judgement → Bool
 is_good Good = true
@@ -30,7 +30,7 @@ is_good WrongFirst = false
 
 -- "a data frame also needs the right LEN": where a length is expected, it is judged last.
 unfoldable pub fitting : ℕ → List ℕ → Judgement → Judgement
-fitting n bs j = if is_good j and not (length bs == n + overhead) then UnfitLength else j
+fitting n bs j = if is_good j and not (length bs == n + overhead) then UnfitLength otherwise j
 
 -- The status that a judgement has on the wire. A wrong first byte is a fault of replies alone, which are not answered: none is sent for it.
 abbrev pub status_of : Judgement → ℕ

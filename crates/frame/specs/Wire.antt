@@ -1,5 +1,5 @@
 -- Frames written into lent room: document 01, "Frames"; and reply frames judged: "The dock's flow" (what makes a reply frame readable) and document 02, §4.
-use Rattle.std.specs.Prelude.{ℕ, ◌+◌, Bool, not, ltb, List, ◌++◌, length, take, drop, ◌==◌, nat_lt, slice_index, if◌then◌else◌}
+use Rattle.std.specs.Prelude.{ℕ, ◌+◌, Bool, not, ltb, List, ◌++◌, length, take, drop, ◌==◌, nat_lt, slice_index}
 use Rattle.frame.specs.Frame.{counted, framed, header_byte, overhead}
 use Rattle.frame.specs.Judgement.{judge_of}
 use Rattle.frame.specs.declared.Footer.{Footer}
@@ -10,7 +10,7 @@ use Rattle.frame.specs.declared.judgement.Judgement.{Judgement}
 use Rattle.frame.specs.declared.judgement.Judgement.TheVariants.{UnfitLength, WrongFirst}
 use Rattle.frame.specs.declared.wire.Wrote.{Wrote}
 use Rattle.frame.specs.declared.wire.Wrote.TheVariants.{Long, NoRoom, UnfitPayload}
-use Rattle.words.specs.Words.{◌and◌, ◌from◌to◌, ◌or◌}
+use Rattle.words.specs.Words.{◌and◌, ◌from◌to◌, ◌or◌, if◌then◌otherwise◌}
 
 -- What writing leaves: its answer, and the whole room.
 pub record Writing : Type 0 where
@@ -28,8 +28,8 @@ laid room h ds f = framed h ds f ++ drop (length ds + overhead) room
 unfoldable pub write_of : List ℕ → Header → List ℕ → Footer → Writing
 write_of room h ds f =
     if not (length ds from 1 to 256) then wrote UnfitPayload room
-    else if nat_lt (length room) (length ds + overhead) then wrote NoRoom room
-    else wrote (Long (length ds + overhead)) (laid room h ds f)
+    otherwise if nat_lt (length room) (length ds + overhead) then wrote NoRoom room
+    otherwise wrote (Long (length ds + overhead)) (laid room h ds f)
 
 -- "a frame cut short, overlong or without LEN is an unfit LEN" (document 02, §4), at the front of these bytes: its LEN is not that of the n bytes that are
 -- expected of it, or it has not come whole, or, of the last frame of an answer, something follows. Where LEN has not come the frame is not whole.
@@ -41,5 +41,5 @@ unfit_reply n last bs = not (counted (slice_index bs 1) == n) or ltb (length bs)
 unfoldable pub judge_reply : ℕ → Bool → List ℕ → Judgement
 judge_reply n last bs =
     if not (slice_index bs 0 == header_byte Data) then WrongFirst
-    else if unfit_reply n last bs then UnfitLength
-    else judge_of Last (take (n + overhead) bs)
+    otherwise if unfit_reply n last bs then UnfitLength
+    otherwise judge_of Last (take (n + overhead) bs)

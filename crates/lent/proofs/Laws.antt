@@ -16,14 +16,14 @@ use Rattle.lent.specs.Lent.{Left, all_are, left, put_at, put_of, same}
 use Rattle.lent.specs.declared.Room.{Room}
 use Rattle.lent.specs.declared.Room.TheVariants.{Enough, Short}
 use Rattle.words.proofs.Laws.{and_assoc, and_both, and-false, and_left, and_right, and-true}
-use Rattle.words.specs.Words.{◌and◌}
+use Rattle.words.specs.Words.{◌and◌, if◌then◌otherwise◌}
 
 pub put-short : (l : List ℕ) (at : ℕ) (s : List ℕ) → length l < at + length s → left Short l ≡ put_of l at s
-unfolding put_of
+unfolding put_of if◌then◌otherwise◌
 put-short l at s h = simp (lt-leb _ _ h)
 
 pub put-lands : (l : List ℕ) (at : ℕ) (s : List ℕ) → at + length s ≤ length l → put_of l at s ≡ left Enough (put_at l at s)
-unfolding put_of
+unfolding put_of if◌then◌otherwise◌
 put-lands l at s h = simp (le-leb _ _ h)
 
 -- Neither answer changes how many bytes there are.

@@ -1,8 +1,8 @@
 -- Bytes put at a place in lent room: what is there afterwards, and the answer. Bytes that all have one value; whether two stretches are equal.
-use Rattle.std.specs.Prelude.{Bool, false, true, List, [], ◌++◌, ◌∷◌, ◌+◌, ℕ, eqb, leb, drop, length, take, if◌then◌else◌}
+use Rattle.std.specs.Prelude.{Bool, false, true, List, [], ◌++◌, ◌∷◌, ◌+◌, ℕ, eqb, leb, drop, length, take}
 use Rattle.lent.specs.declared.Room.{Room}
 use Rattle.lent.specs.declared.Room.TheVariants.{Enough, Short}
-use Rattle.words.specs.Words.{◌and◌}
+use Rattle.words.specs.Words.{◌and◌, if◌then◌otherwise◌}
 
 -- l with the bytes s from the place at on; every other byte stays.
 unfoldable pub put_at : List ℕ → ℕ → List ℕ → List ℕ
@@ -17,7 +17,7 @@ abbrev pub left : Room → List ℕ → Left
 left a l = record { answer = a; bytes = l }
 
 unfoldable pub put_of : List ℕ → ℕ → List ℕ → Left
-put_of l at s = if leb (at + length s) (length l) then left Enough (put_at l at s) else left Short l
+put_of l at s = if leb (at + length s) (length l) then left Enough (put_at l at s) otherwise left Short l
 
 -- Each of these bytes is v.
 unfoldable pub all_are : ℕ → List ℕ → Bool

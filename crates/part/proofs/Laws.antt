@@ -1,6 +1,5 @@
 -- Laws about a part's areas, addresses and ranges: what chip and dock use instead of the definitions' text.
 -- Assumes nothing.
-use Rattle.std.specs.Prelude.{if◌then◌else◌}
 use mathlib.Core.Bool.{Bool, false, true}
 use mathlib.Core.List.{List, [], ◌++◌, ◌∷◌}
 use mathlib.Core.Path.{◌∙◌, ◌≡◌, ap, refl, sym}
@@ -24,7 +23,7 @@ use Rattle.part.specs.declared.refusal.Refusal.{Refusal}
 use Rattle.part.specs.declared.refusal.Refusal.TheVariants.{BadPart, BadRange, BadState, CodeLength, DataLength, ImageLength, ManyRetries, OutOfTurn, ShortRoom}
 use Rattle.part.specs.declared.refusal.Verdict.TheVariants.{Accepted, Refused}
 use Rattle.words.proofs.Laws.{and_both, and_left, and_right}
-use Rattle.words.specs.Words.{◌and◌, ◌from◌to◌}
+use Rattle.words.specs.Words.{◌and◌, ◌from◌to◌, if◌then◌otherwise◌}
 
 pub block_size-pos : (p : Part) (a : Area) → 0 < block_size p a
 unfolding block_size
@@ -125,7 +124,7 @@ bad-good : (a : Area) (i m : ℕ) → Bad ≡ Blocks a i m → ⊥
 bad-good a i m e = let z : ◌≡◌ {A = ℕ} 0 1 = cc in omega arith
 
 pub range-good : (p : Part) (start end : ℕ) (a : Area) (block count : ℕ) → range_of p start end ≡ Blocks a block count → Stretch p start end a block count
-unfolding range_of stretch
+unfolding range_of if◌then◌otherwise◌ stretch
 range-good p start end a block count e = go (ltb end start) refl (whole_blocks p CodeFlash start end) refl (whole_blocks p DataFlash start end) refl e
   where
     in_area : (b : Area) → ltb end start ≡ false → whole_blocks p b start end ≡ true
@@ -135,7 +134,7 @@ range-good p start end a block count e = go (ltb end start) refl (whole_blocks p
         (stretch-law p b start end (ltb-false end start h) (whole_in p b start end w))
 
     go : (t : Bool) → ltb end start ≡ t → (u : Bool) → whole_blocks p CodeFlash start end ≡ u → (v : Bool) → whole_blocks p DataFlash start end ≡ v
-        → (if t then Bad else if u then stretch p CodeFlash start end else if v then stretch p DataFlash start end else Bad) ≡ Blocks a block count
+        → (if t then Bad otherwise if u then stretch p CodeFlash start end otherwise if v then stretch p DataFlash start end otherwise Bad) ≡ Blocks a block count
         → Stretch p start end a block count
     go true h u w v x e = absurd (bad-good a block count e)
     go false h true w v x e = in_area CodeFlash h w e
@@ -190,7 +189,7 @@ module _ (p : Part) (start end : ℕ) (a : Area) (block count : ℕ) (st : Stret
 -- A range is good exactly when it is such a stretch.
 pub good-range : (p : Part) (start end : ℕ) (a : Area) (block count : ℕ) → described p ≡ true → Stretch p start end a block count
     → range_of p start end ≡ Blocks a block count
-unfolding range_of
+unfolding range_of if◌then◌otherwise◌
 good-range p start end CodeFlash block count d st =
     simp (le-ltb _ _ (in_order p start end CodeFlash block count st), whole-yes p start end CodeFlash block count st, stretch-is p start end CodeFlash block count st)
 good-range p start end DataFlash block count d st =
@@ -217,7 +216,7 @@ spot-law p a at l =
     }
 
 pub place-lies : (p : Part) (at : ℕ) (a : Area) (offset block page : ℕ) → place_of p at ≡ In a offset block page → Spot p at a offset block page
-unfolding place_of place_in
+unfolding place_of place_in if◌then◌otherwise◌
 place-lies p at a offset block page e = go (lies_in p CodeFlash at) refl (lies_in p DataFlash at) refl e
   where
     in_area : (b : Area) → lies_in p b at ≡ true → In b (at - first b) (block_of p b at) (page_of p b at) ≡ In a offset block page → Spot p at a offset block page
@@ -229,7 +228,7 @@ place-lies p at a offset block page e = go (lies_in p CodeFlash at) refl (lies_i
         rw (← x, ← w, ← v, ← u) (spot-law p b at (lies p b at l))
 
     go : (t : Bool) → lies_in p CodeFlash at ≡ t → (u : Bool) → lies_in p DataFlash at ≡ u
-        → (if t then place_in p CodeFlash at else if u then place_in p DataFlash at else Outside) ≡ In a offset block page → Spot p at a offset block page
+        → (if t then place_in p CodeFlash at otherwise if u then place_in p DataFlash at otherwise Outside) ≡ In a offset block page → Spot p at a offset block page
     go true l u m e = in_area CodeFlash l e
     go false l true m e = in_area DataFlash m e
     go false l false m e = absurd (let z : ◌≡◌ {A = ℕ} 0 1 = cc in omega arith)
@@ -240,7 +239,7 @@ outside-code p at h = simp (leb-zero at, le-ltb _ _ (let z : 0 + size p CodeFlas
 
 -- An address that lies in an area has its place there.
 pub lies-place : (p : Part) (a : Area) (at : ℕ) → described p ≡ true → LiesIn p a at → place_of p at ≡ place_in p a at
-unfolding place_of
+unfolding place_of if◌then◌otherwise◌
 lies-place p CodeFlash at d l = simp (lies-yes l)
 lies-place p DataFlash at d l = simp (outside-code p at (omega (arith, areas-apart p d, l.low)), lies-yes l)
 
@@ -281,14 +280,16 @@ blocks-most p CodeFlash d = (described-is p d).code-most
 blocks-most p DataFlash d = omega (arith, described-is p d)
 
 -- A row of refusals, condition by condition: the first that holds decides, one that does not hold leaves it to the rest, and a row of none accepts.
-pub first-row : (x : Condition) (xs : List Condition) → first_of (x ∷ xs) ≡ (if x.holds then Refused x.refusal else first_of xs)
+pub first-row : (x : Condition) (xs : List Condition) → first_of (x ∷ xs) ≡ (if x.holds then Refused x.refusal otherwise first_of xs)
 unfolding first_of
 first-row x xs = refl
 
 pub first-here : (r : Refusal) (t : Bool) (xs : List Condition) → t ≡ true → first_of (r when t ∷ xs) ≡ Refused r
+unfolding if◌then◌otherwise◌
 first-here r t xs h = rw (first-row, h)
 
 pub first_on : (r : Refusal) (t : Bool) (xs : List Condition) → t ≡ false → first_of (r when t ∷ xs) ≡ first_of xs
+unfolding if◌then◌otherwise◌
 first_on r t xs h = rw (first-row, h)
 
 pub none-held : first_of [] ≡ Accepted
@@ -304,9 +305,10 @@ barred : (r : Refusal) → Refused r ≡ Accepted → ⊥
 barred r e = let z : ◌≡◌ {A = ℕ} 0 1 = cc in omega arith
 
 pub passed : (x : Condition) (xs : List Condition) → first_of (x ∷ xs) ≡ Accepted → Passed x xs
+unfolding if◌then◌otherwise◌
 passed x xs e = go x.holds refl (sym (first-row x xs) ∙ e)
   where
-    go : (t : Bool) → x.holds ≡ t → (if t then Refused x.refusal else first_of xs) ≡ Accepted → Passed x xs
+    go : (t : Bool) → x.holds ≡ t → (if t then Refused x.refusal otherwise first_of xs) ≡ Accepted → Passed x xs
     go true h e = absurd (barred x.refusal e)
     go false h e = record { not-held = h; rest = e }
 
@@ -315,12 +317,12 @@ passes x xs h e = first_on x.refusal x.holds xs h ∙ e
 
 -- A row before another: where one of its conditions holds, the other is not reached; where none does, the other decides.
 pub row_ends : (xs ys : List Condition) (r : Refusal) → first_of xs ≡ Refused r → first_of (xs ++ ys) ≡ Refused r
-unfolding first_of
+unfolding first_of if◌then◌otherwise◌
 row_ends [] ys r e = absurd (barred r (sym e))
 row_ends (x ∷ xs) ys r e = go x.holds e (row_ends xs ys r)
   where
-    go : (t : Bool) → (if t then Refused x.refusal else first_of xs) ≡ Refused r → (first_of xs ≡ Refused r → first_of (xs ++ ys) ≡ Refused r)
-        → (if t then Refused x.refusal else first_of (xs ++ ys)) ≡ Refused r
+    go : (t : Bool) → (if t then Refused x.refusal otherwise first_of xs) ≡ Refused r → (first_of xs ≡ Refused r → first_of (xs ++ ys) ≡ Refused r)
+        → (if t then Refused x.refusal otherwise first_of (xs ++ ys)) ≡ Refused r
     go true e f = e
     go false e f = f e
 

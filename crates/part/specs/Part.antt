@@ -1,6 +1,6 @@
 -- Document 01, "The part": the description, the two areas of flash, their blocks and pages; and from "Commands" what a good range is.
-use Rattle.std.specs.Prelude.{ℕ, ◌+◌, ◌-◌, ◌*◌, ◌/◌, ◌%◌, Bool, ◌≡◌, leb, ltb, eqb, length, replicate, if◌then◌else◌}
-use Rattle.words.specs.Words.{◌and◌, ◌from◌to◌}
+use Rattle.std.specs.Prelude.{ℕ, ◌+◌, ◌-◌, ◌*◌, ◌/◌, ◌%◌, Bool, ◌≡◌, leb, ltb, eqb, length, replicate}
+use Rattle.words.specs.Words.{◌and◌, ◌from◌to◌, if◌then◌otherwise◌}
 use Rattle.part.specs.declared.Part.{Part}
 use Rattle.part.specs.declared.Area.{Area}
 use Rattle.part.specs.declared.Area.TheVariants.{CodeFlash, DataFlash}
@@ -59,7 +59,7 @@ size p a = blocks p a * block_size p a
 
 -- The last address of an area; none where it has no blocks.
 unfoldable pub last_of : Part → Area → LastAddress
-last_of p a = if eqb (size p a) 0 then Nothing else At (first a + size p a - 1)
+last_of p a = if eqb (size p a) 0 then Nothing otherwise At (first a + size p a - 1)
 
 -- An address lies in an area from its first address to its last.
 unfoldable pub lies_in : Part → Area → ℕ → Bool
@@ -78,8 +78,8 @@ place_in p a at = In a (at - first a) (block_of p a at) (page_of p a at)
 unfoldable pub place_of : Part → ℕ → Place
 place_of p at =
     if lies_in p CodeFlash at then place_in p CodeFlash at
-    else if lies_in p DataFlash at then place_in p DataFlash at
-    else Outside
+    otherwise if lies_in p DataFlash at then place_in p DataFlash at
+    otherwise Outside
 
 -- The first address of a block, and the last.
 unfoldable pub starts_block : Part → Area → ℕ → Bool
@@ -99,6 +99,6 @@ stretch p a start end = Blocks a (block_of p a start) (block_of p a end + 1 - bl
 unfoldable pub range_of : Part → ℕ → ℕ → Range
 range_of p start end =
     if ltb end start then Bad
-    else if whole_blocks p CodeFlash start end then stretch p CodeFlash start end
-    else if whole_blocks p DataFlash start end then stretch p DataFlash start end
-    else Bad
+    otherwise if whole_blocks p CodeFlash start end then stretch p CodeFlash start end
+    otherwise if whole_blocks p DataFlash start end then stretch p DataFlash start end
+    otherwise Bad

@@ -1,9 +1,10 @@
 -- Document 01, "Refusal numbers": the number of each refusal.
-use Rattle.std.specs.Prelude.{Bool, List, [], ◌∷◌, ℕ, if◌then◌else◌}
+use Rattle.std.specs.Prelude.{Bool, List, [], ◌∷◌, ℕ}
 use Rattle.part.specs.declared.refusal.Refusal.{Refusal}
 use Rattle.part.specs.declared.refusal.Refusal.TheVariants.{BadPart, BadRange, BadState, CodeLength, DataLength, ImageLength, ManyRetries, OutOfTurn, ShortRoom}
 use Rattle.part.specs.declared.refusal.Verdict.{Verdict}
 use Rattle.part.specs.declared.refusal.Verdict.TheVariants.{Accepted, Refused}
+use Rattle.words.specs.Words.{if◌then◌otherwise◌}
 
 abbrev pub number : Refusal → ℕ
 number BadPart = 1  -- part description outside its numbers, or rate or supply of a job outside 9Ah's
@@ -27,4 +28,4 @@ r when t = record { refusal = r; holds = t }
 
 unfoldable pub first_of : List Condition → Verdict
 first_of [] = Accepted
-first_of (x ∷ xs) = if x.holds then Refused x.refusal else first_of xs
+first_of (x ∷ xs) = if x.holds then Refused x.refusal otherwise first_of xs

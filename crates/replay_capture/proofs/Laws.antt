@@ -1,6 +1,5 @@
 -- Laws about capture records, over their form.
 -- Assumes nothing.
-use Rattle.std.specs.Prelude.{if◌then◌else◌}
 use mathlib.Core.Bool.{Bool, false, false≢true, not, true}
 use mathlib.Core.List.{List, [], ◌∷◌}
 use mathlib.Core.Path.{◌∙◌, ◌≡◌, ap, refl, sym}
@@ -16,7 +15,7 @@ use Rattle.replay_capture.specs.declared.Form.TheVariants.{New, Old}
 use Rattle.replay_capture.specs.declared.Record.TheVariants.{BadRecord, BytesRecord, GapRecord, OtherSeat}
 use Rattle.lent.specs.Lent.{all_are}
 use Rattle.words.proofs.Laws.{and_left, and_right}
-use Rattle.words.specs.Words.{◌and◌, ◌from◌to◌}
+use Rattle.words.specs.Words.{◌and◌, ◌from◌to◌, if◌then◌otherwise◌}
 
 -- The two forms' numbers: whatever is said of sizes below is said by these, over the form.
 pub record Sizes (form : Form) : Type 0 where
@@ -85,20 +84,20 @@ good-is form bs e =
 
 -- The count of a good record: 0 of a gap, else 1 to as many as there are data bytes.
 pub count_most : (form : Form) (kind n : ℕ) → good_count form kind n ≡ true → n ≤ data_size form
-unfolding good_count ◌and◌ ◌from◌to◌
+unfolding good_count ◌and◌ ◌from◌to◌ if◌then◌otherwise◌
 count_most form kind n e = gaps (eqb kind 0x00) e
   where
     bytes : (t : Bool) → t and leb 1 n and leb n (data_size form) ≡ true → n ≤ data_size form
     bytes true h = leb-true n (data_size form) (and_right (leb 1 n) (leb n (data_size form)) h)
     bytes false h = absurd (false≢true h)
 
-    gaps : (t : Bool) → (if t then eqb n 0 else eqb kind 0x01 and leb 1 n and leb n (data_size form)) ≡ true → n ≤ data_size form
+    gaps : (t : Bool) → (if t then eqb n 0 otherwise eqb kind 0x01 and leb 1 n and leb n (data_size form)) ≡ true → n ≤ data_size form
     gaps true h = let z : n ≡ 0 = eqb-true n 0 h in omega arith
     gaps false h = bytes (eqb kind 0x01) h
 
 pub count-least : (form : Form) (kind n : ℕ) → good_count form kind n ≡ true → eqb kind 0x00 ≡ false → 1 ≤ n
-unfolding good_count ◌and◌ ◌from◌to◌
-count-least form kind n e h = bytes (eqb kind 0x01) (sym (ap (λ (t : Bool). if t then eqb n 0 else eqb kind 0x01 and leb 1 n and leb n (data_size form)) h) ∙ e)
+unfolding good_count ◌and◌ ◌from◌to◌ if◌then◌otherwise◌
+count-least form kind n e h = bytes (eqb kind 0x01) (sym (ap (λ (t : Bool). if t then eqb n 0 otherwise eqb kind 0x01 and leb 1 n and leb n (data_size form)) h) ∙ e)
   where
     bytes : (t : Bool) → t and leb 1 n and leb n (data_size form) ≡ true → 1 ≤ n
     bytes true k = leb-true 1 n (and_left (leb 1 n) (leb n (data_size form)) k)
@@ -111,10 +110,10 @@ pub record Carries (form : Form) (n : ℕ) (bs : List ℕ) : Type 0 where
   pub most : n ≤ data_size form
 
 pub carries-is : (form : Form) (n : ℕ) (bs : List ℕ) → record_of form bs ≡ BytesRecord n → Carries form n bs
-unfolding record_of
+unfolding record_of if◌then◌otherwise◌
 carries-is form n bs e = judged (good_record form bs) refl e
   where
-    kinds : (t : Bool) → eqb (kind bs) 0x00 ≡ t → Sound form bs → (if t then GapRecord else BytesRecord (count bs)) ≡ BytesRecord n → Carries form n bs
+    kinds : (t : Bool) → eqb (kind bs) 0x00 ≡ t → Sound form bs → (if t then GapRecord otherwise BytesRecord (count bs)) ≡ BytesRecord n → Carries form n bs
     kinds true h s k = absurd (let z : ◌≡◌ {A = ℕ} 0 1 = cc in omega arith)
     kinds false h s k =
         let c : count bs ≡ n = cc in
@@ -124,12 +123,12 @@ carries-is form n bs e = judged (good_record form bs) refl e
           most = rw (sym c) (count_most form (kind bs) (count bs) s.counted);
         }
 
-    seats : (t : Bool) → Sound form bs → (if not t then OtherSeat else if eqb (kind bs) 0x00 then GapRecord else BytesRecord (count bs)) ≡ BytesRecord n → Carries form n bs
+    seats : (t : Bool) → Sound form bs → (if not t then OtherSeat otherwise if eqb (kind bs) 0x00 then GapRecord otherwise BytesRecord (count bs)) ≡ BytesRecord n → Carries form n bs
     seats true s k = kinds (eqb (kind bs) 0x00) refl s k
     seats false s k = absurd (let z : ◌≡◌ {A = ℕ} 0 1 = cc in omega arith)
 
     judged : (t : Bool) → good_record form bs ≡ t
-        → (if not t then BadRecord else if not (eqb (seat_of form bs) 0) then OtherSeat else if eqb (kind bs) 0x00 then GapRecord else BytesRecord (count bs)) ≡ BytesRecord n → Carries form n bs
+        → (if not t then BadRecord otherwise if not (eqb (seat_of form bs) 0) then OtherSeat otherwise if eqb (kind bs) 0x00 then GapRecord otherwise BytesRecord (count bs)) ≡ BytesRecord n → Carries form n bs
     judged true h k = seats (eqb (seat_of form bs) 0) (good-is form bs h) k
     judged false h k = absurd (let z : ◌≡◌ {A = ℕ} 0 1 = cc in omega arith)
 

@@ -10,14 +10,15 @@ use lib.Seq.{drop-drop, drop-length, take_all}
 use borrow.Author.Tests.{le-leb, lt-leb}
 use Rattle.replay_capture.proofs.Laws.{records-next}
 use Rattle.replay_capture.specs.Capture.{record_end, records_in}
+use Rattle.words.specs.Words.{if◌then◌otherwise◌}
 
 module _ (size at len : ℕ) where
   pub end_fits : at + size ≤ len → record_end size at len ≡ at + size
-  unfolding record_end
+  unfolding record_end if◌then◌otherwise◌
   end_fits h = simp (le-leb (at + size) len h)
 
   pub end_short : len < at + size → record_end size at len ≡ len
-  unfolding record_end
+  unfolding record_end if◌then◌otherwise◌
   end_short h = simp (lt-leb (at + size) len h)
 
   pub end_after : 1 ≤ size → at < len → at < record_end size at len

@@ -1,13 +1,13 @@
 -- Capture records, of the old form and of the new: document 01, "Replay", and 02, section 5. What a good record is, over its form and its bytes; its seat and its
 -- tick; what it is to a replay, and what it carries.
-use Rattle.std.specs.Prelude.{Bool, not, List, [], ◌∷◌, ◌+◌, ◌-◌, suc, zero, ℕ, eqb, leb, drop, get_or, length, take, if◌then◌else◌}
+use Rattle.std.specs.Prelude.{Bool, not, List, [], ◌∷◌, ◌+◌, ◌-◌, suc, zero, ℕ, eqb, leb, drop, get_or, length, take}
 use Rattle.replay_capture.specs.declared.Form.{Form}
 use Rattle.replay_capture.specs.declared.Form.TheVariants.{New, Old}
 use Rattle.replay_capture.specs.declared.Record.{Record}
 use Rattle.replay_capture.specs.declared.Record.TheVariants.{BadRecord, BytesRecord, GapRecord, OtherSeat}
 use Rattle.lent.specs.Lent.{all_are}
 use Rattle.numbers.specs.Numbers.{number_at}
-use Rattle.words.specs.Words.{◌and◌, ◌from◌to◌}
+use Rattle.words.specs.Words.{◌and◌, ◌from◌to◌, if◌then◌otherwise◌}
 
 -- "Capture records are 8 bytes, no header: kind, count, six bytes." "New records are 16 bytes, no header: kind, count, seat (0 or 1), 00h, tick as four bytes
 -- low first, eight data bytes"
@@ -51,7 +51,7 @@ unused form n bs = all_are 0x00 (drop n (data_in form bs))
 
 -- "Kind 00h is a gap (count 0); 01h carries 1 to 6 bytes", in the new form 1 to 8. There is no other kind.
 unfoldable pub good_count : Form → ℕ → ℕ → Bool
-good_count form kind n = if eqb kind 0x00 then eqb n 0 else eqb kind 0x01 and n from 1 to data_size form
+good_count form kind n = if eqb kind 0x00 then eqb n 0 otherwise eqb kind 0x01 and n from 1 to data_size form
 
 -- A record of another size is not good, as the short one at a capture's end.
 unfoldable pub good_record : Form → List ℕ → Bool
@@ -66,9 +66,9 @@ good_record form bs =
 unfoldable pub record_of : Form → List ℕ → Record
 record_of form bs =
     if not (good_record form bs) then BadRecord
-    else if not (eqb (seat_of form bs) 0) then OtherSeat
-    else if eqb (kind bs) 0x00 then GapRecord
-    else BytesRecord (count bs)
+    otherwise if not (eqb (seat_of form bs) 0) then OtherSeat
+    otherwise if eqb (kind bs) 0x00 then GapRecord
+    otherwise BytesRecord (count bs)
 
 -- "Refusals: 10 for a bad record": its number wherever one is told.
 abbrev pub bad_record_number : ℕ
@@ -90,4 +90,4 @@ records_of size bs = records_in size (length bs) bs
 
 -- Where the record that begins at a place of a capture ends, for those who go through it where it lies: at the capture's own end, if that comes sooner.
 unfoldable pub record_end : ℕ → ℕ → ℕ → ℕ
-record_end size at len = if leb (at + size) len then at + size else len
+record_end size at len = if leb (at + size) len then at + size otherwise len

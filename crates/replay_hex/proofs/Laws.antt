@@ -14,6 +14,7 @@ use Rattle.replay_hex.specs.Inner.Places.{separator_at}
 use Rattle.lent.proofs.Laws.{Written, put-short, written_byte, written-laid, written_start}
 use Rattle.lent.specs.Lent.{left, put_of}
 use Rattle.lent.specs.declared.Room.TheVariants.{Enough, Short}
+use Rattle.words.specs.Words.{if◌then◌otherwise◌}
 
 pub line-long : (bs : List ℕ) → length (line_of bs) ≡ 3 * length bs
 unfolding line_of
@@ -22,7 +23,7 @@ line-long (b ∷ bs) = omega (arith, line-long bs)
 
 -- The mark after a byte is told by what follows it.
 mark-is : (bs : List ℕ) (i : ℕ) → i < length bs → separator_at i (length bs) ≡ separator (drop (suc i) bs)
-unfolding separator_at separator
+unfolding separator_at separator if◌then◌otherwise◌
 mark-is bs i h = go (dec_lt (i + 1) (length bs))
   where
     go : Dec (i + 1 < length bs) → separator_at i (length bs) ≡ separator (drop (suc i) bs)

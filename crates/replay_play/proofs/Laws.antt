@@ -40,6 +40,7 @@ use Rattle.replay_play.specs.Play.{Playing, RecordPlaying, events_of, goes_on, o
 use Rattle.replay_play.specs.declared.RecordEnded.{RecordEnded}
 use Rattle.replay_play.specs.declared.RecordEnded.TheVariants.{NotGood, OutputShort, Played}
 use Rattle.replay_play.specs.declared.RecordEnded.TheVariants as RecordEnded
+use Rattle.words.specs.Words.{if◌then◌otherwise◌}
 
 abbrev after : Outcome → Playing → Playing
 after o x = answering o.answer o x
@@ -324,12 +325,12 @@ module _ (form : Form) (p : Part) (bs : List ℕ) (c : Chip) (m : Memory) (room 
 
   pub play-short : {least : ℕ} (r : Record) → record_of form bs ≡ r → (r ≡ BadRecord → ⊥) → least ≡ output_least form → length output < least
       → record_playing (record { ended = OutputShort; chip = c }) m room output ≡ play_of form p bs c m room output
-  unfolding play_with
+  unfolding play_with if◌then◌otherwise◌
   play-short {least} r e g l h = simp (play-good r e g, lt-ltb (length output) (output_least form) (omega (arith, l)))
 
   pub play-events : {least : ℕ} (x : RecordPlaying) (r : Record) → record_of form bs ≡ r → (r ≡ BadRecord → ⊥) → least ≡ output_least form → least ≤ length output
       → x ≡ played_into (played p (events_of form r bs) (before_playing c m room)) output → x ≡ play_of form p bs c m room output
-  unfolding play_with
+  unfolding play_with if◌then◌otherwise◌
   play-events {least} x r e g l h y = simp (play-good r e g, le-ltb (length output) (output_least form) (omega (arith, l))) y
 
 -- None of the other kinds is the bad one.
@@ -428,7 +429,7 @@ none-fits least t output h = record { bytes = λ n k e. absurd (h n k e); frames
 
 with-fits : (form : Form) (vs : List Event) (p : Part) (c : Chip) (m : Memory) (room output : List ℕ) → Arrays p → length vs ≤ data_size form
     → Fits (output_least form) (play_with form vs p c m room output).ended (length output)
-unfolding play_with played_into
+unfolding play_with played_into if◌then◌otherwise◌
 with-fits form vs p c m room output a h = go (dec_le (output_least form) (length output))
   where
     go : Dec (output_least form ≤ length output) → Fits (output_least form) (play_with form vs p c m room output).ended (length output)
@@ -458,7 +459,7 @@ play-fits form p bs c m room output a = by-record form (record_of form bs) p bs 
 -- The output keeps its length.
 with-keeps : (form : Form) (vs : List Event) (p : Part) (c : Chip) (m : Memory) (room output : List ℕ) → Arrays p → length vs ≤ data_size form
     → length (play_with form vs p c m room output).output ≡ length output
-unfolding play_with played_into
+unfolding play_with played_into if◌then◌otherwise◌
 with-keeps form vs p c m room output a h = go (dec_le (output_least form) (length output))
   where
     go : Dec (output_least form ≤ length output) → length (play_with form vs p c m room output).output ≡ length output

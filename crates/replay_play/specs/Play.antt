@@ -1,6 +1,6 @@
 -- The play of one record, of either form: document 01, "Replay", and 02, section 5. The events of a good record go to the chip one after the other;
 -- its reply frames are kept in order, end to end.
-use Rattle.std.specs.Prelude.{List, [], ◌++◌, ◌∷◌, map, ◌*◌, ◌+◌, ℕ, ltb, drop, length, take, if◌then◌else◌}
+use Rattle.std.specs.Prelude.{List, [], ◌++◌, ◌∷◌, map, ◌*◌, ◌+◌, ℕ, ltb, drop, length, take}
 use Rattle.replay_capture.specs.Capture.{carried_bytes, data_size, record_of}
 use Rattle.replay_capture.specs.declared.Form.{Form}
 use Rattle.replay_capture.specs.declared.Record.{Record}
@@ -19,6 +19,7 @@ use Rattle.replay_play.specs.declared.PlayedRecord.{PlayedRecord}
 use Rattle.replay_play.specs.declared.RecordEnded.{RecordEnded}
 use Rattle.replay_play.specs.declared.RecordEnded.TheVariants.{NotGood, OutputShort, Played}
 use Rattle.replay_play.specs.declared.RecordEnded.TheVariants as RecordEnded
+use Rattle.words.specs.Words.{if◌then◌otherwise◌}
 
 -- What has been played so far: what the last event left, and all reply frames with their number.
 pub record Playing : Type 0 where
@@ -91,7 +92,7 @@ unchanged t c m room output = record { ended = t; chip = c; memory = m; room = r
 unfoldable pub play_with : Form → List Event → Part → Chip → Memory → List ℕ → List ℕ → RecordPlaying
 play_with form vs p c m room output =
     if ltb (length output) (output_least form) then unchanged OutputShort c m room output
-    else played_into (played p vs (before_playing c m room)) output
+    otherwise played_into (played p vs (before_playing c m room)) output
 
 -- A record is judged whole before any of its bytes is fed, whichever seat's it is.
 unfoldable pub play_by : Form → Record → Part → List ℕ → Chip → Memory → List ℕ → List ℕ → RecordPlaying

@@ -1,9 +1,8 @@
 -- Laws about the words: what a joined test that holds says of its parts.
 -- Assumes nothing.
-use Rattle.std.specs.Prelude.{if◌then◌else◌}
 use mathlib.Core.Bool.{Bool, false, false≢true, true}
 use mathlib.Core.Path.{◌≡◌, refl}
-use Rattle.words.specs.Words.{◌and◌, ◌or◌}
+use Rattle.words.specs.Words.{◌and◌, ◌or◌, if◌then◌otherwise◌}
 
 pub and_left : (a b : Bool) → a and b ≡ true → a ≡ true
 unfolding ◌and◌
@@ -44,10 +43,11 @@ or_right true q = refl
 or_right false q = q
 
 -- A claim about an if-then-else holds where it holds of each branch, the test having come out so.
-pub if-all : {A : Type 0} (P : A → Type 0) (t : Bool) {a b : A} → (t ≡ true → P a) → (t ≡ false → P b) → P (if t then a else b)
+pub if-all : {A : Type 0} (P : A → Type 0) (t : Bool) {a b : A} → (t ≡ true → P a) → (t ≡ false → P b) → P (if t then a otherwise b)
+unfolding if◌then◌otherwise◌
 if-all P true f g = f refl
 if-all P false f g = g refl
 
 -- What holds of both branches holds of the choice.
-pub if-both : {A : Type 0} (P : A → Type 0) (t : Bool) {a b : A} → P a → P b → P (if t then a else b)
+pub if-both : {A : Type 0} (P : A → Type 0) (t : Bool) {a b : A} → P a → P b → P (if t then a otherwise b)
 if-both P t p q = if-all P t (λ e. p) (λ e. q)

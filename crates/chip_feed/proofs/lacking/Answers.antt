@@ -6,16 +6,17 @@ use borrow.Author.Tests.{eq-eqb, ne_eqb}
 use Rattle.chip_feed.specs.Inner.Turn.{added_next}
 use Rattle.frame.proofs.Laws.Frame.{counted-small}
 use Rattle.frame.specs.Frame.{counted}
+use Rattle.words.specs.Words.{if◌then◌otherwise◌}
 use Rattle.chip_feed.proofs.lacking.Goals as goal
 
 pub returns-then-count-eq1 : goal.returns-then-count-eq1
-unfolding added_next
+unfolding added_next if◌then◌otherwise◌
 returns-then-count-eq1 c =
     let small : counted c.args.len ≤ 256 = counted-small c.args.len (search rules) in
     (simp (eq-eqb _ _ c.if-count-eq1.true), small)
 
 pub returns : goal.returns
-unfolding added_next
+unfolding added_next if◌then◌otherwise◌
 returns c =
     let small : counted c.args.len ≤ 256 = counted-small c.args.len (search rules) in
     (simp (ne_eqb _ _ c.if-count-eq1.false, ← c.lacking.ensures), small)

@@ -1,9 +1,12 @@
 -- `engine::first_of` meets its contract: the first that is not good stays.
 -- Assumes nothing.
+use Rattle.words.specs.Words.{if◌then◌otherwise◌}
 use Rattle.engine.proofs.first_of.Goals as goal
 
 pub returns-then-is_good : goal.returns-then-is_good
+unfolding if◌then◌otherwise◌
 returns-then-is_good c = simp (← c.is_good.ensures, c.if-is_good.true)
 
 pub returns : goal.returns
+unfolding if◌then◌otherwise◌
 returns c = simp (← c.is_good.ensures, c.if-is_good.false)

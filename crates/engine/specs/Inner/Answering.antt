@@ -1,5 +1,5 @@
 -- Where the engine stands, as the code has it: the chip's record and the numbers told, beside flash, the sums and the room that are lent.
-use Rattle.std.specs.Prelude.{List, ◌≡◌, ◌*◌, ◌+◌, ◌-◌, ◌<◌, ◌≤◌, ℕ, drop, get_or, length, take, if◌then◌else◌}
+use Rattle.std.specs.Prelude.{List, ◌≡◌, ◌*◌, ◌+◌, ◌-◌, ◌<◌, ◌≤◌, ℕ, drop, get_or, length, take}
 use Rattle.chip_core.specs.Effect.{Memory}
 use Rattle.chip_core.specs.Hearing.{hearing}
 use Rattle.chip_core.specs.declared.Core.{Core}
@@ -11,6 +11,7 @@ use Rattle.engine.specs.declared.ToldSoFar.{ToldSoFar}
 use Rattle.frame.specs.Collector.{holding}
 use Rattle.frame.specs.Frame.{complete, counted, overhead}
 use Rattle.frame.specs.declared.collector.Collector.{Collector}
+use Rattle.words.specs.Words.{if◌then◌otherwise◌}
 
 abbrev pub stand_of : Core → ToldSoFar → Memory → List ℕ → Stand
 stand_of k t m room =
@@ -18,7 +19,7 @@ stand_of k t m room =
 
 -- How long the frame is that lies whole at the front; 0 where none does.
 unfoldable pub whole_of : List ℕ → ℕ
-whole_of bs = if complete bs then counted (get_or bs 1 0) + overhead else 0
+whole_of bs = if complete bs then counted (get_or bs 1 0) + overhead otherwise 0
 
 -- The room has 32 bytes left for each of n bytes ahead; a frame has a byte at least in what was said.
 pub record RoomAhead (t : ToldSoFar) (n : ℕ) (room : List ℕ) : Type 0 where

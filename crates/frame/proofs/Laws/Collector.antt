@@ -1,6 +1,5 @@
 -- Laws about the collector: what it has heard, as a list, after each of its methods.
 -- Assumes nothing.
-use Rattle.std.specs.Prelude.{if◌then◌else◌}
 use Rattle.std.proofs.Common.{◌≡◌, ℕ, ◌+◌, ◌<◌, ◌≤◌, Bool, true, false, eqb, List, [], ◌∷◌, ◌++◌, length, get_or, take, drop, set}
 use Rattle.std.proofs.Common.{sym, refl, ap, ◌∙◌, append_assoc, append-nil, add-one, arith, length-append, length-drop, take-append-drop, length-take-le, take_all, get_or-take, drop-drop, eq-eqb, ne_eqb, le-leb}
 use native.Mathlib.Decide.{dec_le, dec_lt}
@@ -17,7 +16,7 @@ use Rattle.lent.proofs.Laws.{Written, put-lands, put-short, written-put}
 use Rattle.lent.specs.Lent.{Left, left, put_of}
 use Rattle.lent.specs.declared.Room.{Room}
 use Rattle.lent.specs.declared.Room.TheVariants.{Enough, Short}
-use Rattle.words.specs.Words.{◌and◌}
+use Rattle.words.specs.Words.{◌and◌, if◌then◌otherwise◌}
 
 pub heard-none : (c : Collector) → c.len ≡ 0 → heard c ≡ []
 unfolding heard
@@ -76,23 +75,23 @@ lacking c l x h = complete-heard c l x ∙ full-not _ _ h
 
 -- The ways of a byte.
 pub byte-begins : (c : Collector) (h : Header) (b : ℕ) → c.len ≡ 0 → length c.bytes ≡ 260 → b ≡ header_byte h → stored c b ≡ byte_of c h b
-unfolding byte_of hear
+unfolding byte_of hear if◌then◌otherwise◌
 byte-begins c h b z l e =
     simp (heard-none c z, complete-none, eq-eqb _ _ e) (stored-holds c b (omega arith) ∙ ap (λ (hs : List ℕ). holding c (hs ++ b ∷ [])) (heard-none c z))
 
 pub byte-skipped : (c : Collector) (h : Header) (b : ℕ) → c.len ≡ 0 → (b ≡ header_byte h → ⊥) → c ≡ byte_of c h b
-unfolding byte_of hear holding
+unfolding byte_of hear if◌then◌otherwise◌ holding
 byte-skipped c h b z e =
     simp (heard-none c z, complete-none, ne_eqb _ _ e) (ap {B = Collector} (λ (n : ℕ). record { bytes = c.bytes; len = n }) z)
 
 pub byte-waits : (c : Collector) (h : Header) (b : ℕ) → 2 ≤ c.len → length c.bytes ≡ 260 → counted (get_or c.bytes 1 0) ≤ 256
     → counted (get_or c.bytes 1 0) + 4 ≤ c.len → c ≡ byte_of c h b
-unfolding byte_of
+unfolding byte_of if◌then◌otherwise◌
 byte-waits c h b n l x t = simp (complete-heard c l x, full-yes _ _ n t)
 
 pub byte-added : (c : Collector) (h : Header) (b : ℕ) → (c.len ≡ 0 → ⊥) → length c.bytes ≡ 260 → c.len < 260
     → complete (heard c) ≡ false → stored c b ≡ byte_of c h b
-unfolding byte_of
+unfolding byte_of if◌then◌otherwise◌
 byte-added c h b z l r t =
     let m : length (heard c) ≡ c.len = length-heard c (omega arith) in
     simp (t, hear-more h (heard c) b (omega arith)) (stored-holds c b (omega arith))
@@ -108,7 +107,7 @@ holding-heard c h = rw (length-take-le c.len c.bytes h, take-append-drop)
 
 -- A byte is heard as the list's rule says, and a gap or power-on leaves nothing heard.
 pub heard-byte : (c : Collector) (h : Header) (b : ℕ) → complete (heard c) ≡ false → heard (byte_of c h b) ≡ hear h (heard c) b
-unfolding byte_of
+unfolding byte_of if◌then◌otherwise◌
 heard-byte c h b n = simp (n, heard-holding)
 
 pub heard-dropped : (c : Collector) → heard (dropped c) ≡ []
@@ -138,25 +137,25 @@ complete-is hs = refl
 
 -- A byte where nothing is complete: it is heard as the list's rule says, and one byte more is heard at most.
 pub byte-hears : (c : Collector) (h : Header) (b : ℕ) → complete (heard c) ≡ false → byte_of c h b ≡ holding c (hear h (heard c) b)
-unfolding byte_of
+unfolding byte_of if◌then◌otherwise◌
 byte-hears c h b n = simp n
 
 pub hear-long : (h : Header) (hs : List ℕ) (b : ℕ) → length (hear h hs b) ≤ length hs + 1
-unfolding hear
+unfolding hear if◌then◌otherwise◌
 hear-long h [] b = go (eqb b (header_byte h))
   where
-    go : (t : Bool) → length (if t then b ∷ [] else []) ≤ 1
+    go : (t : Bool) → length (if t then b ∷ [] otherwise []) ≤ 1
     go true = omega arith
     go false = omega arith
 hear-long h (x ∷ xs) b = rw length-append (omega arith)
 
 -- Bytes that are only added: where they fit, and where they do not.
 pub added-holds : (c : Collector) (bs : List ℕ) → c.len + length bs ≤ 260 → added c bs ≡ holding c (heard c ++ bs)
-unfolding added
+unfolding added if◌then◌otherwise◌
 added-holds c bs h = simp (le-leb (c.len + length bs) 260 h)
 
 pub added-long : (c : Collector) (bs : List ℕ) → 260 < c.len + length bs → c ≡ added c bs
-unfolding added
+unfolding added if◌then◌otherwise◌
 added-long c bs h = simp (lt-leb (c.len + length bs) 260 h)
 
 heard-written : (c : Collector) → c.len ≤ length c.bytes → Written (heard c) c.bytes c.bytes

@@ -1,6 +1,5 @@
 -- Laws about LEN and about complete frames.
 -- Assumes nothing.
-use Rattle.std.specs.Prelude.{if◌then◌else◌}
 use Rattle.std.proofs.Common.{◌≡◌, ℕ, suc, ◌+◌, ◌-◌, ◌<◌, ◌≤◌, Bool, true, false, eqb, ltb, leb, List, [], ◌∷◌, ◌++◌, length, get_or}
 use Rattle.std.proofs.Common.{take, drop, refl, ◌∙◌, arith, length-append, length-drop, length-take-le, get_or-drop, get_or-take, ltb-false, ltb-true, le-ltb, lt-ltb, eq-eqb, eqb-true, le-leb, leb-false, leb-true}
 use lib.Seq.{drop-length, take-append_seam, take-nil}
@@ -10,21 +9,21 @@ use Rattle.frame.specs.Sum.{sum_of}
 use Rattle.frame.specs.declared.Footer.{Footer}
 use Rattle.frame.specs.declared.Header.{Header}
 use Rattle.words.proofs.Laws.{and_both, and_right}
-use Rattle.words.specs.Words.{◌and◌}
+use Rattle.words.specs.Words.{◌and◌, if◌then◌otherwise◌}
 
 pub counted-some : (x : ℕ) → 1 ≤ counted x
-unfolding counted
+unfolding counted if◌then◌otherwise◌
 counted-some x = go (eqb x 0) refl
   where
-    go : (t : Bool) → eqb x 0 ≡ t → 1 ≤ (if t then 256 else x)
+    go : (t : Bool) → eqb x 0 ≡ t → 1 ≤ (if t then 256 otherwise x)
     go true e = omega arith
     go false e = let n : x ≡ 0 → ⊥ = eqb-false x 0 e in omega arith
 
 pub counted-small : (x : ℕ) → x < 256 → counted x ≤ 256
-unfolding counted
+unfolding counted if◌then◌otherwise◌
 counted-small x h = go (eqb x 0)
   where
-    go : (t : Bool) → (if t then 256 else x) ≤ 256
+    go : (t : Bool) → (if t then 256 otherwise x) ≤ 256
     go true = omega arith
     go false = omega arith
 
@@ -99,30 +98,30 @@ pub record Lacks (count len rest n : ℕ) : Type 0 where
   pub there : n ≤ rest
 
 pub lacks : (count len rest n : ℕ) → n ≡ lacking_of count len rest → 0 < n → Lacks count len rest n
-unfolding lacking_of
+unfolding lacking_of if◌then◌otherwise◌
 lacks count len rest n e h = go (leb 2 count) refl (ltb rest (counted len + 3 - count)) refl e
   where
     go : (t : Bool) → leb 2 count ≡ t → (u : Bool) → ltb rest (counted len + 3 - count) ≡ u
-        → n ≡ (if t then (if u then rest else counted len + 3 - count) else 0) → Lacks count len rest n
+        → n ≡ (if t then (if u then rest otherwise counted len + 3 - count) otherwise 0) → Lacks count len rest n
     go false t u v e = absurd (omega arith)
     go true t true v e = record { begun = leb-true _ _ t; short = omega (arith, ltb-true rest (counted len + 3 - count) v); there = omega arith }
     go true t false v e = record { begun = leb-true _ _ t; short = omega arith; there = omega (arith, ltb-false rest (counted len + 3 - count) v) }
 
 -- How many bytes are lacking, by the code's tests; x is what LEN counts.
 pub lacking-early : (count len rest : ℕ) → count < 2 → 0 ≡ lacking_of count len rest
-unfolding lacking_of
+unfolding lacking_of if◌then◌otherwise◌
 lacking-early count len rest h = simp (lt-leb 2 count h)
 
 pub lacking-none : (x count len rest : ℕ) → x ≡ counted len → 2 ≤ count → x + 3 ≤ count → 0 ≡ lacking_of count len rest
-unfolding lacking_of
+unfolding lacking_of if◌then◌otherwise◌
 lacking-none x count len rest e h k =
     let z : counted len + 3 - count ≡ 0 = omega arith in
     simp (le-leb 2 count h, z, le-ltb rest 0 (omega arith))
 
 pub lacking-rest : (x count len rest : ℕ) → x ≡ counted len → 2 ≤ count → rest < x + 3 - count → rest ≡ lacking_of count len rest
-unfolding lacking_of
+unfolding lacking_of if◌then◌otherwise◌
 lacking-rest x count len rest e h k = simp (le-leb 2 count h, lt-ltb rest (counted len + 3 - count) (omega arith))
 
 pub lacking-whole : (x count len rest : ℕ) → x ≡ counted len → 2 ≤ count → x + 3 - count ≤ rest → x + 3 - count ≡ lacking_of count len rest
-unfolding lacking_of
+unfolding lacking_of if◌then◌otherwise◌
 lacking-whole x count len rest e h k = simp (le-leb 2 count h, le-ltb rest (counted len + 3 - count) (omega arith)) (omega arith)

@@ -1,6 +1,5 @@
 -- Laws about the judgement: what each test makes of it, and what a good frame is.
 -- Assumes nothing.
-use Rattle.std.specs.Prelude.{if◌then◌else◌}
 use Rattle.std.proofs.Common.{◌≡◌, ℕ, ◌+◌, ◌-◌, ◌<◌, ◌≤◌, Bool, true, false, not, eqb, List, length, get_or, take, drop, sym, refl, ap, ◌∙◌, true≢false, arith, eq-eqb, ne_eqb, eqb-true}
 use Rattle.frame.proofs.Laws.Frame.{counted-small, counted-some, frame-counted}
 use Rattle.frame.specs.Frame.{counted, footer_byte, is_frame}
@@ -9,6 +8,7 @@ use Rattle.frame.specs.Sum.{less_all, sum_of}
 use Rattle.frame.specs.declared.Footer.{Footer}
 use Rattle.frame.specs.declared.judgement.Judgement.{Judgement}
 use Rattle.frame.specs.declared.judgement.Judgement.TheVariants.{Good, UnfitLength, WrongFirst, WrongFooter, WrongSum}
+use Rattle.words.specs.Words.{if◌then◌otherwise◌}
 
 pub frame-long : (bs : List ℕ) → is_frame bs ≡ true → 5 ≤ length bs
 frame-long bs t = let e : length bs ≡ counted (get_or bs 1 0) + 4 = frame-counted bs t in omega (arith, counted-some (get_or bs 1 0))
@@ -22,21 +22,21 @@ unfolding sum_of summed
 summed-part bs = let e : length bs - 2 - 1 ≡ length bs - 3 = omega arith in rw e
 
 pub judged-unfit : (f : Footer) (bs : List ℕ) → is_frame bs ≡ false → judge_of f bs ≡ UnfitLength
-unfolding judge_of
+unfolding judge_of if◌then◌otherwise◌
 judged-unfit f bs t = simp t
 
 pub judged-footer : (f : Footer) (bs : List ℕ) → is_frame bs ≡ true → (get_or bs (length bs - 1) 0 ≡ footer_byte f → ⊥) → judge_of f bs ≡ WrongFooter (length bs - 1)
-unfolding judge_of
+unfolding judge_of if◌then◌otherwise◌
 judged-footer f bs t n = simp (t, ne_eqb _ _ n)
 
 pub judged-sum : (f : Footer) (bs : List ℕ) → is_frame bs ≡ true → get_or bs (length bs - 1) 0 ≡ footer_byte f
     → (get_or bs (length bs - 2) 0 ≡ sum_of (summed bs) → ⊥) → judge_of f bs ≡ WrongSum (length bs - 2)
-unfolding judge_of
+unfolding judge_of if◌then◌otherwise◌
 judged-sum f bs t e n = simp (t, eq-eqb _ _ e, ne_eqb _ _ n)
 
 pub judged-good : (f : Footer) (bs : List ℕ) → is_frame bs ≡ true → get_or bs (length bs - 1) 0 ≡ footer_byte f
     → get_or bs (length bs - 2) 0 ≡ sum_of (summed bs) → judge_of f bs ≡ Good
-unfolding judge_of
+unfolding judge_of if◌then◌otherwise◌
 judged-good f bs t e s = simp (t, eq-eqb _ _ e, eq-eqb _ _ s)
 
 pub is-good : (j : Judgement) → is_good j ≡ true → j ≡ Good
@@ -53,7 +53,7 @@ pub record GoodFrame (f : Footer) (bs : List ℕ) : Type 0 where
   pub sum : get_or bs (length bs - 2) 0 ≡ sum_of (summed bs)
 
 pub good-is : (f : Footer) (bs : List ℕ) → judge_of f bs ≡ Good → GoodFrame f bs
-unfolding judge_of
+unfolding judge_of if◌then◌otherwise◌
 good-is f bs g = go (is_frame bs) refl (eqb (get_or bs (length bs - 1) 0) (footer_byte f)) refl (eqb (get_or bs (length bs - 2) 0) (sum_of (summed bs))) refl g
   where
     no-good : (j : Judgement) → j ≡ Good → is_good j ≡ false → ⊥
@@ -61,7 +61,7 @@ good-is f bs g = go (is_frame bs) refl (eqb (get_or bs (length bs - 1) 0) (foote
 
     go : (t : Bool) → is_frame bs ≡ t → (u : Bool) → eqb (get_or bs (length bs - 1) 0) (footer_byte f) ≡ u
         → (v : Bool) → eqb (get_or bs (length bs - 2) 0) (sum_of (summed bs)) ≡ v
-        → (if not t then UnfitLength else if not u then WrongFooter (length bs - 1) else if not v then WrongSum (length bs - 2) else Good) ≡ Good → GoodFrame f bs
+        → (if not t then UnfitLength otherwise if not u then WrongFooter (length bs - 1) otherwise if not v then WrongSum (length bs - 2) otherwise Good) ≡ Good → GoodFrame f bs
     go false p u q v r e = absurd (no-good UnfitLength e refl)
     go true p false q v r e = absurd (no-good (WrongFooter (length bs - 1)) e refl)
     go true p true q false r e = absurd (no-good (WrongSum (length bs - 2)) e refl)

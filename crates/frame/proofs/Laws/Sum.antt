@@ -5,13 +5,14 @@ use native.Mathlib.Decide.{dec_le}
 use native.Mathlib.Nat.{mod-eq-sub-mod}
 use borrow.Author.Tests.{lt-leb}
 use Rattle.frame.specs.Sum.{less, less_all}
+use Rattle.words.specs.Words.{if◌then◌otherwise◌}
 
 data Cases (m a b : ℕ) : Type 0 where
   plain : b ≤ a → less m a b ≡ a - b → Cases m a b
   under : a < b → less m a b ≡ a + m - b → Cases m a b
 
 cases : (m a b : ℕ) → Cases m a b
-unfolding less
+unfolding less if◌then◌otherwise◌
 cases m a b = go (dec_le b a)
   where
     go : Dec (b ≤ a) → Cases m a b

@@ -17,7 +17,7 @@ use Rattle.frame.specs.declared.judgement.Judgement.TheVariants.{UnfitLength, Wr
 use Rattle.frame.specs.declared.wire.Wrote.{Wrote}
 use Rattle.frame.specs.declared.wire.Wrote.TheVariants.{Long, NoRoom, UnfitPayload}
 use Rattle.lent.proofs.Laws.{Written}
-use Rattle.words.specs.Words.{◌and◌, ◌from◌to◌, ◌or◌}
+use Rattle.words.specs.Words.{◌and◌, ◌from◌to◌, ◌or◌, if◌then◌otherwise◌}
 
 pub framed-long : (h : Header) (ds : List ℕ) (f : Footer) → length (framed h ds f) ≡ length ds + 4
 unfolding framed
@@ -44,22 +44,22 @@ laid-is room lead rest l h f hb len s t u fb w a b c d e g =
 
 -- The answers of writing.
 pub write-none : (room : List ℕ) (h : Header) (ds : List ℕ) (f : Footer) → length ds < 1 → wrote UnfitPayload room ≡ write_of room h ds f
-unfolding write_of ◌from◌to◌ ◌and◌
+unfolding write_of ◌from◌to◌ ◌and◌ if◌then◌otherwise◌
 write-none room h ds f l = simp (lt-leb _ _ l)
 
 pub write-over : (room : List ℕ) (h : Header) (ds : List ℕ) (f : Footer) → 1 ≤ length ds → 256 < length ds → wrote UnfitPayload room ≡ write_of room h ds f
-unfolding write_of ◌from◌to◌ ◌and◌
+unfolding write_of ◌from◌to◌ ◌and◌ if◌then◌otherwise◌
 write-over room h ds f k l = simp (le-leb _ _ k, lt-leb _ _ l)
 
 pub write-short : (room : List ℕ) (h : Header) (ds : List ℕ) (f : Footer) → 1 ≤ length ds → length ds ≤ 256 → length room < length ds + 4
     → wrote NoRoom room ≡ write_of room h ds f
-unfolding write_of ◌from◌to◌ ◌and◌
+unfolding write_of ◌from◌to◌ ◌and◌ if◌then◌otherwise◌
 write-short room h ds f k l s = simp (le-leb _ _ k, le-leb _ _ l, lt-ltb _ _ s)
 
 pub write-laid : (room lead rest l : List ℕ) (h : Header) (f : Footer) → l ≡ laid room h (lead ++ rest) f → 1 ≤ length lead + length rest
     → length lead + length rest ≤ 256 → length lead + length rest + 4 ≤ length room
     → wrote (Long (length lead + length rest + 4)) l ≡ write_of room h (lead ++ rest) f
-unfolding write_of ◌from◌to◌ ◌and◌
+unfolding write_of ◌from◌to◌ ◌and◌ if◌then◌otherwise◌
 write-laid room lead rest l h f e k m s =
     rw (e, ← length-append lead rest)
     (let n : length (lead ++ rest) ≡ length lead + length rest = length-append lead rest in
@@ -101,17 +101,17 @@ fit-long n last bs u = go (dec_le (n + 4) (length bs))
 
 -- The answers of judging a reply frame.
 pub reply-first : (n : ℕ) (last : Bool) (bs : List ℕ) → (get_or bs 0 0 ≡ header_byte Data → ⊥) → WrongFirst ≡ judge_reply n last bs
-unfolding judge_reply
+unfolding judge_reply if◌then◌otherwise◌
 reply-first n last bs e = simp (ne_eqb _ _ e)
 
 pub reply-unfit : (n : ℕ) (last : Bool) (bs : List ℕ) → get_or bs 0 0 ≡ header_byte Data → unfit_reply n last bs ≡ true → UnfitLength ≡ judge_reply n last bs
-unfolding judge_reply
+unfolding judge_reply if◌then◌otherwise◌
 reply-unfit n last bs e u = simp (eq-eqb _ _ e, u)
 
 -- With the front of the bytes lent to `judge` as the part from 0 to end.
 pub reply-judged : (n : ℕ) (last : Bool) (bs : List ℕ) (end : ℕ) (j : Judgement) → get_or bs 0 0 ≡ header_byte Data → unfit_reply n last bs ≡ false
     → end ≡ counted (get_or bs 1 0) + 4 → j ≡ judge_of Last (take (end - 0) bs) → j ≡ judge_reply n last bs
-unfolding judge_reply
+unfolding judge_reply if◌then◌otherwise◌
 reply-judged n last bs end j e u f i =
     let l : end - 0 ≡ n + 4 = omega (arith, fit-counted n last bs u) in
     simp (eq-eqb _ _ e, u, i, l)
@@ -119,7 +119,7 @@ reply-judged n last bs end j e u f i =
 -- A frame that fits is laid, and what is in the room then.
 pub write-lands : (room : List ℕ) (h : Header) (ds : List ℕ) (f : Footer) → 1 ≤ length ds → length ds ≤ 256 → length ds + 4 ≤ length room
     → write_of room h ds f ≡ wrote (Long (length ds + 4)) (laid room h ds f)
-unfolding write_of ◌from◌to◌ ◌and◌
+unfolding write_of ◌from◌to◌ ◌and◌ if◌then◌otherwise◌
 write-lands room h ds f k m s = simp (le-leb _ _ k, le-leb _ _ m, le-ltb (length room) (length ds + 4) s)
 
 pub laid-lands : (room : List ℕ) (h : Header) (ds : List ℕ) (f : Footer) (l : List ℕ) (a : Wrote) → wrote a l ≡ write_of room h ds f → 1 ≤ length ds
