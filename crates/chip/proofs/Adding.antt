@@ -31,12 +31,12 @@ use Rattle.frame.specs.declared.Header.{Header}
 use Rattle.frame.specs.declared.Header.TheVariants.{Command, Data}
 use Rattle.frame.specs.declared.collector.Collector.{Collector}
 use Rattle.part.specs.declared.Part.{Part}
-use Rattle.part.specs.declared.refusal.Verdict.{Verdict}
-use Rattle.part.specs.declared.refusal.Verdict.TheVariants.{Accepted}
+use Rattle.part.specs.declared.refusal.Refusal.{Refusal}
+use Rattle.std.specs.Prelude.{Ok, Result}
 use Rattle.words.specs.Words.{◌and◌, if◌then◌otherwise◌}
 
 -- The verdict depends on what is collected only by whether the state is good.
-abbrev pub verdict_at : Part → Chip → Memory → List ℕ → Verdict
+abbrev pub verdict_at : Part → Chip → Memory → List ℕ → Result Unit Refusal
 verdict_at p c m room =
     verdict_on p c (length m.flash.code_flash) (length m.flash.data_flash) (length room)
 
@@ -78,11 +78,11 @@ abbrev pub after : Chip → ℕ → Chip
 after c b = record { core = c.core; collector = added c.collector (b ∷ []) }
 
 -- What is collected in a state that is accepted.
-pub collected-good : (p : Part) (c : Chip) (m : Memory) (room : List ℕ) → verdict_at p c m room ≡ Accepted
+pub collected-good : (p : Part) (c : Chip) (m : Memory) (room : List ℕ) → verdict_at p c m room ≡ Ok tt
     → good_collected (hearing c.core.phase) c.collector.len (get_or c.collector.bytes 0 0) (get_or c.collector.bytes 1 0) ≡ true
 collected-good p c m room a = state-collected p c.core _ _ _ (hearing c.core.phase) (accepts a).state refl
 
-pub only-added : (p : Part) (c : Chip) (m : Memory) (room : List ℕ) (b : ℕ) → length c.collector.bytes ≡ 260 → verdict_at p c m room ≡ Accepted
+pub only-added : (p : Part) (c : Chip) (m : Memory) (room : List ℕ) (b : ℕ) → length c.collector.bytes ≡ 260 → verdict_at p c m room ≡ Ok tt
     → (c.collector.len ≡ 0 → Opens (hearing c.core.phase) b) → completes_at c.collector.len (get_or c.collector.bytes 1 0) ≡ false
     → before (after c b) m room ≡ step_of p c (Byte b) m room
 only-added p c m room b l a o s =
@@ -90,11 +90,11 @@ only-added p c m room b l a o s =
     byte-accepted (before (after c b) m room) p c b m room a (hears-settles p c.collector (added c.collector (b ∷ [])) c.core w.header b m room l (accepts a) w.way w.adds)
 
 -- The LEN byte is one: it comes after the header, and no frame is complete with it.
-pub len-heard : (p : Part) (c : Chip) (m : Memory) (room : List ℕ) → length c.collector.bytes ≡ 260 → verdict_at p c m room ≡ Accepted → c.collector.len ≡ 1
+pub len-heard : (p : Part) (c : Chip) (m : Memory) (room : List ℕ) → length c.collector.bytes ≡ 260 → verdict_at p c m room ≡ Ok tt → c.collector.len ≡ 1
     → (b : ℕ) → before (after c b) m room ≡ step_of p c (Byte b) m room
 len-heard p c m room l a e b = only-added p c m room b l a (λ z. absurd (omega arith)) (not_last _ _ (omega (arith, counted-some (get_or c.collector.bytes 1 0))))
 
-module _ (p : Part) (c : Chip) (m : Memory) (room : List ℕ) (places : length c.collector.bytes ≡ 260) (accepted : verdict_at p c m room ≡ Accepted)
+module _ (p : Part) (c : Chip) (m : Memory) (room : List ℕ) (places : length c.collector.bytes ≡ 260) (accepted : verdict_at p c m room ≡ Ok tt)
     (begun : 2 ≤ c.collector.len) (short : c.collector.len < counted (get_or c.collector.bytes 1 0) + 3) where
   within : c.collector.len < 260
   within = good-within _ _ _ _ (collected-good p c m room accepted)
@@ -105,13 +105,13 @@ module _ (p : Part) (c : Chip) (m : Memory) (room : List ℕ) (places : length c
   pub added-at : (i b : ℕ) → i < 2 → get_or (added c.collector (b ∷ [])).bytes i 0 ≡ get_or c.collector.bytes i 0
   added-at i b h = added-before c.collector (b ∷ []) i places (omega (arith, within)) (omega arith)
 
-  pub still-accepted : (b : ℕ) → counted (get_or c.collector.bytes 1 0) ≤ 256 → verdict_at p (after c b) m room ≡ Accepted
+  pub still-accepted : (b : ℕ) → counted (get_or c.collector.bytes 1 0) ≤ 256 → verdict_at p (after c b) m room ≡ Ok tt
   still-accepted b small =
       rw (added-count c.collector (b ∷ []) places (omega arith), added-at 0 b (omega arith), added-at 1 b (omega arith)) (one-more-accepted _ _ _ accepted begun (omega arith) small)
 
 -- One such byte, as the step adds it.
 pub byte-adds : (p : Part) (c : Chip) (d : Collector) (v : Event) (b n : ℕ) (m : Memory) (room : List ℕ) → length c.collector.bytes ≡ 260
-    → verdict_at p c m room ≡ Accepted → n ≡ lacking_of c.collector.len (get_or c.collector.bytes 1 0) 1 → 0 < n → v ≡ Byte b → d ≡ added c.collector (b ∷ [])
+    → verdict_at p c m room ≡ Ok tt → n ≡ lacking_of c.collector.len (get_or c.collector.bytes 1 0) 1 → 0 < n → v ≡ Byte b → d ≡ added c.collector (b ∷ [])
     → before (record { core = c.core; collector = d }) m room ≡ step_of p c v m room
 byte-adds p c d v b n m room l a e h f g =
     let x = lacks c.collector.len (get_or c.collector.bytes 1 0) 1 n e h in

@@ -28,20 +28,20 @@ use Rattle.frame.specs.declared.Header.{Header}
 use Rattle.frame.specs.declared.Header.TheVariants.{Command, Data}
 use Rattle.frame.specs.declared.collector.Collector.{Collector}
 use Rattle.part.specs.declared.Part.{Part}
-use Rattle.part.specs.declared.refusal.Verdict.TheVariants.{Accepted}
+use Rattle.std.specs.Prelude.{Ok}
 
 -- A chip with something else collected.
 abbrev pub collects : Chip → Collector → Chip
 collects c d = record { core = c.core; collector = d }
 
 -- A gap.
-pub gap-drops : (p : Part) (c : Chip) (m : Memory) (room : List ℕ) → verdict_at p c m room ≡ Accepted
+pub gap-drops : (p : Part) (c : Chip) (m : Memory) (room : List ℕ) → verdict_at p c m room ≡ Ok tt
     → before (collects c (dropped c.collector)) m room ≡ step_of p c Gap m room
 gap-drops p c m room a =
     step-accepted _ (reaction [] (silent c.core m)) p c Gap Gap m room a refl (at_gap p c.core (heard c.collector) m)
     (emptied p c.collector (dropped c.collector) c.core c.core m room refl (accepts a).roomy)
 
-pub gap-accepted : (p : Part) (c : Chip) (m : Memory) (room : List ℕ) → verdict_at p c m room ≡ Accepted → verdict_at p (collects c (dropped c.collector)) m room ≡ Accepted
+pub gap-accepted : (p : Part) (c : Chip) (m : Memory) (room : List ℕ) → verdict_at p c m room ≡ Ok tt → verdict_at p (collects c (dropped c.collector)) m room ≡ Ok tt
 gap-accepted p c m room a = rw (dropped-leaves c.collector) (collected-accepted p c.core _ 0 _ _ a (none-good (hearing c.core.phase) _ _))
 
 -- A byte that leaves the front of a frame: it completes nothing, and where nothing is collected it opens the frame.
@@ -65,7 +65,7 @@ front-adds f c b l g (state.of_data {w} x) =
     let o = opens-with c Data b x.heads in
     (completes-none c Data b l (begun Data c l (sym (data-collected w _ _ _) ∙ g)) o (complete-is _ ∙ x.lacks), o)
 
-pub byte-fronts : (p : Part) (c : Chip) (m : Memory) (room : List ℕ) (b : ℕ) → length c.collector.bytes ≡ 260 → verdict_at p c m room ≡ Accepted
+pub byte-fronts : (p : Part) (c : Chip) (m : Memory) (room : List ℕ) (b : ℕ) → length c.collector.bytes ≡ 260 → verdict_at p c m room ≡ Ok tt
     → good_heard c.core.phase (heard c.collector ++ b ∷ []) ≡ true → before (after c b) m room ≡ step_of p c (Byte b) m room
 byte-fronts p c m room b l a g =
     let f = hearing c.core.phase in
@@ -73,8 +73,8 @@ byte-fronts p c m room b l a g =
     only-added p c m room b l a x.1 x.0
 
 pub fronts-accepted : (p : Part) (c : Chip) (m : Memory) (room bs : List ℕ) → length c.collector.bytes ≡ 260 → c.collector.len + length bs ≤ 260
-    → verdict_at p c m room ≡ Accepted → good_heard c.core.phase (heard c.collector ++ bs) ≡ true
-    → verdict_at p (collects c (added c.collector bs)) m room ≡ Accepted
+    → verdict_at p c m room ≡ Ok tt → good_heard c.core.phase (heard c.collector ++ bs) ≡ true
+    → verdict_at p (collects c (added c.collector bs)) m room ≡ Ok tt
 fronts-accepted p c m room bs l n a g =
     let d = added c.collector bs in
     let e : heard d ≡ heard c.collector ++ bs = ap heard (added-holds c.collector bs n) ∙ heard-holding c.collector (heard c.collector ++ bs) in

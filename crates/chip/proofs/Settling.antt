@@ -13,8 +13,7 @@ use Rattle.chip.specs.Step.{Outcome, Reaction, byte_in, heard_byte, outcome, pow
 use Rattle.chip_frame.specs.Does.{frame_does, mode_byte, silent}
 use Rattle.chip_state.proofs.Laws.{Accepts, Begun, begun, command-collected, data-collected, none-begun, state-collected}
 use Rattle.chip_state.specs.Refusals.{good_begun, good_collected, handed_with, verdict_on}
-use Rattle.chip.specs.declared.Answer.TheVariants.{Replied}
-use Rattle.chip.specs.declared.Answer.TheVariants as Answer
+use Rattle.std.specs.Prelude.{Err, Ok}
 use Rattle.chip_state.specs.declared.Chip.{Chip}
 use Rattle.chip.specs.declared.Event.{Event}
 use Rattle.chip.specs.declared.Event.TheVariants.{Byte, Gap, PowerOn}
@@ -37,11 +36,8 @@ use Rattle.frame.specs.declared.Header.TheVariants.{Command, Data}
 use Rattle.frame.specs.declared.collector.Collector.{Collector}
 use Rattle.part.specs.declared.Part.{Part}
 use Rattle.part.specs.declared.refusal.Refusal.{Refusal}
-use Rattle.part.specs.declared.refusal.Verdict.{Verdict}
-use Rattle.part.specs.declared.refusal.Verdict.TheVariants.{Accepted}
-use Rattle.part.specs.declared.refusal.Verdict.TheVariants as Verdict
 use Rattle.chip_reply.proofs.Laws.{fault-silence, said-silence, send-said}
-use Rattle.chip_reply.specs.Reply.{Said, fault_in, payloads, said, said_of, send_of}
+use Rattle.chip_reply.specs.Reply.{Said, fault_in, payloads, said, said_of, send_of, sent_as}
 use Rattle.chip_reply.specs.declared.Sent.{Sent}
 use Rattle.words.proofs.Laws.{and_both}
 use Rattle.words.specs.Words.{◌and◌, if◌then◌otherwise◌}
@@ -95,8 +91,8 @@ frame_is c d h b g e =
 
 -- A silent step: only what is heard, and perhaps the record, is new.
 pub quiet-settles : (p : Part) (c d : Collector) (k new : Core) (hs : List ℕ) (m : Memory) (room : List ℕ) → d ≡ holding c hs → 32 ≤ length room
-    → record { answer = Replied 0 0; fault = Good; chip = record { core = new; collector = d }; memory = m; room = room }
-    ≡ settled Accepted p (reaction hs (silent new m)) (record { core = k; collector = c }) m room
+    → record { answer = Ok (sent_as 0 0); fault = Good; chip = record { core = new; collector = d }; memory = m; room = room }
+    ≡ settled (Ok tt) p (reaction hs (silent new m)) (record { core = k; collector = c }) m room
 unfolding settled
 quiet-settles p c d k new hs m room e h = rw (e, ← said-silence p new.options room, fault-silence)
 
@@ -104,7 +100,7 @@ quiet-settles p c d k new hs m room e h = rw (e, ← said-silence p new.options 
 pub frame-settles : (p : Part) (d : Done) (c e : Collector) (k : Core) (s : Sent) (j : Judgement) (x : Effect) (m n : Memory) (room r : List ℕ)
     → effect d n ≡ x → said s r ≡ said_of (payloads p d.core.options d.reply) room → j ≡ fault_in d.reply → e ≡ dropped c
     → record { answer = replied s; fault = j; chip = record { core = d.core; collector = e }; memory = n; room = r }
-    ≡ settled Accepted p (reaction [] x) (record { core = k; collector = c }) m room
+    ≡ settled (Ok tt) p (reaction [] x) (record { core = k; collector = c }) m room
 unfolding settled
 frame-settles p d c e k s j x m n room r f q i g =
     let says = said_of (payloads p d.core.options d.reply) room in
@@ -112,7 +108,7 @@ frame-settles p d c e k s j x m n room r f q i g =
     ∙ ap (λ (z : Judgement). record { answer = replied says.sent; fault = z; chip = record { core = d.core; collector = e }; memory = n; room = says.room }) i
     ∙ ap (λ (z : Collector). record { answer = replied says.sent; fault = fault_in d.reply; chip = record { core = d.core; collector = z }; memory = n; room = says.room })
     (g ∙ dropped-is c)
-    ∙ ap (λ (y : Effect). settled Accepted p (reaction [] y) (record { core = k; collector = c }) m room) f
+    ∙ ap (λ (y : Effect). settled (Ok tt) p (reaction [] y) (record { core = k; collector = c }) m room) f
 
 pub next-within : (c d : Collector) (h : Header) (b : ℕ) → length c.bytes ≡ 260 → Begun c → d ≡ byte_of c h b → d.len ≤ 260
 next-within c d h b l g e =
@@ -134,19 +130,19 @@ byte-done : (p : Part) (d : Done) (c next e : Collector) (k : Core) (h : Header)
     → effect d n ≡ x (take (next.len - 0) next.bytes) → said s r ≡ said_of (payloads p d.core.options d.reply) room
     → j ≡ fault_in d.reply → e ≡ dropped c
     → record { answer = replied s; fault = j; chip = record { core = d.core; collector = e }; memory = n; room = r }
-    ≡ settled Accepted p (heard_byte (hear h (heard c) b) (x (hear h (heard c) b)) k m) (record { core = k; collector = c }) m room
+    ≡ settled (Ok tt) p (heard_byte (hear h (heard c) b) (x (hear h (heard c) b)) k m) (record { core = k; collector = c }) m room
 byte-done p d c next e k h b s j x m n room r l g q t f u i v =
     frame-settles p d c e k s j (x (take (next.len - 0) next.bytes)) m n room r f u i v
-    ∙ ap (λ (y : Reaction). settled Accepted p y (record { core = k; collector = c }) m room)
+    ∙ ap (λ (y : Reaction). settled (Ok tt) p y (record { core = k; collector = c }) m room)
     (heard-done (hear h (heard c) b) (take (next.len - 0) next.bytes) x k m (frame_is c next h b g q) (completes-is c h b l g ∙ t))
 
 byte-on : (p : Part) (c next : Collector) (k : Core) (h : Header) (b : ℕ) (x : Effect) (m : Memory) (room : List ℕ)
     → length c.bytes ≡ 260 → Begun c → next ≡ byte_of c h b → completes_at c.len (get_or c.bytes 1 0) ≡ false → 32 ≤ length room
-    → record { answer = Replied 0 0; fault = Good; chip = record { core = k; collector = next }; memory = m; room = room }
-    ≡ settled Accepted p (heard_byte (hear h (heard c) b) x k m) (record { core = k; collector = c }) m room
+    → record { answer = Ok (sent_as 0 0); fault = Good; chip = record { core = k; collector = next }; memory = m; room = room }
+    ≡ settled (Ok tt) p (heard_byte (hear h (heard c) b) x k m) (record { core = k; collector = c }) m room
 byte-on p c next k h b x m room l g e t q =
     quiet-settles p c next k k (hear h (heard c) b) m room (byte-holds c next h b g e) q
-    ∙ ap (λ (y : Reaction). settled Accepted p y (record { core = k; collector = c }) m room) (heard-on (hear h (heard c) b) x k m (completes-is c h b l g ∙ t))
+    ∙ ap (λ (y : Reaction). settled (Ok tt) p y (record { core = k; collector = c }) m room) (heard-on (hear h (heard c) b) x k m (completes-is c h b l g ∙ t))
 
 -- What is begun in a phase in which frames with the header h are awaited.
 begun-in : (p : Part) (c : Collector) (k : Core) (f : Hearing) (h : Header) (code flash room : ℕ) → length c.bytes ≡ 260
@@ -189,33 +185,33 @@ mode-way (HearsData w) n x e = absurd (no_mode Data n x e)
 -- The three ways of a byte, each settled as the phase says.
 pub mode-settles : (p : Part) (c : Collector) (k new : Core) (b : ℕ) (m : Memory) (room : List ℕ)
     → Accepts p k (handed_with c (length m.flash.code_flash) (length m.flash.data_flash) (length room)) → way_of (hearing k.phase) c.len (get_or c.bytes 1 0) ≡ Mode → new ≡ mode_byte k b
-    → record { answer = Replied 0 0; fault = Good; chip = record { core = new; collector = c }; memory = m; room = room }
-    ≡ settled Accepted p (byte_in (hearing k.phase) p k (heard c) b m) (record { core = k; collector = c }) m room
+    → record { answer = Ok (sent_as 0 0); fault = Good; chip = record { core = new; collector = c }; memory = m; room = room }
+    ≡ settled (Ok tt) p (byte_in (hearing k.phase) p k (heard c) b m) (record { core = k; collector = c }) m room
 unfolding byte_in
 mode-settles p c k new b m room a w n =
     let e : hearing k.phase ≡ HearsNothing = mode-way (hearing k.phase) c.len (get_or c.bytes 1 0) w in
     let z : c.len ≡ 0 = none-begun p k c.len (get_or c.bytes 0 0) (get_or c.bytes 1 0) a.state e in
-    ap (λ (q : Core). record { answer = Replied 0 0; fault = Good; chip = record { core = q; collector = c }; memory = m; room = room }) n
+    ap (λ (q : Core). record { answer = Ok (sent_as 0 0); fault = Good; chip = record { core = q; collector = c }; memory = m; room = room }) n
     ∙ quiet-settles p c c k (mode_byte k b) (heard c) m room (sym (holding-heard c (omega arith))) a.roomy
-    ∙ ap (λ (f : Hearing). settled Accepted p (byte_in f p k (heard c) b m) (record { core = k; collector = c }) m room) (sym e)
+    ∙ ap (λ (f : Hearing). settled (Ok tt) p (byte_in f p k (heard c) b m) (record { core = k; collector = c }) m room) (sym e)
 
 pub hears-settles : (p : Part) (c next : Collector) (k : Core) (g : Header) (b : ℕ) (m : Memory) (room : List ℕ) → length c.bytes ≡ 260
     → Accepts p k (handed_with c (length m.flash.code_flash) (length m.flash.data_flash) (length room)) → way_of (hearing k.phase) c.len (get_or c.bytes 1 0) ≡ Hears g → next ≡ byte_of c g b
-    → record { answer = Replied 0 0; fault = Good; chip = record { core = k; collector = next }; memory = m; room = room }
-    ≡ settled Accepted p (byte_in (hearing k.phase) p k (heard c) b m) (record { core = k; collector = c }) m room
+    → record { answer = Ok (sent_as 0 0); fault = Good; chip = record { core = k; collector = next }; memory = m; room = room }
+    ≡ settled (Ok tt) p (byte_in (hearing k.phase) p k (heard c) b m) (record { core = k; collector = c }) m room
 unfolding way_of byte_in
 hears-settles p c next k g b m room l a w nx = go (hearing k.phase) refl w
   where
     on : (f : Hearing) (h : Header) (x : Effect) → Begun c → way_on h c.len (get_or c.bytes 1 0) ≡ Hears g
-        → record { answer = Replied 0 0; fault = Good; chip = record { core = k; collector = next }; memory = m; room = room }
-        ≡ settled Accepted p (heard_byte (hear h (heard c) b) x k m) (record { core = k; collector = c }) m room
+        → record { answer = Ok (sent_as 0 0); fault = Good; chip = record { core = k; collector = next }; memory = m; room = room }
+        ≡ settled (Ok tt) p (heard_byte (hear h (heard c) b) x k m) (record { core = k; collector = c }) m room
     on f h x u v =
         let q = hears-is h g c.len (get_or c.bytes 1 0) v in
         byte-on p c next k h b x m room l u (nx ∙ ap (λ (i : Header). byte_of c i b) (sym q.1)) q.0 a.roomy
 
     go : (f : Hearing) → hearing k.phase ≡ f → way_of f c.len (get_or c.bytes 1 0) ≡ Hears g
-        → record { answer = Replied 0 0; fault = Good; chip = record { core = k; collector = next }; memory = m; room = room }
-        ≡ settled Accepted p (byte_in f p k (heard c) b m) (record { core = k; collector = c }) m room
+        → record { answer = Ok (sent_as 0 0); fault = Good; chip = record { core = k; collector = next }; memory = m; room = room }
+        ≡ settled (Ok tt) p (byte_in f p k (heard c) b m) (record { core = k; collector = c }) m room
     go HearsNothing e v = absurd (let z : ◌≡◌ {A = ℕ} 0 1 = cc in omega arith)
     go HearsCommands e v = on HearsCommands Command (frame_does HearsCommands p k (hear Command (heard c) b) m) (begun-in p c k HearsCommands Command _ _ _ l a e (command-collected _ _ _)) v
     go (HearsData w) e v = on (HearsData w) Data (frame_does (HearsData w) p k (hear Data (heard c) b) m) (begun-in p c k (HearsData w) Data _ _ _ l a e (data-collected w _ _ _)) v
@@ -225,13 +221,13 @@ pub completes-settles : (p : Part) (d : Done) (c next e : Collector) (k : Core) 
     → effect d n ≡ frame_does (hearing k.phase) p k (take (next.len - 0) next.bytes) m → said s r ≡ send_of p d.core.options d.reply room
     → j ≡ fault_in d.reply → e ≡ dropped c
     → record { answer = replied s; fault = j; chip = record { core = d.core; collector = e }; memory = n; room = r }
-    ≡ settled Accepted p (byte_in (hearing k.phase) p k (heard c) b m) (record { core = k; collector = c }) m room
+    ≡ settled (Ok tt) p (byte_in (hearing k.phase) p k (heard c) b m) (record { core = k; collector = c }) m room
 unfolding way_of byte_in
 completes-settles p d c next e k g b s j m n room r l a w nx x u i v = go (hearing k.phase) refl w x
   where
     done : (f : Hearing) (h : Header) → Begun c → way_on h c.len (get_or c.bytes 1 0) ≡ Completes g → effect d n ≡ frame_does f p k (take (next.len - 0) next.bytes) m
         → record { answer = replied s; fault = j; chip = record { core = d.core; collector = e }; memory = n; room = r }
-        ≡ settled Accepted p (heard_byte (hear h (heard c) b) (frame_does f p k (hear h (heard c) b) m) k m) (record { core = k; collector = c }) m room
+        ≡ settled (Ok tt) p (heard_byte (hear h (heard c) b) (frame_does f p k (hear h (heard c) b) m) k m) (record { core = k; collector = c }) m room
     done f h y t o =
         let q = completes-way h g c.len (get_or c.bytes 1 0) t in
         byte-done p d c next e k h b s j (λ (y : List ℕ). frame_does f p k y m) m n room r l y
@@ -239,7 +235,7 @@ completes-settles p d c next e k g b s j m n room r l a w nx x u i v = go (heari
 
     go : (f : Hearing) → hearing k.phase ≡ f → way_of f c.len (get_or c.bytes 1 0) ≡ Completes g → effect d n ≡ frame_does f p k (take (next.len - 0) next.bytes) m
         → record { answer = replied s; fault = j; chip = record { core = d.core; collector = e }; memory = n; room = r }
-        ≡ settled Accepted p (byte_in f p k (heard c) b m) (record { core = k; collector = c }) m room
+        ≡ settled (Ok tt) p (byte_in f p k (heard c) b m) (record { core = k; collector = c }) m room
     go HearsNothing e t o = absurd (let z : ◌≡◌ {A = ℕ} 0 1 = cc in omega arith)
     go HearsCommands e t o = done HearsCommands Command (begun-in p c k HearsCommands Command _ _ _ l a e (command-collected _ _ _)) t o
     go (HearsData w) e t o = done (HearsData w) Data (begun-in p c k (HearsData w) Data _ _ _ l a e (data-collected w _ _ _)) t o
@@ -258,21 +254,21 @@ next-in-array p c next k g b code flash room l a w nx = go (hearing k.phase) ref
 
 -- A gap or power-on: nothing is heard any more, and nothing is said.
 pub emptied : (p : Part) (c e : Collector) (k new : Core) (m : Memory) (room : List ℕ) → e ≡ dropped c → 32 ≤ length room
-    → record { answer = Replied 0 0; fault = Good; chip = record { core = new; collector = e }; memory = m; room = room }
-    ≡ settled Accepted p (reaction [] (silent new m)) (record { core = k; collector = c }) m room
+    → record { answer = Ok (sent_as 0 0); fault = Good; chip = record { core = new; collector = e }; memory = m; room = room }
+    ≡ settled (Ok tt) p (reaction [] (silent new m)) (record { core = k; collector = c }) m room
 emptied p c e k new m room f h = quiet-settles p c e k new [] m room (f ∙ dropped-is c) h
 
 -- A step is its verdict and, accepted, its event's reaction.
 pub step-accepted : (o : Outcome) (x : Reaction) (p : Part) (c : Chip) (v w : Event) (m : Memory) (room : List ℕ)
-    → verdict_on p c (length m.flash.code_flash) (length m.flash.data_flash) (length room) ≡ Accepted
-    → v ≡ w → x ≡ react_to w p c.core (heard c.collector) m → o ≡ settled Accepted p x c m room → o ≡ step_of p c v m room
+    → verdict_on p c (length m.flash.code_flash) (length m.flash.data_flash) (length room) ≡ Ok tt
+    → v ≡ w → x ≡ react_to w p c.core (heard c.collector) m → o ≡ settled (Ok tt) p x c m room → o ≡ step_of p c v m room
 unfolding step_of
 step-accepted o x p c v w m room a e f g =
-    rw a (g ∙ ap (λ (y : Reaction). settled Accepted p y c m room) (f ∙ ap (λ (q : Event). react_to q p c.core (heard c.collector) m) (sym e)))
+    rw a (g ∙ ap (λ (y : Reaction). settled (Ok tt) p y c m room) (f ∙ ap (λ (q : Event). react_to q p c.core (heard c.collector) m) (sym e)))
 
 pub step-barred : (p : Part) (c : Chip) (v : Event) (m : Memory) (room : List ℕ) (r : Refusal)
-    → verdict_on p c (length m.flash.code_flash) (length m.flash.data_flash) (length room) ≡ Verdict.Refused r
-    → outcome (record { answer = Answer.Refused r; fault = Good; chip = c }) m room ≡ step_of p c v m room
+    → verdict_on p c (length m.flash.code_flash) (length m.flash.data_flash) (length room) ≡ Err r
+    → outcome (record { answer = Err r; fault = Good; chip = c }) m room ≡ step_of p c v m room
 unfolding step_of settled
 step-barred p c v m room r a = rw a
 
@@ -284,8 +280,8 @@ unfolding react_to
 at_byte p k hs b m = refl
 
 pub byte-accepted : (o : Outcome) (p : Part) (c : Chip) (b : ℕ) (m : Memory) (room : List ℕ)
-    → verdict_on p c (length m.flash.code_flash) (length m.flash.data_flash) (length room) ≡ Accepted
-    → o ≡ settled Accepted p (byte_in (hearing c.core.phase) p c.core (heard c.collector) b m) c m room → o ≡ step_of p c (Byte b) m room
+    → verdict_on p c (length m.flash.code_flash) (length m.flash.data_flash) (length room) ≡ Ok tt
+    → o ≡ settled (Ok tt) p (byte_in (hearing c.core.phase) p c.core (heard c.collector) b m) c m room → o ≡ step_of p c (Byte b) m room
 byte-accepted o p c b m room a g =
     step-accepted o (byte_in (hearing c.core.phase) p c.core (heard c.collector) b m) p c (Byte b) (Byte b) m room a refl (at_byte p c.core (heard c.collector) b m) g
 

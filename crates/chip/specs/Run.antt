@@ -1,8 +1,9 @@
 -- Runs: the fold of the step's definition over events. Noise, recordings and the whole cable all stand on it.
-use Rattle.std.specs.Prelude.{List, [], ◌++◌, ◌∷◌, ℕ, take}
+use Rattle.std.specs.Prelude.{List, [], ◌++◌, ◌∷◌, ℕ, take, Err, Ok, Result}
 use Rattle.chip.specs.Step.{Outcome, step_of}
-use Rattle.chip.specs.declared.Answer.{Answer}
-use Rattle.chip.specs.declared.Answer.TheVariants.{Refused, Replied}
+use Rattle.chip_reply.specs.Reply.{sent_as}
+use Rattle.part.specs.declared.refusal.Refusal.{Refusal}
+use Rattle.chip_reply.specs.declared.Sent.{Sent}
 use Rattle.chip_state.specs.declared.Chip.{Chip}
 use Rattle.chip.specs.declared.Event.{Event}
 use Rattle.chip_core.specs.Effect.{Memory}
@@ -20,11 +21,11 @@ run p (v ∷ vs) o = run p vs (onward p o v)
 
 -- Before any event nothing has been said.
 abbrev pub before : Chip → Memory → List ℕ → Outcome
-before c m room = record { answer = Replied 0 0; fault = Good; chip = c; memory = m; room = room }
+before c m room = record { answer = Ok (sent_as 0 0); fault = Good; chip = c; memory = m; room = room }
 
 -- The answer to each event, its fault, and the room after it.
 pub record Spoken : Type 0 where
-  pub answer : Answer
+  pub answer : Result Sent Refusal
   pub fault : Judgement
   pub room : List ℕ
 
@@ -36,9 +37,9 @@ answers p [] o = []
 answers p (v ∷ vs) o = spoken_in (onward p o v) ∷ answers p vs (onward p o v)
 
 -- The reply bytes to each event, one after the other.
-abbrev pub bytes_said : Answer → List ℕ → List ℕ
-bytes_said (Replied n f) room = take n room
-bytes_said (Refused r) room = []
+abbrev pub bytes_said : Result Sent Refusal → List ℕ → List ℕ
+bytes_said (Ok sent) room = take sent.bytes room
+bytes_said (Err r) room = []
 
 unfoldable pub heard_back : List Spoken → List ℕ
 heard_back [] = []

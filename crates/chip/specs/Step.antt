@@ -1,9 +1,7 @@
 -- One step: document 01, "Phases", "Collecting" and "Refusal numbers" (chip). An event comes; what was heard becomes what is heard now, a complete
 -- frame does its work, replies become bytes in the room. Refusals come first.
-use Rattle.std.specs.Prelude.{List, [], ℕ, length}
-use Rattle.chip.specs.declared.Answer.{Answer}
-use Rattle.chip.specs.declared.Answer.TheVariants.{Replied}
-use Rattle.chip.specs.declared.Answer.TheVariants as Answer
+use Rattle.std.specs.Prelude.{List, [], ℕ, length, Err, Ok, Result}
+use Rattle.part.specs.declared.refusal.Refusal.{Refusal}
 use Rattle.chip_state.specs.declared.Chip.{Chip}
 use Rattle.chip.specs.declared.Event.{Event}
 use Rattle.chip.specs.declared.Event.TheVariants.{Byte, Gap, PowerOn}
@@ -25,10 +23,7 @@ use Rattle.chip_options.specs.Options.{fresh_options}
 use Rattle.part.specs.Part.{described}
 use Rattle.part.specs.declared.Part.{Part}
 use Rattle.part.specs.declared.refusal.Refusal.TheVariants.{BadPart}
-use Rattle.part.specs.declared.refusal.Verdict.{Verdict}
-use Rattle.part.specs.declared.refusal.Verdict.TheVariants.{Accepted}
-use Rattle.part.specs.declared.refusal.Verdict.TheVariants as Verdict
-use Rattle.chip_reply.specs.Reply.{fault_in, payloads, said_of}
+use Rattle.chip_reply.specs.Reply.{fault_in, payloads, said_of, sent_as}
 use Rattle.chip_reply.specs.declared.Sent.{Sent}
 use Rattle.words.specs.Words.{if◌then◌otherwise◌}
 
@@ -62,7 +57,7 @@ react_to PowerOn p k hs m = reaction [] (silent (powered_on k) m)
 
 -- All that a step leaves: the answer, the judgement of the frame that it answers where that was judged bad (document 02, §4), the chip, and what was lent.
 pub record Outcome : Type 0 where
-  pub answer : Answer
+  pub answer : Result Sent Refusal
   pub fault : Judgement
   pub chip : Chip
   pub memory : Memory
@@ -71,13 +66,13 @@ pub record Outcome : Type 0 where
 abbrev pub outcome : Step → Memory → List ℕ → Outcome
 outcome s m r = record { answer = s.answer; fault = s.fault; chip = s.chip; memory = m; room = r }
 
-abbrev pub replied : Sent → Answer
-replied s = Replied s.bytes s.frames
+abbrev pub replied : Sent → Result Sent Refusal
+replied s = Ok (sent_as s.bytes s.frames)
 
 -- A refused call changes nothing; otherwise what is heard becomes the collector, and the replies become bytes in the room.
-unfoldable pub settled : Verdict → Part → Reaction → Chip → Memory → List ℕ → Outcome
-settled (Verdict.Refused r) p x c m room = record { answer = Answer.Refused r; fault = Good; chip = c; memory = m; room = room }
-settled Accepted p x c m room =
+unfoldable pub settled : Result Unit Refusal → Part → Reaction → Chip → Memory → List ℕ → Outcome
+settled (Err r) p x c m room = record { answer = Err r; fault = Good; chip = c; memory = m; room = room }
+settled (Ok _) p x c m room =
     let sends = said_of (payloads p x.does.core.options x.does.reply) room in
     record {
       answer = replied sends.sent;
@@ -99,5 +94,5 @@ fresh_chip p = record { core = record { options = fresh_options p; rate = 0x00; 
 
 unfoldable pub fresh_of : Part → Step
 fresh_of p =
-    if described p then record { answer = Replied 0 0; fault = Good; chip = fresh_chip p }
-    otherwise record { answer = Answer.Refused BadPart; fault = Good; chip = fresh_chip p }
+    if described p then record { answer = Ok (sent_as 0 0); fault = Good; chip = fresh_chip p }
+    otherwise record { answer = Err BadPart; fault = Good; chip = fresh_chip p }

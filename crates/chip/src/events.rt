@@ -1,15 +1,14 @@
 // One step of the chip: refusals first, then what is heard, then the work of a complete frame, then the reply in the room.
 // Document 01, "Frames" ("Collecting"), "Phases" and "Refusal numbers".
-ghost use Rattle.std.specs.Prelude.{◌≡◌, ◌<◌, ◌+◌, length};
+ghost use Rattle.std.specs.Prelude.{◌≡◌, ◌<◌, ◌+◌, length, Ok};
 ghost use Rattle.chip_core.specs.Effect.{memory};
 ghost use Rattle.chip_core.specs.Hearing.{hearing};
 ghost use Rattle.chip_state.specs.Refusals.{verdict_on};
-ghost use Rattle.part.specs.declared.refusal.Verdict.TheVariants.{Accepted};
 ghost use Rattle.chip.specs.declared.Event.TheVariants.{Byte};
 ghost use Rattle.chip.specs.Inner.Ways.{answered, completes_at, way_on, way_of};
 ghost use Rattle.chip.specs.Step.{powered_on, outcome, step_of, fresh_of};
 
-use super::{Answer, Event, Step};
+use super::{Event, Step};
 use chip_core::{Core, Hearing, Phase};
 use chip_options::Options;
 use chip_reply::Sent;
@@ -18,16 +17,13 @@ use frame::Header;
 use frame::collector::Collector;
 use frame::judgement::Judgement;
 use part::Part;
-use part::refusal::{Refusal, Verdict};
+use part::refusal::Refusal;
 
 // Whether the byte after so many completes the frame.
 fn completes(count: usize, len: u8) -> bool
     ensures { result ≡ completes_at count len }
 {
-    if count < 2 {
-        return false;
-    }
-    frame::counted(len) + frame::BEFORE_LAST <= count
+    2 <= count && frame::counted(len) + frame::BEFORE_LAST <= count
 }
 
 // What a byte means in a state that is accepted: a mode byte, a byte that is heard, or one that completes a frame.
@@ -50,22 +46,20 @@ fn way_on(header: Header, count: usize, len: u8) -> Way
 fn way_in(phase: Phase, count: usize, len: u8) -> Way
     ensures { result ≡ way_of (hearing phase) count len }
 {
-    let hears = phase.hearing();
-    match hears {
+    match phase.hearing() {
         Hearing::HearsNothing => Way::Mode,
         Hearing::HearsCommands => way_on(Header::Command, count, len),
-        Hearing::HearsData(w) => way_on(Header::Data, count, len),
+        Hearing::HearsData(_) => way_on(Header::Data, count, len),
     }
 }
 
 fn powered_on(core: Core) -> Core
     ensures { result ≡ powered_on core }
 {
-    let options = core.options;
     Core {
-        options,
         rate: 0x00,
         phase: Phase::ModeByte,
+        ..core
     }
 }
 
@@ -87,20 +81,15 @@ fn byte_step(
     sums: &mut [u16; 72],
     room: &mut [u8],
 ) -> ByteDone
-    requires { verdict_on part chip (length code.old) (length «data».old) (length room.old) ≡ Accepted }
+    requires { verdict_on part chip (length code.old) (length «data».old) (length room.old) ≡ Ok tt }
     ensures { outcome (answered result) (memory code.new «data».new sums.new) room.new
         ≡ step_of part chip (Byte b) (memory code.old «data».old sums.old) room.old }
 {
     let core = chip.core;
     let collector = chip.collector;
-    let phase = core.phase;
-    let w = way_in(phase, collector.len, collector.bytes[1]);
-    match w {
+    match way_in(core.phase, collector.len, collector.bytes[1]) {
         Way::Mode => ByteDone {
-            sent: Sent {
-                bytes: 0,
-                frames: 0,
-            },
+            sent: Sent::NOTHING,
             fault: Judgement::Good,
             chip: Chip {
                 core: chip_frame::mode_byte(core, b),
@@ -108,10 +97,7 @@ fn byte_step(
             },
         },
         Way::Hears(header) => ByteDone {
-            sent: Sent {
-                bytes: 0,
-                frames: 0,
-            },
+            sent: Sent::NOTHING,
             fault: Judgement::Good,
             chip: Chip {
                 core,
@@ -120,18 +106,13 @@ fn byte_step(
         },
         Way::Completes(header) => {
             let next = collector.byte(header, b);
-            let bytes = next.bytes;
-            let n = next.len;
-            let done = chip_frame::frame_does(part, core, &bytes[0..n], code, data, sums);
-            let after = done.core;
-            let options = after.options;
-            let reply = done.reply;
-            let sent = chip_reply::send(part, options, reply, room);
+            let bytes = &next.bytes[0..next.len];
+            let done = chip_frame::frame_does(part, core, bytes, code, data, sums);
             ByteDone {
-                sent,
-                fault: reply.fault(),
+                sent: chip_reply::send(part, done.core.options, done.reply, room),
+                fault: done.reply.fault(),
                 chip: Chip {
-                    core: after,
+                    core: done.core,
                     collector: collector.gap(),
                 },
             }
@@ -143,27 +124,21 @@ fn byte_step(
 pub fn fresh(part: Part) -> Step
     ensures { result ≡ fresh_of part }
 {
-    let options = Options::fresh(part);
     let chip = Chip {
         core: Core {
-            options,
+            options: Options::fresh(part),
             rate: 0x00,
             phase: Phase::ModeByte,
         },
         collector: Collector::new(),
     };
-    if part.is_described() {
-        return Step {
-            answer: Answer::Replied {
-                bytes: 0,
-                frames: 0,
-            },
-            fault: Judgement::Good,
-            chip,
-        };
-    }
+    let answer = if part.is_described() {
+        Ok(Sent::NOTHING)
+    } else {
+        Err(Refusal::BadPart)
+    };
     Step {
-        answer: Answer::Refused(Refusal::BadPart),
+        answer,
         fault: Judgement::Good,
         chip,
     }
@@ -195,72 +170,54 @@ pub fn step(
         data: data.len(),
         room: room.len(),
     };
-    let v = chip_state::verdict(part, core, handed);
-    match v {
-        Verdict::Refused(refusal) => {
+    if let Err(refusal) = chip_state::verdict(part, core, handed) {
+        return Step {
+            answer: Err(refusal),
+            fault: Judgement::Good,
+            chip,
+        };
+    }
+    match event {
+        Event::Gap => {
             return Step {
-                answer: Answer::Refused(refusal),
+                answer: Ok(Sent::NOTHING),
                 fault: Judgement::Good,
-                chip,
+                chip: Chip {
+                    core,
+                    collector: collector.gap(),
+                },
             };
         }
-        Verdict::Accepted => match event {
-            Event::Gap => {
+        Event::PowerOn => {
+            return Step {
+                answer: Ok(Sent::NOTHING),
+                fault: Judgement::Good,
+                chip: Chip {
+                    core: powered_on(core),
+                    collector: collector.power_on(),
+                },
+            };
+        }
+        Event::Byte(b) => {
+            if 0 < frame::lacking(at, len, 1) {
+                let mut work = [0u8; frame::LONGEST];
+                let next = collector.add(b, &mut work);
                 return Step {
-                    answer: Answer::Replied {
-                        bytes: 0,
-                        frames: 0,
-                    },
+                    answer: Ok(Sent::NOTHING),
                     fault: Judgement::Good,
                     chip: Chip {
                         core,
-                        collector: collector.gap(),
+                        collector: next,
                     },
                 };
             }
-            Event::PowerOn => {
-                return Step {
-                    answer: Answer::Replied {
-                        bytes: 0,
-                        frames: 0,
-                    },
-                    fault: Judgement::Good,
-                    chip: Chip {
-                        core: powered_on(core),
-                        collector: collector.power_on(),
-                    },
-                };
-            }
-            Event::Byte(b) => {
-                if 0 < frame::lacking(at, len, 1) {
-                    let mut work = [0u8; frame::LONGEST];
-                    let next = collector.add(b, &mut work);
-                    return Step {
-                        answer: Answer::Replied {
-                            bytes: 0,
-                            frames: 0,
-                        },
-                        fault: Judgement::Good,
-                        chip: Chip {
-                            core,
-                            collector: next,
-                        },
-                    };
-                }
-                let whole = chip;
-                let stepped = byte_step(part, whole, b, code, data, sums, room);
-                let sent = stepped.sent;
-                let fault = stepped.fault;
-                let next = stepped.chip;
-                return Step {
-                    answer: Answer::Replied {
-                        bytes: sent.bytes,
-                        frames: sent.frames,
-                    },
-                    fault,
-                    chip: next,
-                };
-            }
-        },
+            let whole = chip;
+            let stepped = byte_step(part, whole, b, code, data, sums, room);
+            return Step {
+                answer: Ok(stepped.sent),
+                fault: stepped.fault,
+                chip: stepped.chip,
+            };
+        }
     }
 }

@@ -3,6 +3,7 @@
 
 pub mod events;
 
+use chip_reply::Sent;
 use chip_state::Chip;
 use frame::judgement::Judgement;
 use part::refusal::Refusal;
@@ -14,16 +15,11 @@ pub enum Event {
     PowerOn,
 }
 
-#[derive(Clone, Copy)]
-pub enum Answer {
-    Replied { bytes: usize, frames: usize },
-    Refused(Refusal),
-}
-
-// What a step leaves beside what is lent: the answer, the judgement of the frame that it answers where that was judged bad (else Good), and the chip.
+// What a step leaves beside what is lent: the bytes and frames of its reply, or why it was refused; the judgement of the frame that it answers, where that was
+// judged bad (else Good), and the chip.
 #[derive(Clone, Copy)]
 pub struct Step {
-    pub answer: Answer,
+    pub answer: Result<Sent, Refusal>,
     pub fault: Judgement,
     pub chip: Chip,
 }

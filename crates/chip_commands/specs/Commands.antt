@@ -1,5 +1,5 @@
 -- The command frames: document 01, "Phases" and "Commands", in the judging order of "Frames"; 000, chapter 3.
-use Rattle.std.specs.Prelude.{Bool, false, not, List, ℕ, eqb, get_or}
+use Rattle.std.specs.Prelude.{Bool, false, not, List, ℕ, eqb, get_or, Err, Ok, Result}
 use Rattle.chip_core.specs.Effect.{Effect, Memory, acknowledge, awaiting, command_error, effect, says, told}
 use Rattle.chip_core.specs.declared.Core.{Core}
 use Rattle.chip_core.specs.declared.Phase.{Phase}
@@ -10,8 +10,8 @@ use Rattle.commands.specs.Commands.{read_command}
 use Rattle.commands.specs.declared.Command.{Command}
 use Rattle.commands.specs.declared.Command.TheVariants.{BlankCheck, BlockErase, Checksum, Programming, RateSet, Reset, Verify}
 use Rattle.commands.specs.declared.Command.TheVariants.{SecurityGet, SecurityRelease, SecuritySet, SignatureGet}
-use Rattle.commands.specs.declared.Reading.{Reading}
-use Rattle.commands.specs.declared.Reading.TheVariants.{Meant, UnfitLen, Unknown}
+use Rattle.commands.specs.declared.Misread.TheVariants.{UnfitLen, Unknown}
+use Rattle.commands.specs.declared.Misread.{Misread}
 use Rattle.frame.specs.Frame.{payload}
 use Rattle.frame.specs.Judgement.{is_good, judge_of}
 use Rattle.frame.specs.declared.Footer.TheVariants.{Last}
@@ -42,10 +42,10 @@ work SecuritySet p k m = effect (says acknowledge (awaiting 0xA0 0 0 k)) m
 work SecurityRelease p k m = effect (security_release p k m.flash) m
 
 -- "command unknown .. 04h; LEN unfit for the command 15h; ..; then the work"
-unfoldable pub reading_does : Reading → Part → Core → Memory → Effect
-reading_does Unknown p k m = effect (says command_error k) m
-reading_does UnfitLen p k m = effect (told (BadFrame UnfitLength) k) m
-reading_does (Meant c) p k m = work c p k m
+unfoldable pub reading_does : Result Command Misread → Part → Core → Memory → Effect
+reading_does (Err Unknown) p k m = effect (says command_error k) m
+reading_does (Err UnfitLen) p k m = effect (told (BadFrame UnfitLength) k) m
+reading_does (Ok c) p k m = work c p k m
 
 -- A complete command frame: footer and SUM first, then whether the phase allows its COM, the command, its LEN, its parameters, protection, the work.
 unfoldable pub command_does : Part → Core → List ℕ → Memory → Effect

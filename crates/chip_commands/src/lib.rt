@@ -7,18 +7,18 @@ ghost use Rattle.chip_commands.specs.Commands.{allowed_in, work, reading_does, c
 
 use chip_core::{Core, Done, Phase};
 use chip_reply::Reply;
-use commands::{Command, Reading};
+use commands::{Command, Misread};
 use frame::judgement::Judgement;
 use part::Part;
 
+#[tactic(auto, unfolding(crate::specs::Commands::allowed_in))]
 fn allowed_in(phase: Phase, cmd: u8) -> bool
     ensures { result ≡ allowed_in phase cmd }
 {
     match phase {
-        Phase::ModeByte => false,
         Phase::Setup => cmd == 0x9A,
         Phase::Ready => cmd != 0x9A,
-        Phase::Awaiting(w) => false,
+        Phase::ModeByte | Phase::Awaiting(_) => false,
     }
 }
 
@@ -63,7 +63,7 @@ fn work(
 fn reading_does(
     part: Part,
     core: Core,
-    reading: Reading,
+    reading: Result<Command, Misread>,
     code: &mut [u8],
     data: &mut [u8],
     sums: &mut [u16; 72],
@@ -72,12 +72,12 @@ fn reading_does(
         ≡ reading_does reading part core (memory code.old «data».old sums.old) }
 {
     match reading {
-        Reading::Unknown => chip_core::says(core, 0x04),
-        Reading::UnfitLen => Done {
+        Err(Misread::Unknown) => chip_core::says(core, 0x04),
+        Err(Misread::UnfitLen) => Done {
             reply: Reply::BadFrame(Judgement::UnfitLength),
             core,
         },
-        Reading::Meant(c) => work(part, core, c, code, data, sums),
+        Ok(c) => work(part, core, c, code, data, sums),
     }
 }
 
@@ -94,16 +94,15 @@ pub fn command(
         ≡ command_does part core bytes.now (memory code.old «data».old sums.old) }
 {
     let j = frame::judgement::judge(frame::Footer::Last, bytes);
-    if j.is_good() {
-        let phase = core.phase;
-        let payload = frame::payload(bytes);
-        if allowed_in(phase, lent::byte_at(payload, 0)) {
-            return reading_does(part, core, commands::read(payload), code, data, sums);
-        }
+    if !j.is_good() {
+        return Done {
+            reply: Reply::BadFrame(j),
+            core,
+        };
+    }
+    let payload = frame::payload(bytes);
+    if !allowed_in(core.phase, lent::byte_at(payload, 0)) {
         return chip_core::says(core, 0x04);
     }
-    Done {
-        reply: Reply::BadFrame(j),
-        core,
-    }
+    reading_does(part, core, commands::read(payload), code, data, sums)
 }

@@ -2,11 +2,12 @@
 #![tactic(auto)]
 
 ghost use Rattle.std.specs.Prelude.{◌≡◌};
-ghost use Rattle.chip_core.specs.Effect.{awaiting, entered, says};
+ghost use Rattle.chip_core.specs.Effect.{awaiting, bytes_in, entered, flash, says};
 ghost use Rattle.chip_core.specs.Hearing.{hearing};
 
 use chip_options::Options;
 use chip_reply::Reply;
+use part::Area;
 
 // What phase 4 carries. Next and last address are 0 from A0h. Whether a page of 13h has differed is remembered for the last page's status: document 02, §2.
 #[derive(Clone, Copy)]
@@ -50,13 +51,13 @@ pub struct Done {
 }
 
 impl Phase {
+    #[tactic(auto, unfolding(crate::specs::Hearing::hearing))]
     pub fn hearing(self) -> Hearing
         ensures { result ≡ hearing self }
     {
         match self {
             Phase::ModeByte => Hearing::HearsNothing,
-            Phase::Setup => Hearing::HearsCommands,
-            Phase::Ready => Hearing::HearsCommands,
+            Phase::Setup | Phase::Ready => Hearing::HearsCommands,
             Phase::Awaiting(w) => Hearing::HearsData(w),
         }
     }
@@ -67,12 +68,7 @@ impl Core {
     pub fn entered(self, phase: Phase) -> Core
         ensures { result ≡ entered self phase }
     {
-        let options = self.options;
-        Core {
-            options,
-            rate: self.rate,
-            phase,
-        }
+        Core { phase, ..self }
     }
 }
 
@@ -88,15 +84,20 @@ pub fn says(core: Core, status: u8) -> Done
 pub fn awaiting(core: Core, command: u8, next: usize, last: usize) -> Core
     ensures { result ≡ awaiting command next last core }
 {
-    let options = core.options;
-    Core {
-        options,
-        rate: core.rate,
-        phase: Phase::Awaiting(Awaited {
-            command,
-            next,
-            last,
-            differed: false,
-        }),
+    core.entered(Phase::Awaiting(Awaited {
+        command,
+        next,
+        last,
+        differed: false,
+    }))
+}
+
+// The bytes of an area, of the two slices that are lent.
+pub fn area_bytes<'a>(area: Area, code: &'a [u8], data: &'a [u8]) -> &'a [u8]
+    ensures { result.now ≡ bytes_in area (flash code.now «data».now) }
+{
+    match area {
+        Area::CodeFlash => code,
+        Area::DataFlash => data,
     }
 }

@@ -12,8 +12,7 @@ use Rattle.frame.specs.Collector.{added}
 use Rattle.part.specs.Refusal.{number}
 use Rattle.part.specs.declared.Part.{Part}
 use Rattle.part.specs.declared.refusal.Refusal.{Refusal}
-use Rattle.part.specs.declared.refusal.Verdict.{Verdict}
-use Rattle.part.specs.declared.refusal.Verdict.TheVariants.{Accepted, Refused}
+use Rattle.std.specs.Prelude.{Err, Ok, Result}
 use Rattle.chip_core.specs.Effect.{Memory}
 use Rattle.chip_state.specs.Refusals.{verdict_on}
 use Rattle.chip_state.specs.declared.Chip.{Chip}
@@ -32,19 +31,19 @@ use Rattle.chip.specs.declared.Event.TheVariants.{Byte, Gap}
 use Rattle.chip_door.specs.Calls.{answered_by, step_told, stepped_by, stepped_through}
 
 -- The verdicts on a call, before the chip is asked and in all.
-abbrev admission_at : Part → List ℕ → Memory → Verdict
+abbrev admission_at : Part → List ℕ → Memory → Result Unit Refusal
 admission_at p s m = chip_admission p s (length m.flash.code_flash) (length m.flash.data_flash)
 
-abbrev pub acceptance_at : Part → List ℕ → Memory → List ℕ → Verdict
+abbrev pub acceptance_at : Part → List ℕ → Memory → List ℕ → Result Unit Refusal
 acceptance_at p s m room = chip_acceptance p s (length m.flash.code_flash) (length m.flash.data_flash) (length room)
 
-admitted : (p : Part) (s : List ℕ) (m : Memory) (room : List ℕ) → acceptance_at p s m room ≡ Accepted → admission_at p s m ≡ Accepted
+admitted : (p : Part) (s : List ℕ) (m : Memory) (room : List ℕ) → acceptance_at p s m room ≡ Ok tt → admission_at p s m ≡ Ok tt
 admitted p s m room e = go (admission_at p s m) refl
   where
-    go : (v : Verdict) → admission_at p s m ≡ v → admission_at p s m ≡ Accepted
-    go Accepted f = f
-    go (Refused r) f =
-        let x : Accepted ≡ Refused r = sym e ∙ refused-before p s (length m.flash.code_flash) (length m.flash.data_flash) (length room) r f in
+    go : (v : Result Unit Refusal) → admission_at p s m ≡ v → admission_at p s m ≡ Ok tt
+    go (Ok _) f = f
+    go (Err r) f =
+        let x : (Ok tt) ≡ Err r = sym e ∙ refused-before p s (length m.flash.code_flash) (length m.flash.data_flash) (length room) r f in
         absurd (let z : ◌≡◌ {A = ℕ} 0 1 = cc in omega arith)
 
 -- A step that answers nothing, by the chip that is read and the chip that it leaves.
@@ -55,27 +54,27 @@ held s = record { core = core_in s; collector = collector_in s }
 abbrev pub nothing_told : List ℕ
 nothing_told = 0 ∷ 0 ∷ 0 ∷ 0 ∷ []
 
-quiet-steps : (p : Part) (v : Event) (told s l : List ℕ) (c : Chip) (m : Memory) (room : List ℕ) → acceptance_at p s m room ≡ Accepted
+quiet-steps : (p : Part) (v : Event) (told s l : List ℕ) (c : Chip) (m : Memory) (room : List ℕ) → acceptance_at p s m room ≡ Ok tt
     → before c m room ≡ step_of p (held s) v m room → l ≡ chip_bytes c → step_told 0 nothing_told l m room ≡ stepped_through p v told s m room
 unfolding stepped_through stepped_by answered_by
 quiet-steps p v told s l c m room e f g =
     ap (λ (x : List ℕ). step_told 0 nothing_told x m room) g
     ∙ ap (λ (o : Outcome). answered_by o.answer o told s) (f ∙ ap (λ (d : Chip). step_of p d v m room) (sym (chip-in-is s)))
-    ∙ ap (λ (u : Verdict). stepped_by u p v told s m room) (sym (admitted p s m room e))
+    ∙ ap (λ (u : Result Unit Refusal). stepped_by u p v told s m room) (sym (admitted p s m room e))
 
-held-accepted : (p : Part) (s : List ℕ) (m : Memory) (room : List ℕ) → acceptance_at p s m room ≡ Accepted
-    → verdict_on p (held s) (length m.flash.code_flash) (length m.flash.data_flash) (length room) ≡ Accepted
+held-accepted : (p : Part) (s : List ℕ) (m : Memory) (room : List ℕ) → acceptance_at p s m room ≡ Ok tt
+    → verdict_on p (held s) (length m.flash.code_flash) (length m.flash.data_flash) (length room) ≡ Ok tt
 held-accepted p s m room e =
     ap (λ (c : Chip). verdict_on p c (length m.flash.code_flash) (length m.flash.data_flash) (length room)) (sym (chip-in-is s)) ∙ chip-accepts p s _ _ _ e
 
 -- A gap.
-pub gap-steps : (p : Part) (told s : List ℕ) (m : Memory) (room : List ℕ) → Below 256 s → length s ≡ state_size → acceptance_at p s m room ≡ Accepted
+pub gap-steps : (p : Part) (told s : List ℕ) (m : Memory) (room : List ℕ) → Below 256 s → length s ≡ state_size → acceptance_at p s m room ≡ Ok tt
     → step_told 0 nothing_told (count_laid 0 s) m room ≡ stepped_through p Gap told s m room
 gap-steps p told s m room b h e =
     quiet-steps p Gap told s (count_laid 0 s) _ m room e (gap-drops p (held s) m room (held-accepted p s m room e)) (gap-laid s b h (accepted-admits p s _ _ _ e))
 
 -- A byte that is only added.
-pub byte-steps : (p : Part) (b : ℕ) (told s : List ℕ) (m : Memory) (room : List ℕ) → Below 256 s → length s ≡ state_size → acceptance_at p s m room ≡ Accepted
+pub byte-steps : (p : Part) (b : ℕ) (told s : List ℕ) (m : Memory) (room : List ℕ) → Below 256 s → length s ≡ state_size → acceptance_at p s m room ≡ Ok tt
     → is_added s ≡ true → step_told 0 nothing_told (byte_laid b s) m room ≡ stepped_through p (Byte b) told s m room
 byte-steps p b told s m room w h e f =
     quiet-steps p (Byte b) told s (byte_laid b s) _ m room e
@@ -83,16 +82,16 @@ byte-steps p b told s m room w h e f =
     (byte-laid s b w h (accepted-admits p s _ _ _ e) (added-within s w f))
 
 -- A refused call: by the verdict before the chip is asked, or by the chip's own.
-pub refused-steps : (p : Part) (v : Event) (told s : List ℕ) (m : Memory) (room : List ℕ) (r : Refusal) → acceptance_at p s m room ≡ Refused r
+pub refused-steps : (p : Part) (v : Event) (told s : List ℕ) (m : Memory) (room : List ℕ) (r : Refusal) → acceptance_at p s m room ≡ Err r
     → step_told (number r) told s m room ≡ stepped_through p v told s m room
 unfolding stepped_through stepped_by answered_by
 refused-steps p v told s m room r e = go (admission_at p s m) refl
   where
-    go : (u : Verdict) → admission_at p s m ≡ u → step_told (number r) told s m room ≡ stepped_by (admission_at p s m) p v told s m room
-    go (Refused q) f =
-        let x : Refused r ≡ Refused q = sym e ∙ refused-before p s (length m.flash.code_flash) (length m.flash.data_flash) (length room) q f in
-        ap (λ (u : Verdict). stepped_by u p v told s m room) (x ∙ sym f)
-    go Accepted f =
-        let x : verdict_on p (chip_in s) (length m.flash.code_flash) (length m.flash.data_flash) (length room) ≡ Refused r = sym (left-to-chip p s _ _ _ f) ∙ e in
+    go : (u : Result Unit Refusal) → admission_at p s m ≡ u → step_told (number r) told s m room ≡ stepped_by (admission_at p s m) p v told s m room
+    go (Err q) f =
+        let x : Err r ≡ Err q = sym e ∙ refused-before p s (length m.flash.code_flash) (length m.flash.data_flash) (length room) q f in
+        ap (λ (u : Result Unit Refusal). stepped_by u p v told s m room) (x ∙ sym f)
+    go (Ok _) f =
+        let x : verdict_on p (chip_in s) (length m.flash.code_flash) (length m.flash.data_flash) (length room) ≡ Err r = sym (left-to-chip p s _ _ _ f) ∙ e in
         ap (λ (o : Outcome). answered_by o.answer o told s) (step-barred p (chip_in s) v m room r x)
-        ∙ ap (λ (u : Verdict). stepped_by u p v told s m room) (sym f)
+        ∙ ap (λ (u : Result Unit Refusal). stepped_by u p v told s m room) (sym f)

@@ -1,12 +1,11 @@
 -- What each call of the door does and tells: refusals by document 01's numbers, then the chip's own definitions on the state that crossed as bytes. A refused call
 -- changes nothing, the numbers told included.
-use Rattle.std.specs.Prelude.{List, [], ◌∷◌, ℕ, length}
+use Rattle.std.specs.Prelude.{List, [], ◌∷◌, ℕ, length, Err, Ok, Result}
 use Rattle.chip.specs.Run.{before}
 use Rattle.chip_feed.specs.Feed.{feed_of}
 use Rattle.chip.specs.Step.{Outcome, fresh_of, step_of}
-use Rattle.chip.specs.declared.Answer.{Answer}
-use Rattle.chip.specs.declared.Answer.TheVariants.{Replied}
-use Rattle.chip.specs.declared.Answer.TheVariants as Answer
+use Rattle.part.specs.declared.refusal.Refusal.{Refusal}
+use Rattle.chip_reply.specs.declared.Sent.{Sent}
 use Rattle.chip_state.specs.declared.Chip.{Chip}
 use Rattle.chip.specs.declared.Event.{Event}
 use Rattle.chip_layout.specs.Layout.{chip_bytes, chip_in}
@@ -17,18 +16,15 @@ use Rattle.frame.specs.Judgement.{fault_of}
 use Rattle.frame.specs.declared.judgement.Judgement.{Judgement}
 use Rattle.part.specs.Refusal.{number}
 use Rattle.part.specs.declared.Part.{Part}
-use Rattle.part.specs.declared.refusal.Verdict.{Verdict}
-use Rattle.part.specs.declared.refusal.Verdict.TheVariants.{Accepted}
-use Rattle.part.specs.declared.refusal.Verdict.TheVariants as Verdict
 
 -- What an answer is in numbers: the bytes and the frames of the reply.
-unfoldable pub bytes_told : Answer → ℕ
-bytes_told (Replied bytes frames) = bytes
-bytes_told (Answer.Refused r) = 0
+unfoldable pub bytes_told : Result Sent Refusal → ℕ
+bytes_told (Ok sent) = sent.bytes
+bytes_told (Err r) = 0
 
-unfoldable pub frames_told : Answer → ℕ
-frames_told (Replied bytes frames) = frames
-frames_told (Answer.Refused r) = 0
+unfoldable pub frames_told : Result Sent Refusal → ℕ
+frames_told (Ok sent) = sent.frames
+frames_told (Err r) = 0
 
 -- And what the frame was judged, where that was bad (document 02, §4): the fault's number and its place; both 0 where there is none.
 abbrev pub fault_told : Judgement → List ℕ
@@ -42,9 +38,9 @@ pub record Made : Type 0 where
 abbrev pub made : ℕ → List ℕ → Made
 made n state = record { refusal = n; state = state }
 
-unfoldable pub made_by : Answer → Chip → List ℕ → Made
-made_by (Answer.Refused r) c state = made (number r) state
-made_by (Replied bytes frames) c state = made 0 (chip_bytes c)
+unfoldable pub made_by : Result Sent Refusal → Chip → List ℕ → Made
+made_by (Err r) c state = made (number r) state
+made_by (Ok sent) c state = made 0 (chip_bytes c)
 
 unfoldable pub fresh_through : Part → List ℕ → Made
 fresh_through p state =
@@ -76,13 +72,13 @@ abbrev pub step_told : ℕ → List ℕ → List ℕ → Memory → List ℕ →
 step_told n told state m room = record { refusal = n; told = told; state = state; memory = m; room = room }
 
 -- One event: the bytes and the frames of its reply, and the fault of the frame that it answers. The chip itself judges a state, and refuses with its number.
-unfoldable pub answered_by : Answer → Outcome → List ℕ → List ℕ → StepTold
-answered_by (Answer.Refused r) o told state = step_told (number r) told state o.memory o.room
-answered_by (Replied bytes frames) o told state = step_told 0 (bytes ∷ frames ∷ fault_told o.fault) (chip_bytes o.chip) o.memory o.room
+unfoldable pub answered_by : Result Sent Refusal → Outcome → List ℕ → List ℕ → StepTold
+answered_by (Err r) o told state = step_told (number r) told state o.memory o.room
+answered_by (Ok sent) o told state = step_told 0 (sent.bytes ∷ sent.frames ∷ fault_told o.fault) (chip_bytes o.chip) o.memory o.room
 
-unfoldable pub stepped_by : Verdict → Part → Event → List ℕ → List ℕ → Memory → List ℕ → StepTold
-stepped_by (Verdict.Refused r) p v told state m room = step_told (number r) told state m room
-stepped_by Accepted p v told state m room =
+unfoldable pub stepped_by : Result Unit Refusal → Part → Event → List ℕ → List ℕ → Memory → List ℕ → StepTold
+stepped_by (Err r) p v told state m room = step_told (number r) told state m room
+stepped_by (Ok _) p v told state m room =
     let o = step_of p (chip_in state) v m room in
     answered_by o.answer o told state
 
@@ -91,9 +87,9 @@ stepped_through p v told state m room =
     stepped_by (chip_admission p state (length m.flash.code_flash) (length m.flash.data_flash)) p v told state m room
 
 -- A stretch of bytes, up to the first that is answered: how many were taken, and the same of the last.
-unfoldable pub fed_by : Verdict → Part → List ℕ → List ℕ → List ℕ → Memory → List ℕ → StepTold
-fed_by (Verdict.Refused r) p bs told state m room = step_told (number r) told state m room
-fed_by Accepted p bs told state m room =
+unfoldable pub fed_by : Result Unit Refusal → Part → List ℕ → List ℕ → List ℕ → Memory → List ℕ → StepTold
+fed_by (Err r) p bs told state m room = step_told (number r) told state m room
+fed_by (Ok _) p bs told state m room =
     let f = feed_of p bs (before (chip_in state) m room) in
     let o = f.left in
     step_told 0 (f.taken ∷ bytes_told o.answer ∷ frames_told o.answer ∷ fault_told o.fault) (chip_bytes o.chip) o.memory o.room

@@ -2,39 +2,40 @@
 // else it tells goes into lent numbers. Document 01, "Refusal numbers".
 #![tactic(auto)]
 
-ghost use Rattle.std.specs.Prelude.{◌≡◌, ◌<◌, ℕ, get_or, length};
-ghost use Rattle.chip_layout.specs.Layout.{state_size};
+ghost use Rattle.std.specs.Prelude.{◌≡◌};
 ghost use Rattle.chip.specs.declared.Event.TheVariants.{Byte, Gap, PowerOn};
 ghost use Rattle.chip_core.specs.Effect.{flash, memory};
+ghost use Rattle.chip_layout.specs.Admission.{acceptance_number};
 ghost use Rattle.part_layout.specs.Layout.{part_in};
 ghost use Rattle.chip_door.specs.Calls.{bytes_told, fed_through, frames_told, fresh_through, made, stepped_through, step_told, sums_told, summed_through};
 
-use chip::{Answer, Event, events};
+use chip::{Event, events};
 use chip_layout::{admission, in_place};
-use part::refusal::Verdict;
+use chip_reply::Sent;
+use part::refusal::Refusal;
 
-fn bytes_told(answer: Answer) -> usize
-    ensures { result ≡ bytes_told answer }
+// What a call answers: a refusal's number, 0 where there is none.
+fn number_of(call: Result<(), Refusal>) -> u32
+    ensures { result ≡ acceptance_number call }
 {
-    match answer {
-        Answer::Replied {
-            bytes: n,
-            frames: k,
-        } => n,
-        Answer::Refused(refusal) => 0,
+    match call {
+        Err(refusal) => u32::from(refusal.number()),
+        Ok(()) => 0,
     }
 }
 
-fn frames_told(answer: Answer) -> usize
+#[tactic(auto, unfolding(crate::specs::Calls::bytes_told))]
+fn bytes_told(answer: Result<Sent, Refusal>) -> usize
+    ensures { result ≡ bytes_told answer }
+{
+    answer.map_or(0, |sent| sent.bytes)
+}
+
+#[tactic(auto, unfolding(crate::specs::Calls::frames_told))]
+fn frames_told(answer: Result<Sent, Refusal>) -> usize
     ensures { result ≡ frames_told answer }
 {
-    match answer {
-        Answer::Replied {
-            bytes: n,
-            frames: k,
-        } => k,
-        Answer::Refused(refusal) => 0,
-    }
+    answer.map_or(0, |sent| sent.frames)
 }
 
 // A fresh chip of the part into the lent state.
@@ -42,17 +43,11 @@ pub fn zc_fresh(part: &[u8; 19], state: &mut [u8; chip_layout::STATE_SIZE]) -> u
     ensures { made result state.new ≡ fresh_through (part_in part.now) state.old }
 {
     let step = events::fresh(part_layout::part_in(part));
-    let answer = step.answer;
-    match answer {
-        Answer::Replied {
-            bytes: n,
-            frames: k,
-        } => {
-            chip_layout::lay_chip(step.chip, state);
-            0
-        }
-        Answer::Refused(refusal) => refusal.number() as u32,
+    if let Err(refusal) = step.answer {
+        return number_of(Err(refusal));
     }
+    chip_layout::lay_chip(step.chip, state);
+    0
 }
 
 // All sums of a chip's blocks worked out from its flash into the lent numbers: when a chip is taken up.
@@ -60,11 +55,7 @@ pub fn zc_sums(part: &[u8; 19], code: &[u8], data: &[u8], sums: &mut [u16; 72]) 
     ensures { sums_told result sums.new
         ≡ summed_through (part_in part.now) (flash code.now «data».now) sums.old }
 {
-    let v = chip_sums::work_out(part_layout::part_in(part), code, data, sums);
-    match v {
-        Verdict::Refused(refusal) => refusal.number() as u32,
-        Verdict::Accepted => 0,
-    }
+    number_of(chip_sums::work_out(part_layout::part_in(part), code, data, sums))
 }
 
 fn step(
@@ -76,42 +67,25 @@ fn step(
     sums: &mut [u16; 72],
     room: &mut [u8],
     told: &mut [u64; 4],
-) -> u32
-    ensures { step_told result told.new state.new (memory code.new «data».new sums.new) room.new
+) -> Result<(), Refusal>
+    ensures { step_told (acceptance_number result) told.new state.new (memory code.new «data».new sums.new) room.new
         ≡ stepped_through (part_in part.now) event told.old state.old
         (memory code.old «data».old sums.old) room.old }
 {
     let p = part_layout::part_in(part);
-    let v = admission::chip_admission(p, state, code.len(), data.len());
-    match v {
-        Verdict::Refused(refusal) => refusal.number() as u32,
-        Verdict::Accepted => {
-            let chip = chip_layout::chip_in(state);
-            let s = events::step(p, chip, event, code, data, sums, room);
-            let answer = s.answer;
-            match answer {
-                Answer::Refused(refusal) => refusal.number() as u32,
-                Answer::Replied {
-                    bytes: n,
-                    frames: k,
-                } => {
-                    chip_layout::lay_chip(s.chip, state);
-                    let judgement = s.fault;
-                    let fault = judgement.fault();
-                    *told = [n as u64, k as u64, fault.number as u64, fault.place as u64];
-                    0
-                }
-            }
-        }
-    }
-}
-
-// What a state's bytes are known to be: of a lent array the language does not say it, of a slice it does.
-fn are_bytes(state: &[u8])
-    requires { length state.now ≡ state_size }
-    ensures { (i : ℕ) → get_or state.now i 0 < 256 }
-{
-    let b = state[0];
+    admission::chip_admission(p, state, code.len(), data.len())?;
+    let chip = chip_layout::chip_in(state);
+    let s = events::step(p, chip, event, code, data, sums, room);
+    let sent = s.answer?;
+    chip_layout::lay_chip(s.chip, state);
+    let fault = s.fault.fault();
+    *told = [
+        sent.bytes as u64,
+        sent.frames as u64,
+        fault.number as u64,
+        fault.place as u64,
+    ];
+    Ok(())
 }
 
 // A byte comes. The reply, if one is made, lies at the start of the room: told are its bytes and its frames, and the fault of the frame that it answers, with its
@@ -131,7 +105,6 @@ pub fn zc_byte(
         (memory code.old «data».old sums.old) room.old }
 {
     if in_place::is_added(state) {
-        are_bytes(state);
         let p = part_layout::bare_in(part);
         let refused = admission::judge(p, state, code.len(), data.len(), room.len());
         if refused != 0 {
@@ -141,7 +114,7 @@ pub fn zc_byte(
         *told = [0, 0, 0, 0];
         return 0;
     }
-    step(part, state, Event::Byte(b), code, data, sums, room, told)
+    number_of(step(part, state, Event::Byte(b), code, data, sums, room, told))
 }
 
 // A gap comes: only the count of what is collected is new, and it is written where the state lies.
@@ -158,7 +131,6 @@ pub fn zc_gap(
         ≡ stepped_through (part_in part.now) Gap told.old state.old
         (memory code.old «data».old sums.old) room.old }
 {
-    are_bytes(state);
     let p = part_layout::bare_in(part);
     let refused = admission::judge(p, state, code.len(), data.len(), room.len());
     if refused != 0 {
@@ -183,7 +155,7 @@ pub fn zc_power_on(
         ≡ stepped_through (part_in part.now) PowerOn told.old state.old
         (memory code.old «data».old sums.old) room.old }
 {
-    step(part, state, Event::PowerOn, code, data, sums, room, told)
+    number_of(step(part, state, Event::PowerOn, code, data, sums, room, told))
 }
 
 // Bytes one after the other, up to the first that is answered: told are how many were taken, and the same of the last as of a byte. The caller hands the rest in
@@ -203,24 +175,19 @@ pub fn zc_feed(
         (memory code.old «data».old sums.old) room.old }
 {
     let p = part_layout::part_in(part);
-    let v = admission::chip_acceptance(p, state, code.len(), data.len(), room.len());
-    match v {
-        Verdict::Refused(refusal) => refusal.number() as u32,
-        Verdict::Accepted => {
-            let chip = chip_layout::chip_in(state);
-            let f = chip_feed::feed(p, chip, fed, code, data, sums, room);
-            let answer = f.answer;
-            let judgement = f.fault;
-            let fault = judgement.fault();
-            chip_layout::lay_chip(f.chip, state);
-            *told = [
-                f.taken as u64,
-                bytes_told(answer) as u64,
-                frames_told(answer) as u64,
-                fault.number as u64,
-                fault.place as u64,
-            ];
-            0
-        }
+    if let Err(refusal) = admission::chip_acceptance(p, state, code.len(), data.len(), room.len()) {
+        return number_of(Err(refusal));
     }
+    let chip = chip_layout::chip_in(state);
+    let f = chip_feed::feed(p, chip, fed, code, data, sums, room);
+    let fault = f.fault.fault();
+    chip_layout::lay_chip(f.chip, state);
+    *told = [
+        f.taken as u64,
+        bytes_told(f.answer) as u64,
+        frames_told(f.answer) as u64,
+        fault.number as u64,
+        fault.place as u64,
+    ];
+    0
 }

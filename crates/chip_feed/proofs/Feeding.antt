@@ -13,8 +13,9 @@ use borrow.Author.Tests.{eq-eqb, ne_eqb}
 use Rattle.chip.proofs.Saying.{Fitting, none-fits, step_fits}
 use Rattle.chip.specs.Run.{before, onward}
 use Rattle.chip.specs.Step.{Outcome, step_of}
-use Rattle.chip.specs.declared.Answer.{Answer}
-use Rattle.chip.specs.declared.Answer.TheVariants.{Refused, Replied}
+use Rattle.chip_reply.specs.Reply.{sent_as}
+use Rattle.chip_reply.specs.declared.Sent.{Sent}
+use Rattle.std.specs.Prelude.{Err, Ok, Result}
 use Rattle.chip.specs.declared.Event.TheVariants.{Byte}
 use Rattle.chip_core.specs.Effect.{Memory}
 use Rattle.chip_feed.specs.Feed.{Feeding, fed_on, feed_from, feed_of, feeding}
@@ -52,32 +53,32 @@ fed-byte : (p : Part) (bs : List ℕ) (i : ℕ) (o x : Outcome) (t : Feeding) �
 unfolding feed_from
 fed-byte p bs i o x t f e h = rw (e, add-one) (rw (drop-cons bs i 0 h, add-one) at f.rest)
 
-pub on-silent : (a : Answer) (i n k : ℕ) (x : Outcome) (rest : Feeding) → a ≡ Replied n k → k ≤ 0 → fed_on a i x rest ≡ rest
+pub on-silent : (a : Result Sent Refusal) (i n k : ℕ) (x : Outcome) (rest : Feeding) → a ≡ Ok (sent_as n k) → k ≤ 0 → fed_on a i x rest ≡ rest
 unfolding fed_on if◌then◌otherwise◌
 on-silent a i n k x rest e z = rw (e, eq-eqb k 0 (omega arith))
 
-pub on-said : (a : Answer) (i n k : ℕ) (x : Outcome) (rest : Feeding) → a ≡ Replied n k → 0 < k → feeding (i + 1) x ≡ fed_on a i x rest
+pub on-said : (a : Result Sent Refusal) (i n k : ℕ) (x : Outcome) (rest : Feeding) → a ≡ Ok (sent_as n k) → 0 < k → feeding (i + 1) x ≡ fed_on a i x rest
 unfolding fed_on if◌then◌otherwise◌
 on-said a i n k x rest e z = rw (e, ne_eqb k 0 (λ q. omega arith))
 
-pub on-refused : (a : Answer) (i : ℕ) (r : Refusal) (x : Outcome) (rest : Feeding) → a ≡ Refused r → feeding i x ≡ fed_on a i x rest
+pub on-refused : (a : Result Sent Refusal) (i : ℕ) (r : Refusal) (x : Outcome) (rest : Feeding) → a ≡ Err r → feeding i x ≡ fed_on a i x rest
 unfolding fed_on
 on-refused a i r x rest e = rw e
 
 -- An outcome whose answer has been looked at.
-pub looked-at : {x : Outcome} {a : Answer} → x.answer ≡ a → ◌≡◌ {A = Outcome} (record { answer = a; fault = x.fault; chip = x.chip; memory = x.memory; room = x.room }) x
-looked-at {x} {a} e = ap (λ (z : Answer). record { answer = z; fault = x.fault; chip = x.chip; memory = x.memory; room = x.room }) (sym e)
+pub looked-at : {x : Outcome} {a : Result Sent Refusal} → x.answer ≡ a → ◌≡◌ {A = Outcome} (record { answer = a; fault = x.fault; chip = x.chip; memory = x.memory; room = x.room }) x
+looked-at {x} {a} e = ap (λ (z : Result Sent Refusal). record { answer = z; fault = x.fault; chip = x.chip; memory = x.memory; room = x.room }) (sym e)
 
 pub fed-turn : {p : Part} {bs : List ℕ} {i n k : ℕ} {o x : Outcome} {t : Feeding} → FedFrom p bs i o t → x ≡ step_of p o.chip (Byte (get_or bs i 0)) o.memory o.room
-    → i < length bs → x.answer ≡ Replied n k → k ≤ 0 → FedFrom p bs (i + 1) x t
+    → i < length bs → x.answer ≡ Ok (sent_as n k) → k ≤ 0 → FedFrom p bs (i + 1) x t
 fed-turn {p} {bs} {i} {n} {k} {o} {x} {t} f e h a z = record { rest = sym (on-silent x.answer i n k x _ a z) ∙ fed-byte p bs i o x t f e h }
 
 pub fed-said : {p : Part} {bs : List ℕ} {i n k : ℕ} {o x : Outcome} {t : Feeding} → FedFrom p bs i o t → x ≡ step_of p o.chip (Byte (get_or bs i 0)) o.memory o.room
-    → i < length bs → x.answer ≡ Replied n k → 0 < k → feeding (i + 1) x ≡ t
+    → i < length bs → x.answer ≡ Ok (sent_as n k) → 0 < k → feeding (i + 1) x ≡ t
 fed-said {p} {bs} {i} {n} {k} {o} {x} {t} f e h a z = on-said x.answer i n k x _ a z ∙ fed-byte p bs i o x t f e h
 
 pub fed-refused : {p : Part} {bs : List ℕ} {i : ℕ} {r : Refusal} {o x : Outcome} {t : Feeding} → FedFrom p bs i o t
-    → x ≡ step_of p o.chip (Byte (get_or bs i 0)) o.memory o.room → i < length bs → x.answer ≡ Refused r → feeding i x ≡ t
+    → x ≡ step_of p o.chip (Byte (get_or bs i 0)) o.memory o.room → i < length bs → x.answer ≡ Err r → feeding i x ≡ t
 fed-refused {p} {bs} {i} {r} {o} {x} {t} f e h a = on-refused x.answer i r x _ a ∙ fed-byte p bs i o x t f e h
 
 pub fed-end : {p : Part} {bs : List ℕ} {i : ℕ} {o : Outcome} {t : Feeding} → FedFrom p bs i o t → length bs ≤ i → feeding i o ≡ t
@@ -85,11 +86,11 @@ unfolding feed_from
 fed-end {p} {bs} {i} {o} {t} f h = rw (drop_of_length-le bs h) at f.rest
 
 -- How many bytes are taken: none twice, none that is not there, and at least one where there is one and it is not refused.
-on-taken : (a : Answer) (n h : ℕ) (x : Outcome) (rest : Feeding) → n < h → n + 1 ≤ rest.taken → rest.taken ≤ h
+on-taken : (a : Result Sent Refusal) (n h : ℕ) (x : Outcome) (rest : Feeding) → n < h → n + 1 ≤ rest.taken → rest.taken ≤ h
     → (n ≤ (fed_on a n x rest).taken) × ((fed_on a n x rest).taken ≤ h)
 unfolding fed_on if◌then◌otherwise◌
-on-taken (Refused r) n h x rest l u v = (omega arith, omega arith)
-on-taken (Replied m k) n h x rest l u v = go (eqb k 0)
+on-taken (Err r) n h x rest l u v = (omega arith, omega arith)
+on-taken (Ok sent) n h x rest l u v = go (eqb sent.frames 0)
   where
     go : (t : Bool) → (n ≤ (if t then rest otherwise feeding (n + 1) x).taken) × ((if t then rest otherwise feeding (n + 1) x).taken ≤ h)
     go true = (omega arith, v)
@@ -102,28 +103,28 @@ feed-within p n (b ∷ bs) o =
     let i = feed-within p (n + 1) bs (onward p o (Byte b)) in
     on-taken (onward p o (Byte b)).answer n (n + length (b ∷ bs)) (onward p o (Byte b)) (feed_from p (n + 1) bs (onward p o (Byte b))) (omega arith) i.0 (omega (arith, i.1))
 
-on-takes : (a : Answer) (n m k : ℕ) (x : Outcome) (rest : Feeding) → x.answer ≡ a → n + 1 ≤ rest.taken → (fed_on a n x rest).left.answer ≡ Replied m k
+on-takes : (a : Result Sent Refusal) (n m k : ℕ) (x : Outcome) (rest : Feeding) → x.answer ≡ a → n + 1 ≤ rest.taken → (fed_on a n x rest).left.answer ≡ Ok (sent_as m k)
     → n + 1 ≤ (fed_on a n x rest).taken
 unfolding fed_on if◌then◌otherwise◌
-on-takes (Refused r) n m k x rest e u q = absurd (let z : ◌≡◌ {A = ℕ} 0 1 = cc in omega arith)
-on-takes (Replied j i) n m k x rest e u q = go (eqb i 0)
+on-takes (Err r) n m k x rest e u q = absurd (let z : ◌≡◌ {A = ℕ} 0 1 = cc in omega arith)
+on-takes (Ok sent) n m k x rest e u q = go (eqb sent.frames 0)
   where
     go : (t : Bool) → n + 1 ≤ (if t then rest otherwise feeding (n + 1) x).taken
     go true = u
     go false = omega arith
 
-pub feed-takes : (p : Part) (n m k b : ℕ) (bs : List ℕ) (o : Outcome) → (feed_from p n (b ∷ bs) o).left.answer ≡ Replied m k → n + 1 ≤ (feed_from p n (b ∷ bs) o).taken
+pub feed-takes : (p : Part) (n m k b : ℕ) (bs : List ℕ) (o : Outcome) → (feed_from p n (b ∷ bs) o).left.answer ≡ Ok (sent_as m k) → n + 1 ≤ (feed_from p n (b ∷ bs) o).taken
 unfolding feed_from
 feed-takes p n m k b bs o q =
     on-takes (onward p o (Byte b)).answer n m k (onward p o (Byte b)) (feed_from p (n + 1) bs (onward p o (Byte b))) refl
     (feed-within p (n + 1) bs (onward p o (Byte b))).0 q
 
 -- What a stretch says lies in the room, as what a step says does.
-fed-on-fits : (a : Answer) (n : ℕ) (x : Outcome) (rest : Feeding) → Fitting x.answer (length x.room) → Fitting rest.left.answer (length rest.left.room)
+fed-on-fits : (a : Result Sent Refusal) (n : ℕ) (x : Outcome) (rest : Feeding) → Fitting x.answer (length x.room) → Fitting rest.left.answer (length rest.left.room)
     → Fitting (fed_on a n x rest).left.answer (length (fed_on a n x rest).left.room)
 unfolding fed_on if◌then◌otherwise◌
-fed-on-fits (Refused r) n x rest f g = f
-fed-on-fits (Replied b k) n x rest f g = go (eqb k 0)
+fed-on-fits (Err r) n x rest f g = f
+fed-on-fits (Ok sent) n x rest f g = go (eqb sent.frames 0)
   where
     go : (t : Bool) → Fitting (if t then rest otherwise feeding (n + 1) x).left.answer (length (if t then rest otherwise feeding (n + 1) x).left.room)
     go true = g

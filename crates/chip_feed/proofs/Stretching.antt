@@ -25,7 +25,7 @@ use Rattle.frame.specs.Collector.{added}
 use Rattle.frame.specs.Frame.{counted, lacking_of}
 use Rattle.frame.specs.declared.collector.Collector.{Collector}
 use Rattle.part.specs.declared.Part.{Part}
-use Rattle.part.specs.declared.refusal.Verdict.TheVariants.{Accepted}
+use Rattle.std.specs.Prelude.{Ok}
 use Rattle.words.specs.Words.{if◌then◌otherwise◌}
 
 -- The loop over a stretch: what the bytes still to come make of it stays the same.
@@ -43,7 +43,7 @@ take-most (suc m) [] = omega arith
 take-most (suc m) (x ∷ xs) = omega (arith, take-most m xs)
 
 stretch-fed : (p : Part) (bs : List ℕ) (k i : ℕ) (c : Chip) (m : Memory) (room : List ℕ) (t : Feeding) → FedFrom p bs i (before c m room) t
-    → length c.collector.bytes ≡ 260 → counted (get_or c.collector.bytes 1 0) ≤ 256 → verdict_at p c m room ≡ Accepted → 2 ≤ c.collector.len
+    → length c.collector.bytes ≡ 260 → counted (get_or c.collector.bytes 1 0) ≤ 256 → verdict_at p c m room ≡ Ok tt → 2 ≤ c.collector.len
     → c.collector.len + k ≤ counted (get_or c.collector.bytes 1 0) + 3 → i + k ≤ length bs
     → FedFrom p bs (i + k) (before (stretched c (take k (drop i bs))) m room) t
 stretch-fed p bs zero i c m room t f l s a h n r =
@@ -54,7 +54,7 @@ stretch-fed p bs (suc k) i c m room t f l s a h n r =
     let z = take k (drop (i + 1) bs) in
     let e : before (after c b) m room ≡ step_of p c (Byte b) m room = byte-heard p c m room l a h (omega arith) b in
     let g : FedFrom p bs (i + 1) (before (after c b) m room) t = fed-turn f e (omega arith) refl (omega arith) in
-    let v : verdict_at p (after c b) m room ≡ Accepted = still-accepted p c m room l a h (omega arith) b s in
+    let v : verdict_at p (after c b) m room ≡ (Ok tt) = still-accepted p c m room l a h (omega arith) b s in
     let q : get_or (added c.collector (b ∷ [])).bytes 1 0 ≡ get_or c.collector.bytes 1 0 = added-at p c m room l a h (omega arith) 1 b (omega arith) in
     let w : counted (get_or (added c.collector (b ∷ [])).bytes 1 0) ≡ counted (get_or c.collector.bytes 1 0) = ap counted q in
     let o : (added c.collector (b ∷ [])).len ≡ c.collector.len + 1 = added-count c.collector (b ∷ []) l (omega arith) in
@@ -94,7 +94,7 @@ one-taken bs i k e h = let n : i + k - i ≡ 1 = omega arith in rw (n, drop-cons
 
 -- A turn of the loop that takes bytes that are only added.
 pub fed-stretch : {p : Part} {bs : List ℕ} {i : ℕ} {o : Outcome} {t : Feeding} (k : ℕ) (d : Collector) → FedFrom p bs i o t → length o.chip.collector.bytes ≡ 260
-    → counted (get_or o.chip.collector.bytes 1 0) ≤ 256 → verdict_at p o.chip o.memory o.room ≡ Accepted
+    → counted (get_or o.chip.collector.bytes 1 0) ≤ 256 → verdict_at p o.chip o.memory o.room ≡ Ok tt
     → k ≡ added_next o.chip.collector.len (get_or o.chip.collector.bytes 1 0) (length bs - i) → 0 < k → i < length bs
     → d ≡ added o.chip.collector (take (i + k - i) (drop i bs))
     → FedFrom p bs (i + k) (before (record { core = o.chip.core; collector = d }) o.memory o.room) t

@@ -1,9 +1,9 @@
 -- A stretch of bytes: document 01's step for each, up to the first that is answered. A recording and a caller with more than one byte stand on it.
-use Rattle.std.specs.Prelude.{List, [], ◌∷◌, ◌+◌, ℕ, eqb}
+use Rattle.std.specs.Prelude.{List, [], ◌∷◌, ◌+◌, ℕ, eqb, Err, Ok, Result}
 use Rattle.chip.specs.Run.{onward}
 use Rattle.chip.specs.Step.{Outcome}
-use Rattle.chip.specs.declared.Answer.{Answer}
-use Rattle.chip.specs.declared.Answer.TheVariants.{Refused, Replied}
+use Rattle.part.specs.declared.refusal.Refusal.{Refusal}
+use Rattle.chip_reply.specs.declared.Sent.{Sent}
 use Rattle.chip.specs.declared.Event.TheVariants.{Byte}
 use Rattle.chip_core.specs.Effect.{Memory}
 use Rattle.chip_feed.specs.declared.Fed.{Fed}
@@ -19,9 +19,9 @@ abbrev pub feeding : ℕ → Outcome → Feeding
 feeding n o = record { taken = n; left = o }
 
 -- After a byte's answer, n bytes having been taken before it: the rest goes on only in silence.
-unfoldable pub fed_on : Answer → ℕ → Outcome → Feeding → Feeding
-fed_on (Replied bytes frames) n o rest = if eqb frames 0 then rest otherwise feeding (n + 1) o
-fed_on (Refused r) n o rest = feeding n o
+unfoldable pub fed_on : Result Sent Refusal → ℕ → Outcome → Feeding → Feeding
+fed_on (Ok sent) n o rest = if eqb sent.frames 0 then rest otherwise feeding (n + 1) o
+fed_on (Err r) n o rest = feeding n o
 
 unfoldable pub feed_from : Part → ℕ → List ℕ → Outcome → Feeding
 feed_from p n [] o = feeding n o

@@ -8,17 +8,18 @@ ghost use Rattle.chip_feed.specs.Feed.{fed, feed_of};
 ghost use Rattle.chip_feed.specs.Inner.Turn.{added_next};
 ghost use Rattle.frame.specs.Frame.{counted};
 
-use chip::{Answer, Event, events};
+use chip::{Event, events};
+use chip_reply::Sent;
 use chip_state::{Chip, Handed};
 use frame::judgement::Judgement;
 use part::Part;
-use part::refusal::Verdict;
+use part::refusal::Refusal;
 
 // What a stretch of bytes came to: how many were taken, and what the step of the last one left.
 #[derive(Clone, Copy)]
 pub struct Fed {
     pub taken: usize,
-    pub answer: Answer,
+    pub answer: Result<Sent, Refusal>,
     pub fault: Judgement,
     pub chip: Chip,
 }
@@ -51,10 +52,7 @@ pub fn feed(
 {
     let mut core = chip.core;
     let mut collector = chip.collector;
-    let mut answer = Answer::Replied {
-        bytes: 0,
-        frames: 0,
-    };
+    let mut answer = Ok(Sent::NOTHING);
     let mut fault = Judgement::Good;
     let mut i = 0;
     while i < bytes.len() {
@@ -71,72 +69,53 @@ pub fn feed(
                 data: data.len(),
                 room: room.len(),
             };
-            let v = chip_state::verdict(part, core, handed);
-            match v {
-                Verdict::Refused(refusal) => {
-                    return Fed {
-                        taken: i,
-                        answer: Answer::Refused(refusal),
-                        fault: Judgement::Good,
-                        chip: Chip {
-                            core,
-                            collector: old,
-                        },
-                    };
-                }
-                Verdict::Accepted => {
-                    let end = i + k;
-                    collector = old.add_all(&bytes[i..end]);
-                    i = end;
-                    answer = Answer::Replied {
-                        bytes: 0,
-                        frames: 0,
-                    };
-                    fault = Judgement::Good;
-                }
+            if let Err(refusal) = chip_state::verdict(part, core, handed) {
+                return Fed {
+                    taken: i,
+                    answer: Err(refusal),
+                    fault: Judgement::Good,
+                    chip: Chip {
+                        core,
+                        collector: old,
+                    },
+                };
             }
+            let end = i + k;
+            collector = old.add_all(&bytes[i..end]);
+            i = end;
+            answer = Ok(Sent::NOTHING);
+            fault = Judgement::Good;
         } else {
-            let b = bytes[i];
-            let taken = i + 1;
             let whole = Chip {
                 core,
                 collector: old,
             };
-            let stepped = events::step(part, whole, Event::Byte(b), code, data, sums, room);
+            let event = Event::Byte(bytes[i]);
+            let stepped = events::step(part, whole, event, code, data, sums, room);
             let chip = stepped.chip;
-            let said = stepped.answer;
             let found = stepped.fault;
-            match said {
-                Answer::Refused(refusal) => {
+            match stepped.answer {
+                Err(refusal) => {
                     return Fed {
                         taken: i,
-                        answer: Answer::Refused(refusal),
+                        answer: Err(refusal),
                         fault: found,
                         chip,
                     };
                 }
-                Answer::Replied {
-                    bytes: n,
-                    frames: replies,
-                } => {
-                    i = taken;
-                    if 0 < replies {
+                Ok(sent) => {
+                    i += 1;
+                    if 0 < sent.frames {
                         return Fed {
-                            taken,
-                            answer: Answer::Replied {
-                                bytes: n,
-                                frames: replies,
-                            },
+                            taken: i,
+                            answer: Ok(sent),
                             fault: found,
                             chip,
                         };
                     }
                     core = chip.core;
                     collector = chip.collector;
-                    answer = Answer::Replied {
-                        bytes: n,
-                        frames: replies,
-                    };
+                    answer = Ok(sent);
                     fault = found;
                 }
             }

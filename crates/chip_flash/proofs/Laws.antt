@@ -1,7 +1,7 @@
 -- Laws about blank, erased and programmed bytes: how far each loop has come, and what a caller may conclude from an answer.
 -- Assumes nothing.
-use mathlib.Core.Bool.{Bool, false, true}
-use mathlib.Core.List.{List, [], ◌++◌, ◌∷◌, append-nil}
+use mathlib.Core.Bool.{◌&&◌, Bool, false, true}
+use mathlib.Core.List.{List, [], ◌++◌, ◌∷◌}
 use mathlib.Core.Path.{◌∙◌, ◌≡◌, ap, refl, sym}
 use Prim.Native.Nat.{◌+◌, ◌-◌, ◌<◌, ◌≤◌, min, suc, zero, ℕ}
 use native.Mathlib.Decide.{dec_le}
@@ -10,57 +10,42 @@ use native.Mathlib.Numerals.{add-one}
 use native.Mathlib.Omega.{arith}
 use lib.Bits.{bit_and}
 use lib.Dec.{eqb}
-use lib.ListN.{drop, get_or, length, drop_of_length-le, length-drop, length-replicate, length-set, length-take, replicate, replicate-append-replicate, set, take}
-use lib.Seq.{append_snoc, drop-cons, drop-length, length-take-le, set_at, take_all, take-nil}
+use lib.ListN.{drop, get_or, length, drop_of_length-le, length-drop, length-replicate, length-take, replicate, set, take}
+use lib.Seq.{length-take-le, take_all, take-nil}
 use Rattle.chip_flash.specs.Flash.{blank, erase_of, erased, lands, program_of, programmed}
-use Rattle.lent.proofs.Laws.{SameFrom, all-is, part-put, put-lands, put-long, put-nothing, put-short, same-apart, same_end, same_start, same_turn}
+use Rattle.lent.proofs.Laws.{all-is, part-put, put-lands, put-long, put-nothing, put-short, same-apart, same_is_pointwise}
 use Rattle.lent.specs.Lent.{Left, left, put_at, put_of}
-use Rattle.lent.specs.declared.Room.{Room}
-use Rattle.lent.specs.declared.Room.TheVariants.{Enough, Short}
-use Rattle.words.specs.Words.{◌and◌}
+use Rattle.std.specs.Cmp.Lexicographic.{pointwise}
+use Rattle.std.specs.List.{fold, zip}
+use Rattle.lent.specs.declared.Short.{Short}
+use Rattle.std.specs.Prelude.{Err, Ok, Result}
 
 -- Blank bytes are so many bytes FFh, and nothing else.
 pub blank-is : (bs : List ℕ) → blank bs ≡ true → bs ≡ replicate (length bs) erased
 unfolding blank
 blank-is bs t = all-is erased bs t
 
--- How far a fill has come: the first i bytes are FFh, the others still stand.
-pub record Filled (l : List ℕ) (i : ℕ) (d : List ℕ) : Type 0 where
-  pub is : d ≡ replicate i erased ++ drop i l
-  pub long : length d ≡ length l
-
-pub filled-start : (l : List ℕ) → Filled l 0 l
-filled-start l = record { is = refl; long = refl }
-
-pub filled-turn : {l d : List ℕ} {i : ℕ} → Filled l i d → i < length l → Filled l (i + 1) (set d i erased)
-filled-turn {l} {d} {i} f h =
-    record {
-      is = rw (f.is, drop-cons l i 0 h, set_at _ _ _ _ i (length-replicate i erased), ← replicate-append-replicate i 1 erased, add-one, append_snoc);
-      long = length-set d i erased ∙ f.long;
-    }
-
-pub filled-end : {l d : List ℕ} {i : ℕ} → Filled l i d → i ≡ length l → d ≡ replicate (length l) erased
-filled-end {l} {d} {i} f h = f.is ∙ rw (h, drop-length, append-nil)
-
-pub erase-short : (l : List ℕ) (at n : ℕ) → length l < at + n → left Short l ≡ erase_of l at n
+pub erase-short : (l : List ℕ) (at n : ℕ) → length l < at + n → left (Err (record {})) l ≡ erase_of l at n
 unfolding erase_of
 erase-short l at n h = put-short l at (replicate n erased) (rw length-replicate h)
 
-pub erase-fits : (l : List ℕ) (at n : ℕ) → at + n ≤ length l → erase_of l at n ≡ left Enough (put_at l at (replicate n erased))
+pub erase-fits : (l : List ℕ) (at n : ℕ) → at + n ≤ length l → erase_of l at n ≡ left (Ok tt) (put_at l at (replicate n erased))
 unfolding erase_of
 erase-fits l at n h = put-lands l at (replicate n erased) (rw length-replicate h)
 
 -- A part lent to a fill comes back in this form.
 pub erase-lands : (l : List ℕ) (at n : ℕ) (t : List ℕ) → at + n ≤ length l → t ≡ replicate (length (take (at + n - at) (drop at l))) erased
-    → left Enough (take at l ++ (t ++ drop (at + n - at) (drop at l))) ≡ erase_of l at n
+    → left (Ok tt) (take at l ++ (t ++ drop (at + n - at) (drop at l))) ≡ erase_of l at n
 unfolding erase_of
 erase-lands l at n t h e =
     let m : at + n - at ≡ n = omega arith in
     let k : length (take n (drop at l)) ≡ n = length-take-le n (drop at l) (rw length-drop (omega arith)) in
     rw (e, m, k) (part-put l at n (replicate n erased) h (length-replicate n erased))
 
+pub ruleset erasing = (erase-short, erase-lands)
+
 -- An erase does not change how many bytes there are, done or refused.
-pub erase-long : {a : Room} {d : List ℕ} (l : List ℕ) (at n : ℕ) → left a d ≡ erase_of l at n → length d ≡ length l
+pub erase-long : {a : Result Unit Short} {d : List ℕ} (l : List ℕ) (at n : ℕ) → left a d ≡ erase_of l at n → length d ≡ length l
 unfolding erase_of
 erase-long l at n e = put-long l at (replicate n erased) e
 
@@ -145,25 +130,31 @@ pub cleared-end : {l new d : List ℕ} {i end : ℕ} → Cleared l new i d → R
 cleared-end {l} {new} {d} {i} f (by_new e h) k = f.is ∙ ap (programmed l) (take_all i new (omega arith))
 cleared-end {l} {new} {d} {i} f (by_old e h) k = f.is ∙ programmed-front l new i (omega arith)
 
--- How far the test has come whether programming leaves what was sent.
-pub lands-apart : (old new : List ℕ) → (length old ≡ length new → ⊥) → false ≡ lands old new
+-- Whether programming leaves what was sent, as a fold over the pairs.
+abbrev pub lands_step : Bool → ℕ × ℕ → Bool
+lands_step ok p = ok && eqb (bit_and p.0 p.1) p.1
+
+joined : (a b c : Bool) → ((a && b) && c) ≡ (a && (b && c))
+joined true b c = refl
+joined false b c = refl
+
+lands-folded : (ok : Bool) (old new : List ℕ) → length old ≡ length new
+    → fold lands_step ok (zip old new) ≡ (ok && pointwise eqb (programmed old new) new)
+unfolding programmed
+lands-folded true [] [] e = refl
+lands-folded false [] [] e = refl
+lands-folded ok [] (c ∷ cs) e = absurd (omega arith)
+lands-folded ok (b ∷ bs) [] e = absurd (omega arith)
+lands-folded ok (b ∷ bs) (c ∷ cs) e =
+    lands-folded (ok && eqb (bit_and b c) c) bs cs (omega arith) ∙ joined ok (eqb (bit_and b c) c) (pointwise eqb (programmed bs cs) cs)
+
+pub lands-fold : (old new : List ℕ) → length old ≡ length new → fold lands_step true (zip old new) ≡ lands old new
 unfolding lands
-lands-apart old new d = same-apart (programmed old new) new (λ e. d (sym (programmed-long old new) ∙ e))
+lands-fold old new e = lands-folded true old new e ∙ sym (same_is_pointwise (programmed old new) new)
 
-pub record LandsFrom (ok : Bool) (old new : List ℕ) (i : ℕ) : Type 0 where
-  pub rest : SameFrom ok (programmed old new) new i (lands old new)
-
-pub lands-start : (old new : List ℕ) → LandsFrom true old new 0
+pub lands-apart : (old new : List ℕ) → (length old ≡ length new → ⊥) → lands old new ≡ false
 unfolding lands
-lands-start old new = record { rest = same_start (programmed old new) new }
-
-pub lands-turn : {ok r : Bool} {old new : List ℕ} {i : ℕ} → LandsFrom ok old new i → r ≡ (ok and eqb (bit_and (get_or old i 0) (get_or new i 0)) (get_or new i 0))
-    → i < length old → i < length new → LandsFrom r old new (i + 1)
-lands-turn {ok} {r} {old} {new} {i} f e h k =
-    record { rest = same_turn f.rest (rw (programmed-at old new i h k) e) (omega (arith, programmed-long old new)) k }
-
-pub lands-end : {ok : Bool} {old new : List ℕ} {i : ℕ} → LandsFrom ok old new i → length old ≤ i → length new ≤ i → ok ≡ lands old new
-lands-end {ok} {old} {new} {i} f h k = same_end f.rest (omega (arith, programmed-long old new)) k
+lands-apart old new d = sym (same-apart (programmed old new) new (λ e. d (sym (programmed-long old new) ∙ e)))
 
 -- Programming at a place: past the end there is nothing to program.
 pub program-past : (l : List ℕ) (at n : ℕ) (new : List ℕ) → length l ≤ at → l ≡ program_of l at n new
@@ -197,6 +188,8 @@ program-lands l at n new {k} {t} h e f =
     let long : length t ≡ k = rw g (programmed-long (take n (drop at l)) new ∙ s.1) in
     let in-it : at + k ≤ length l = omega (arith, s.1, length-take n (drop at l), length-drop at l) in
     rw m (ap (λ (x : Left). x.bytes) (part-put l at k t in-it long) ∙ ap (λ (r : List ℕ). (put_of l at r).bytes) g)
+
+pub ruleset programming = (program-past, least-within, program-lands)
 
 pub program-is : (l : List ℕ) (at n : ℕ) (new : List ℕ) → program_of l at n new ≡ (put_of l at (programmed (take n (drop at l)) new)).bytes
 unfolding program_of

@@ -2,83 +2,61 @@
 // named stretch stays. What the bytes mean stands in the chip.
 #![tactic(auto)]
 
-ghost use Rattle.std.specs.Prelude.{◌≡◌, min, length, replicate};
+ghost use Rattle.std.specs.Prelude.{◌≡◌};
 ghost use Rattle.lent.specs.Lent.{left};
-ghost use Rattle.chip_flash.specs.Flash.{blank, erased, erase_of, lands, programmed, program_of, sum_of_bytes};
+ghost use Rattle.chip_flash.specs.Flash.{blank, erase_of, lands, programmed, program_of, sum_of_bytes};
 
-use lent::Room;
+use lent::Short;
 
+#[tactic(auto, unfolding(crate::specs::Flash::blank))]
 pub fn is_blank(bytes: &[u8]) -> bool
     ensures { result ≡ blank bytes.now }
 {
     lent::are_all(bytes, 0xFF)
 }
 
-// On the part alone, and not on a place in the whole flash: the loop's index is then the only one.
-fn fill(part: &mut [u8])
-    ensures { part.new ≡ replicate (length part.old) erased }
-{
-    for i in 0..part.len() {
-        part[i] = 0xFF;
-    }
-}
-
-pub fn erase(flash: &mut [u8], at: usize, n: usize) -> Room
+#[tactic(auto, using(crate::proofs::Laws::erasing))]
+pub fn erase(flash: &mut [u8], at: usize, n: usize) -> Result<(), Short>
     ensures { left result flash.new ≡ erase_of flash.old at n }
 {
-    if flash.len() < n {
-        return Room::Short;
+    if flash.len() < n || flash.len() - n < at {
+        return Err(Short);
     }
-    if flash.len() - n < at {
-        return Room::Short;
-    }
-    let end = at + n;
-    fill(&mut flash[at..end]);
-    Room::Enough
+    flash[at..at + n].fill(0xFF);
+    Ok(())
 }
 
-// Whether programming these bytes over those leaves what was sent.
+// Whether programming these bytes over those leaves what was sent. The test carries its answer and never returns early: it takes many bytes at once.
 pub fn lands(old: &[u8], new: &[u8]) -> bool
     ensures { result ≡ lands old.now new.now }
 {
-    if old.len() != new.len() {
-        return false;
-    }
-    let mut ok = true;
-    for i in 0..old.len() {
-        ok = lent::keep(ok, old[i] & new[i], new[i]);
-    }
-    ok
-}
-
-fn lesser(a: usize, b: usize) -> usize
-    ensures { result ≡ min a b }
-{
-    if a < b {
-        return a;
-    }
-    b
+    old.len() == new.len()
+        && old
+            .iter()
+            .zip(new)
+            .fold(true, |ok, (&o, &n)| ok & (o & n == n))
 }
 
 fn clear(part: &mut [u8], new: &[u8])
     ensures { part.new ≡ programmed part.old new.now }
 {
-    let end = lesser(new.len(), part.len());
+    let end = new.len().min(part.len());
     for i in 0..end {
-        part[i] = part[i] & new[i];
+        part[i] &= new[i];
     }
 }
 
+#[tactic(auto, using(crate::proofs::Laws::programming))]
 pub fn program(flash: &mut [u8], at: usize, n: usize, new: &[u8])
     ensures { flash.new ≡ program_of flash.old at n new.now }
 {
-    if flash.len() <= at {
-        return;
+    if at < flash.len() {
+        let end = at + n.min(flash.len() - at);
+        clear(&mut flash[at..end], new);
     }
-    let end = at + lesser(n, flash.len() - at);
-    clear(&mut flash[at..end], new);
 }
 
+#[tactic(auto, unfolding(crate::specs::Flash::sum_of_bytes))]
 pub fn sum(bytes: &[u8]) -> u16
     ensures { result ≡ sum_of_bytes bytes.now }
 {

@@ -13,16 +13,14 @@ use part::Part;
 pub fn mode_byte(core: Core, b: u8) -> Core
     ensures { result ≡ mode_byte core b }
 {
-    if b == 0x3A {
-        return core.entered(Phase::Setup);
-    }
-    if b == 0x00 {
+    if b == 0x3A || b == 0x00 {
         return core.entered(Phase::Setup);
     }
     core
 }
 
 // A complete frame, by what the phase hears.
+#[tactic(auto, unfolding(crate::specs::Does::frame_does))]
 pub fn frame_does(
     part: Part,
     core: Core,
@@ -34,9 +32,7 @@ pub fn frame_does(
     ensures { effect result (memory code.new «data».new sums.new)
         ≡ frame_does (hearing core.phase) part core bytes.now (memory code.old «data».old sums.old) }
 {
-    let phase = core.phase;
-    let hears = phase.hearing();
-    match hears {
+    match core.phase.hearing() {
         Hearing::HearsNothing => Done {
             reply: Reply::Silence,
             core,

@@ -24,14 +24,13 @@ use Rattle.frame.proofs.Laws.Sum.{Below, below_at}
 use Rattle.frame.specs.Collector.{added, collecting, dropped}
 use Rattle.frame.specs.Frame.{lacking_of}
 use Rattle.frame.specs.declared.collector.Collector.{Collector}
-use Rattle.lent.proofs.Laws.{all-is, part-put}
-use Rattle.lent.specs.Lent.{Left, all_are, left, put_of}
-use Rattle.lent.specs.declared.Room.{Room}
+use Rattle.lent.proofs.Laws.{all-is}
+use Rattle.lent.specs.Lent.{all_are}
+use Rattle.std.specs.Prelude.{Err, Ok}
 use Rattle.numbers.proofs.Laws.{bit_is, low-2, low-long, low-number, number-4, number-8, number-below}
 use Rattle.numbers.specs.Numbers.{bit, low_first, number_at}
 use Rattle.part.specs.declared.Part.{Part}
 use Rattle.part.specs.declared.refusal.Refusal.{Refusal}
-use Rattle.part.specs.declared.refusal.Verdict.TheVariants.{Accepted, Refused}
 use Rattle.words.proofs.Laws.{and_left, and_right}
 use Rattle.words.specs.Words.{◌from◌to◌, ◌or◌, if◌then◌otherwise◌}
 
@@ -241,13 +240,10 @@ pub added-lacks : (bs : List ℕ) → is_added bs ≡ true → 0 < lacking_of (c
 unfolding is_added collector_in
 added-lacks bs e = rw (get_or-take 260 (drop 33 bs) 1 0 (omega arith), get_or-drop 33 bs 1 0) (ltb-true _ _ e)
 
--- As the code writes: the count put at its place, and the byte stored.
-pub count-put : (s l c : List ℕ) (a : Room) (n : ℕ) → left a l ≡ put_of s 25 c → c ≡ low_first 8 n → length s ≡ state_size → l ≡ count_laid n s
+-- As the code writes: the count copied to its place, and the byte stored.
+pub count-copied : (s c : List ℕ) (n : ℕ) → c ≡ low_first 8 n → take 25 s ++ (c ++ drop 8 (drop 25 s)) ≡ count_laid n s
 unfolding count_laid
-count-put s l c a n e f h =
-    let k : length c ≡ 8 = ap length f ∙ low-long 8 n in
-    ap (λ (x : Left). x.bytes) (e ∙ sym (part-put s 25 8 c (omega arith) k)) ∙ ap (λ (x : List ℕ). take 25 s ++ (c ++ x)) (drop-drop 8 25 s)
-    ∙ sym (append_assoc (take 25 s) c (drop 33 s)) ∙ ap (λ (x : List ℕ). take 25 s ++ x ++ drop 33 s) f
+count-copied s c n e = rw (e, drop-drop 8 25 s, append_assoc)
 
 pub byte-stored : (s l : List ℕ) (n b : ℕ) → l ≡ count_laid (n + 1) s → n ≡ number_at 8 25 s → n < 260 → set l (33 + n) b ≡ byte_laid b s
 byte-stored s l n b e f h =
@@ -258,12 +254,12 @@ unfolding byte_laid if◌then◌otherwise◌
 byte_left s n b e h = simp (le-ltb (number_at 8 25 s) 260 (omega arith))
 
 -- A verdict before the chip is asked is the call's; otherwise it is the chip's.
-pub refused-before : (p : Part) (state : List ℕ) (code «data» room : ℕ) (r : Refusal) → chip_admission p state code «data» ≡ Refused r
-    → chip_acceptance p state code «data» room ≡ Refused r
+pub refused-before : (p : Part) (state : List ℕ) (code «data» room : ℕ) (r : Refusal) → chip_admission p state code «data» ≡ Err r
+    → chip_acceptance p state code «data» room ≡ Err r
 unfolding chip_acceptance chip_acceptance_by
 refused-before p state code «data» room r e = rw e
 
-pub left-to-chip : (p : Part) (state : List ℕ) (code «data» room : ℕ) → chip_admission p state code «data» ≡ Accepted
+pub left-to-chip : (p : Part) (state : List ℕ) (code «data» room : ℕ) → chip_admission p state code «data» ≡ Ok tt
     → chip_acceptance p state code «data» room ≡ verdict_on p (chip_in state) code «data» room
 unfolding chip_acceptance chip_acceptance_by
 left-to-chip p state code «data» room e = rw e

@@ -1,35 +1,16 @@
 // What only drops what is collected, or only adds a byte to it, written where the state lies: the count, and the byte. Nothing else of a state is read or written.
-ghost use Rattle.std.specs.Prelude.{◌≡◌, length};
+ghost use Rattle.std.specs.Prelude.{◌≡◌};
 ghost use Rattle.chip_layout.specs.InPlace.{byte_laid, count_laid, is_added};
-ghost use Rattle.chip_layout.specs.Layout.{state_size};
-
-fn put_count(state: &mut [u8], n: usize)
-    requires { length state.old ≡ state_size }
-    ensures { state.new ≡ count_laid n state.old }
-{
-    let count = numbers::low8(n);
-    lent::put(state, 25, &count);
-}
-
-fn put_byte(state: &mut [u8], b: u8)
-    requires { length state.old ≡ state_size }
-    ensures { state.new ≡ byte_laid b state.old }
-{
-    let n = super::number8(state, 25);
-    if n < frame::LONGEST {
-        put_count(state, n + 1);
-        state[33 + n] = b;
-    }
-}
 
 // Another count of what is collected: 0 for a gap.
 pub fn lay_count(state: &mut [u8; super::STATE_SIZE], n: usize)
     ensures { state.new ≡ count_laid n state.old }
 {
-    put_count(state, n);
+    state[25..33].copy_from_slice(&n.to_le_bytes());
 }
 
 // Whether the next byte is only added: past header and LEN, and not the last of its frame.
+#[tactic(auto, unfolding(crate::specs::InPlace::is_added))]
 pub fn is_added(state: &[u8; super::STATE_SIZE]) -> bool
     ensures { result ≡ is_added state.now }
 {
@@ -41,5 +22,9 @@ pub fn is_added(state: &[u8; super::STATE_SIZE]) -> bool
 pub fn add_byte(state: &mut [u8; super::STATE_SIZE], b: u8)
     ensures { state.new ≡ byte_laid b state.old }
 {
-    put_byte(state, b);
+    let n = super::number8(state, 25);
+    if n < frame::LONGEST {
+        lay_count(state, n + 1);
+        state[33 + n] = b;
+    }
 }

@@ -37,95 +37,72 @@ pub fn write_allowed(part: Part, flags: u8) -> bool
 fn fixed_bits(part: Part, flags: u8) -> bool
     ensures { result ≡ fixed_bits part flags }
 {
-    if flags % 2 == 1 {
-        if flags / 8 % 2 == 1 {
-            if flags / 32 % 2 == 1 {
-                if flags / 64 % 2 == 1 {
-                    return flags / 128 % 2 == 1;
-                }
-            }
-        }
-    }
-    false
+    flags % 2 == 1
+        && flags / 8 % 2 == 1
+        && flags / 32 % 2 == 1
+        && flags / 64 % 2 == 1
+        && flags / 128 % 2 == 1
 }
 
+#[tactic(auto, unfolding(crate::specs::Options::last_block))]
 fn last_block(part: Part) -> u32
     ensures { result ≡ last_block part }
 {
-    if part.code_blocks == 0 {
-        return 0;
-    }
-    part.code_blocks - 1
+    part.code_blocks.saturating_sub(1)
 }
 
 fn rises(old: bool, new: bool) -> bool
     ensures { result ≡ rises old new }
 {
-    if old {
-        return false;
-    }
-    new
+    !old && new
 }
 
 // Whether a 0 flag of the old flags would become 1.
 pub fn raises(part: Part, old: u8, new: u8) -> bool
     ensures { result ≡ raises part old new }
 {
-    if rises(boot_allowed(part, old), boot_allowed(part, new)) {
-        return true;
-    }
-    if rises(erase_allowed(part, old), erase_allowed(part, new)) {
-        return true;
-    }
-    rises(write_allowed(part, old), write_allowed(part, new))
+    rises(boot_allowed(part, old), boot_allowed(part, new))
+        || rises(erase_allowed(part, old), erase_allowed(part, new))
+        || rises(write_allowed(part, old), write_allowed(part, new))
 }
 
 impl Options {
+    #[tactic(auto, unfolding(crate::specs::Options::fresh_options))]
     pub fn fresh(part: Part) -> Options
         ensures { result ≡ fresh_options part }
     {
-        let end = last_block(part);
         Options {
             flags: 0xFF,
             boot: 0x03,
             start: 0,
-            end,
+            end: last_block(part),
         }
     }
 
     pub fn is_good(self, part: Part) -> bool
         ensures { result ≡ good_options part self }
     {
-        if fixed_bits(part, self.flags) {
-            if self.boot == 0x03 {
-                if self.start <= self.end {
-                    return (self.end as usize) < part.blocks(Area::CodeFlash);
-                }
-            }
-        }
-        false
+        fixed_bits(part, self.flags)
+            && self.boot == 0x03
+            && self.start <= self.end
+            && (self.end as usize) < part.blocks(Area::CodeFlash)
     }
 
     pub fn is_fresh(self, part: Part) -> bool
         ensures { result ≡ is_fresh part self }
     {
-        if self.flags == 0xFF {
-            if self.start == 0 {
-                return self.end == last_block(part);
-            }
-        }
-        false
+        self.flags == 0xFF && self.start == 0 && self.end == last_block(part)
     }
 
+    #[tactic(auto, unfolding(crate::specs::Options::released))]
     pub fn released(self, part: Part) -> Options
         ensures { result ≡ released part self }
     {
-        let end = last_block(part);
         Options {
             flags: 0xFF,
-            boot: self.boot,
             start: 0,
-            end,
+            end: last_block(part),
+            ..self
         }
     }
 
@@ -133,8 +110,8 @@ impl Options {
     pub fn read(bytes: &[u8]) -> Options
         ensures { result ≡ options_in bytes.now }
     {
-        let start = numbers::number2(bytes, 2) as u32;
-        let end = numbers::number2(bytes, 4) as u32;
+        let start = u32::from(u16::from_le_bytes(numbers::bytes_at(bytes, 2)));
+        let end = u32::from(u16::from_le_bytes(numbers::bytes_at(bytes, 4)));
         Options {
             flags: lent::byte_at(bytes, 0),
             boot: lent::byte_at(bytes, 1),
@@ -146,17 +123,10 @@ impl Options {
     pub fn security(self) -> [u8; 8]
         ensures { result ≡ security self }
     {
-        let start = self.start;
-        let end = self.end;
+        let [start_low, start_high, ..] = self.start.to_le_bytes();
+        let [end_low, end_high, ..] = self.end.to_le_bytes();
         [
-            self.flags,
-            self.boot,
-            (start % 256) as u8,
-            (start / 256 % 256) as u8,
-            (end % 256) as u8,
-            (end / 256 % 256) as u8,
-            0xFF,
-            0xFF,
+            self.flags, self.boot, start_low, start_high, end_low, end_high, 0xFF, 0xFF,
         ]
     }
 }

@@ -9,7 +9,8 @@ ghost use Rattle.chip_core.specs.Effect.{memory};
 ghost use Rattle.part_layout.specs.Layout.{part_in};
 ghost use Rattle.chip_pace.specs.Pace.{paced, paced_of};
 
-use chip::{Answer, Event, Step, events};
+use chip::{Event, Step, events};
+use chip_reply::Sent;
 use chip_state::Chip;
 use frame::judgement::Judgement;
 use part::Part;
@@ -27,19 +28,12 @@ fn steps(
         ≡ run part (map Byte bytes.now) (before chip (memory code.old «data».old sums.old) room.old) }
 {
     let mut last = Step {
-        answer: Answer::Replied {
-            bytes: 0,
-            frames: 0,
-        },
+        answer: Ok(Sent::NOTHING),
         fault: Judgement::Good,
         chip,
     };
-    let mut i = 0;
-    while i < bytes.len() {
-        let b = bytes[i];
-        i = i + 1;
-        let next = last.chip;
-        last = events::step(part, next, Event::Byte(b), code, data, sums, room);
+    for &b in bytes {
+        last = events::step(part, last.chip, Event::Byte(b), code, data, sums, room);
     }
     last
 }
@@ -60,7 +54,5 @@ pub fn zp_steps(
     let p = part_layout::part_in(part);
     let first = events::fresh(p);
     let last = steps(p, first.chip, bytes, code, data, sums, room);
-    let chip = last.chip;
-    let collector = chip.collector;
-    collector.len
+    last.chip.collector.len
 }

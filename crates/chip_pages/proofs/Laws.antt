@@ -16,14 +16,13 @@ use Rattle.chip_core.specs.declared.Done.{Done}
 use Rattle.chip_flash.proofs.Laws.{programmed-long}
 use Rattle.chip_flash.specs.Flash.{lands, programmed}
 use Rattle.chip_pages.specs.Pages.{is_last_page, next_page, page_in, page_status, page_stored, page_written, pair, program_page, ready, stored_reply, told_written}
-use Rattle.chip_reply.specs.declared.Reply.TheVariants.{LastStored, Pair}
 use Rattle.chip_sums.proofs.Laws.{resummed-after}
 use Rattle.chip_sums.specs.Sums.{resummed}
 use Rattle.chip_core.specs.declared.Awaited.{Awaited}
 use Rattle.part.specs.Part.{page_size, place_of}
 use Rattle.part.specs.declared.Part.{Part}
-use Rattle.part.specs.declared.Place.TheVariants.{In, Outside}
 use Rattle.part.specs.declared.Place.{Place}
+use Rattle.std.specs.Prelude.{None, Option, Some}
 use Rattle.words.specs.Words.{if◌then◌otherwise◌}
 
 -- The last page's test, without a sum that could wrap.
@@ -41,16 +40,8 @@ pub not_last : (w : Awaited) → is_last_page w ≡ false → w.next + page_size
 unfolding is_last_page
 not_last w e = ltb-false _ _ e
 
-pub last_stored : {l : Bool} (w : Awaited) → l ≡ is_last_page w → l ≡ true → LastStored ≡ stored_reply w
-unfolding stored_reply if◌then◌otherwise◌
-last_stored w e t = rw (← e, t)
-
-pub one-stored : {l : Bool} (w : Awaited) → l ≡ is_last_page w → l ≡ false → Pair acknowledge acknowledge ≡ stored_reply w
-unfolding stored_reply if◌then◌otherwise◌
-one-stored w e t = rw (← e, t)
-
 -- A page written: what is left where flash holds it and its block's sum is worked out after it.
-pub page-written : {c d t old : List ℕ} {at : Place} {s : ℕ} {r : Done} (p : Part) (k : Core) (w : Awaited) (ds : List ℕ) (m : Memory)
+pub page-written : {c d t old : List ℕ} {at : Option Place} {s : ℕ} {r : Done} (p : Part) (k : Core) (w : Awaited) (ds : List ℕ) (m : Memory)
     → at ≡ place_of p w.next → old ≡ page_in at m.flash → s ≡ page_status old ds → flash c d ≡ page_stored at (programmed (page_in at m.flash) ds) m.flash
     → t ≡ (resummed p at (memory c d m.sums)).sums → r ≡ told_written s w k
     → effect r (memory c d t) ≡ program_page p k w (place_of p w.next) ds m
@@ -71,9 +62,9 @@ told-either P old ds y n = go (lands old ds) y n
     go false u v = v refl
 
 -- What is written is no longer than a page.
-pub page-short : (at : Place) (ds : List ℕ) (m : Flash) → length (programmed (page_in at m) ds) ≤ 256
+pub page-short : (at : Option Place) (ds : List ℕ) (m : Flash) → length (programmed (page_in at m) ds) ≤ 256
 unfolding page_in
-page-short Outside ds m = rw (programmed-long [] ds) (omega arith)
-page-short (In a offset block page) ds m =
-    let l = take page_size (drop offset (bytes_in a m)) in
-    omega (arith, programmed-long l ds, length-take page_size (drop offset (bytes_in a m)), min-le_left page_size (length (drop offset (bytes_in a m))))
+page-short None ds m = rw (programmed-long [] ds) (omega arith)
+page-short (Some place) ds m =
+    let l = take page_size (drop place.offset (bytes_in place.area m)) in
+    omega (arith, programmed-long l ds, length-take page_size (drop place.offset (bytes_in place.area m)), min-le_left page_size (length (drop place.offset (bytes_in place.area m))))

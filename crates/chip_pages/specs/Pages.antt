@@ -1,5 +1,5 @@
 -- The data frames of phase 4: document 01, "Commands", the paragraphs on A0h's data and on the pages of 40h and 13h.
-use Rattle.std.specs.Prelude.{Bool, not, List, [], ◌+◌, ℕ, eqb, ltb, drop, get_or, take}
+use Rattle.std.specs.Prelude.{Bool, not, List, [], ◌+◌, ℕ, eqb, ltb, drop, get_or, take, None, Option, Some}
 use Rattle.chip_core.specs.Effect.{Effect, Flash, Memory, bytes_in, effect, entered, says, told, with_bytes, with_flash}
 use Rattle.chip_core.specs.Effect.{acknowledge, parameter_error, protect_error, verify_error, write_error}
 use Rattle.chip_core.specs.declared.Awaited.{Awaited}
@@ -18,7 +18,6 @@ use Rattle.chip_options.specs.Options.{good_options, options_in, raises}
 use Rattle.part.specs.Part.{page_size, place_of}
 use Rattle.part.specs.declared.Part.{Part}
 use Rattle.part.specs.declared.Place.{Place}
-use Rattle.part.specs.declared.Place.TheVariants.{In, Outside}
 use Rattle.chip_reply.specs.declared.Reply.{Reply}
 use Rattle.chip_reply.specs.declared.Reply.TheVariants.{BadFrame, BadPage, LastStored, Pair}
 use Rattle.words.specs.Words.{◌and◌, ◌or◌, if◌then◌otherwise◌}
@@ -43,13 +42,13 @@ unfoldable pub length_of : Awaited → ℕ
 length_of w = if eqb w.command 0xA0 then 8 otherwise page_size
 
 -- The page at a place of flash, and flash with these bytes stored there.
-unfoldable pub page_in : Place → Flash → List ℕ
-page_in Outside m = []
-page_in (In a offset block page) m = take page_size (drop offset (bytes_in a m))
+unfoldable pub page_in : Option Place → Flash → List ℕ
+page_in None m = []
+page_in (Some place) m = take page_size (drop place.offset (bytes_in place.area m))
 
-unfoldable pub page_stored : Place → List ℕ → Flash → Flash
-page_stored Outside ds m = m
-page_stored (In a offset block page) ds m = with_bytes a m (put_of (bytes_in a m) offset ds).bytes
+unfoldable pub page_stored : Option Place → List ℕ → Flash → Flash
+page_stored None ds m = m
+page_stored (Some place) ds m = with_bytes place.area m (put_of (bytes_in place.area m) place.offset ds).bytes
 
 -- After a page that went well the next one is awaited; "After the last page the chip is ready." What is remembered stays.
 abbrev pub page_after : Awaited → Awaited
@@ -71,13 +70,13 @@ unfoldable pub told_written : ℕ → Awaited → Core → Done
 told_written status w k = if eqb status acknowledge then told (stored_reply w) (next_page w k) otherwise pair acknowledge status (ready k)
 
 -- Whatever the status, the page is what programming makes of it, and the sum of its block is worked out afresh: "The per-block sums of §1 follow."
-abbrev pub page_programmed : Place → List ℕ → Flash → Flash
+abbrev pub page_programmed : Option Place → List ℕ → Flash → Flash
 page_programmed at ds m = page_stored at (programmed (page_in at m) ds) m
 
-unfoldable pub page_written : Part → Place → List ℕ → Memory → Memory
+unfoldable pub page_written : Part → Option Place → List ℕ → Memory → Memory
 page_written p at ds m = resummed p at (with_flash m (page_programmed at ds m.flash))
 
-unfoldable pub program_page : Part → Core → Awaited → Place → List ℕ → Memory → Effect
+unfoldable pub program_page : Part → Core → Awaited → Option Place → List ℕ → Memory → Effect
 program_page p k w at ds m = effect (told_written (page_status (page_in at m.flash) ds) w k) (page_written p at ds m)
 
 -- 13h (document 02, §2): "The awaited-data record must remember whether a difference has occurred."
@@ -89,7 +88,7 @@ compared w equal = record { command = w.command; next = w.next; last = w.last; d
 unfoldable pub verify_status : Awaited → ℕ
 verify_status w = if is_last_page w and w.differed then verify_error otherwise acknowledge
 
-unfoldable pub verify_page : Core → Awaited → Place → List ℕ → Flash → Done
+unfoldable pub verify_page : Core → Awaited → Option Place → List ℕ → Flash → Done
 verify_page k w at ds m =
     let after = compared w (same (page_in at m) ds) in
     pair acknowledge (verify_status after) (next_page after k)

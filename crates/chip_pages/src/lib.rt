@@ -20,19 +20,13 @@ use part::{Area, Part, Place};
 fn is_last_page(w: Awaited) -> bool
     ensures { result ≡ is_last_page w }
 {
-    if w.last <= w.next {
-        return true;
-    }
-    w.last - w.next < part::page_size()
+    w.last <= w.next || w.last - w.next < part::page_size()
 }
 
 fn footer_of(w: Awaited) -> Footer
     ensures { result ≡ footer_of w }
 {
-    if w.command == 0xA0 {
-        return Footer::Last;
-    }
-    if is_last_page(w) {
+    if w.command == 0xA0 || is_last_page(w) {
         return Footer::Last;
     }
     Footer::More
@@ -54,28 +48,20 @@ fn next_page(w: Awaited, core: Core) -> Core
         return core.entered(Phase::Ready);
     }
     core.entered(Phase::Awaiting(Awaited {
-        command: w.command,
         next: w.next + part::page_size(),
-        last: w.last,
-        differed: w.differed,
+        ..w
     }))
 }
 
-fn page_bytes<'a>(place: Place, code: &'a [u8], data: &'a [u8]) -> &'a [u8]
+#[tactic(auto, unfolding(crate::specs::Pages::page_in))]
+fn page_bytes<'a>(place: Option<Place>, code: &'a [u8], data: &'a [u8]) -> &'a [u8]
     ensures { result.now ≡ page_in place (flash code.now «data».now) }
 {
-    match place {
-        Place::In {
-            area,
-            offset,
-            block,
-            page,
-        } => match area {
-            Area::CodeFlash => lent::span(code, offset, part::page_size()),
-            Area::DataFlash => lent::span(data, offset, part::page_size()),
-        },
-        Place::Outside => &code[0..0],
-    }
+    let Some(place) = place else {
+        return &code[0..0];
+    };
+    let bytes = chip_core::area_bytes(place.area, code, data);
+    lent::span(bytes, place.offset, part::page_size())
 }
 
 fn page_status(old: &[u8], new: &[u8]) -> u8
@@ -87,48 +73,37 @@ fn page_status(old: &[u8], new: &[u8]) -> u8
     0x1C
 }
 
-fn write_page(place: Place, bytes: &[u8], code: &mut [u8], data: &mut [u8])
+fn write_page(place: Option<Place>, bytes: &[u8], code: &mut [u8], data: &mut [u8])
     ensures { flash code.new «data».new
         ≡ page_programmed place bytes.now (flash code.old «data».old) }
 {
-    match place {
-        Place::In {
-            area,
-            offset,
-            block,
-            page,
-        } => match area {
-            Area::CodeFlash => {
-                chip_flash::program(code, offset, part::page_size(), bytes);
-            }
-            Area::DataFlash => {
-                chip_flash::program(data, offset, part::page_size(), bytes);
-            }
-        },
-        Place::Outside => {}
+    let Some(place) = place else {
+        return;
+    };
+    match place.area {
+        Area::CodeFlash => chip_flash::program(code, place.offset, part::page_size(), bytes),
+        Area::DataFlash => chip_flash::program(data, place.offset, part::page_size(), bytes),
     }
 }
 
 fn told_written(status: u8, w: Awaited, core: Core) -> Done
     ensures { result ≡ told_written status w core }
 {
-    if status == 0x06 {
-        let after = next_page(w, core);
-        if is_last_page(w) {
-            return Done {
-                reply: Reply::LastStored,
-                core: after,
-            };
-        }
+    if status != 0x06 {
+        let ended = core.entered(Phase::Ready);
         return Done {
-            reply: Reply::Pair(0x06, 0x06),
-            core: after,
+            reply: Reply::Pair(0x06, status),
+            core: ended,
         };
     }
-    let ended = core.entered(Phase::Ready);
+    let reply = if is_last_page(w) {
+        Reply::LastStored
+    } else {
+        Reply::Pair(0x06, 0x06)
+    };
     Done {
-        reply: Reply::Pair(0x06, status),
-        core: ended,
+        reply,
+        core: next_page(w, core),
     }
 }
 
@@ -155,25 +130,17 @@ fn program_page(
 fn compared(w: Awaited, equal: bool) -> Awaited
     ensures { result ≡ compared w equal }
 {
-    if equal {
-        return w;
-    }
     Awaited {
-        command: w.command,
-        next: w.next,
-        last: w.last,
-        differed: true,
+        differed: !equal || w.differed,
+        ..w
     }
 }
 
 fn verify_status(w: Awaited) -> u8
     ensures { result ≡ verify_status w }
 {
-    if is_last_page(w) {
-        if w.differed {
-            return 0x0F;
-        }
-        return 0x06;
+    if is_last_page(w) && w.differed {
+        return 0x0F;
     }
     0x06
 }
@@ -188,14 +155,11 @@ fn verify_page<'a>(
 ) -> Done
     ensures { result ≡ verify_page core w (place_of part w.next) bytes.now (flash code.now «data».now) }
 {
-    let place = part.place(w.next);
-    let equal = lent::is_same(page_bytes(place, code, data), bytes);
-    let after = compared(w, equal);
-    let status = verify_status(after);
-    let next = next_page(after, core);
+    let page = page_bytes(part.place(w.next), code, data);
+    let after = compared(w, lent::is_same(page, bytes));
     Done {
-        reply: Reply::Pair(0x06, status),
-        core: next,
+        reply: Reply::Pair(0x06, verify_status(after)),
+        core: next_page(after, core),
     }
 }
 
@@ -203,56 +167,38 @@ fn verify_page<'a>(
 fn is_good_data(part: Part, options: Options, bytes: &[u8]) -> bool
     ensures { result ≡ (good_options part options and eqb (get_or bytes.now 6 0) 0xFF and eqb (get_or bytes.now 7 0) 0xFF) }
 {
-    if options.is_good(part) {
-        if lent::byte_at(bytes, 6) == 0xFF {
-            return lent::byte_at(bytes, 7) == 0xFF;
-        }
-    }
-    false
+    options.is_good(part) && lent::byte_at(bytes, 6) == 0xFF && lent::byte_at(bytes, 7) == 0xFF
 }
 
 fn security_data(part: Part, core: Core, bytes: &[u8]) -> Done
     ensures { result ≡ security_data part core bytes.now }
 {
     let asked = Options::read(bytes);
-    if is_good_data(part, asked, bytes) {
-        let options = core.options;
-        if chip_options::raises(part, options.flags, asked.flags) {
-            let after = core.entered(Phase::Ready);
-            return Done {
-                reply: Reply::Status(0x10),
-                core: after,
-            };
-        }
-        return Done {
-            reply: Reply::Status(0x06),
-            core: Core {
-                options: asked,
-                rate: core.rate,
-                phase: Phase::Ready,
-            },
-        };
-    }
     let after = core.entered(Phase::Ready);
-    Done {
-        reply: Reply::Status(0x05),
-        core: after,
+    if !is_good_data(part, asked, bytes) {
+        return chip_core::says(after, 0x05);
     }
+    if chip_options::raises(part, core.options.flags, asked.flags) {
+        return chip_core::says(after, 0x10);
+    }
+    let stored = Core {
+        options: asked,
+        ..after
+    };
+    chip_core::says(stored, 0x06)
 }
 
 fn bad_data(core: Core, w: Awaited, j: Judgement) -> Done
     ensures { result ≡ bad_data w j core }
 {
-    let after = core.entered(Phase::Ready);
-    if w.command == 0xA0 {
-        return Done {
-            reply: Reply::BadFrame(j),
-            core: after,
-        };
-    }
+    let reply = if w.command == 0xA0 {
+        Reply::BadFrame(j)
+    } else {
+        Reply::BadPage(j)
+    };
     Done {
-        reply: Reply::BadPage(j),
-        core: after,
+        reply,
+        core: core.entered(Phase::Ready),
     }
 }
 
@@ -290,10 +236,9 @@ pub fn page(
     ensures { effect result (memory code.new «data».new sums.new)
         ≡ data_does part core w bytes.now (memory code.old «data».old sums.old) }
 {
-    let footer = footer_of(w);
-    let j = judgement::judge_fit(footer, length_of(w), bytes);
-    if j.is_good() {
-        return good_data(part, core, w, frame::payload(bytes), code, data, sums);
+    let j = judgement::judge_fit(footer_of(w), length_of(w), bytes);
+    if !j.is_good() {
+        return bad_data(core, w, j);
     }
-    bad_data(core, w, j)
+    good_data(part, core, w, frame::payload(bytes), code, data, sums)
 }

@@ -8,15 +8,14 @@ use native.Mathlib.Omega.{arith}
 use lib.ListN.{drop, drop_of_length-le, length, length-append, length-drop, take}
 use lib.Seq.{drop_at, drop-drop, take_all, take_at}
 use borrow.Author.Tests.{le-ltb, lt-ltb}
-use Rattle.frame.proofs.Laws.Sum.{none}
 use Rattle.frame.proofs.Laws.Wire.{framed-long, laid-lands}
 use Rattle.frame.specs.Frame.{framed}
-use Rattle.frame.specs.Framing.{frames}
 use Rattle.frame.specs.Judgement.{status_of}
 use Rattle.frame.specs.Wire.{write_of, wrote}
 use Rattle.frame.specs.declared.Footer.TheVariants.{Last}
 use Rattle.frame.specs.declared.Header.TheVariants.{Data}
-use Rattle.frame.specs.declared.wire.Wrote.{Wrote}
+use Rattle.frame.specs.declared.wire.WriteError.{WriteError}
+use Rattle.std.specs.Prelude.{Result}
 use Rattle.chip_options.proofs.Laws.{security-long}
 use Rattle.chip_options.specs.Options.{security}
 use Rattle.chip_options.specs.declared.Options.{Options}
@@ -90,7 +89,7 @@ two_is : (ds es : List ℕ) → frames_of (ds ∷ es ∷ []) ≡ framed Data ds 
 unfolding frames_of
 two_is ds es = rw append-nil
 
-pub said-one : (room ds l : List ℕ) (a : Wrote) → wrote a l ≡ write_of room Data ds Last → 32 ≤ length room → 1 ≤ length ds → length ds ≤ 28
+pub said-one : (room ds l : List ℕ) (a : Result ℕ WriteError) → wrote a l ≡ write_of room Data ds Last → 32 ≤ length room → 1 ≤ length ds → length ds ≤ 28
     → said (record { bytes = length ds + 4; frames = 1 }) l ≡ said_of (ds ∷ []) room
 said-one room ds l a e h k m =
     let o : frames_of (ds ∷ []) ≡ framed Data ds Last = one-is ds in
@@ -99,7 +98,7 @@ said-one room ds l a e h k m =
     said-is (ds ∷ []) room l (length ds + 4) 1 n refl (rw o i)
 
 -- The second frame is written into the room past the first, which is lent as a part to the end, and comes back in this form.
-pub said-two : (room ds es l l' : List ℕ) (a b : Wrote) → wrote a l ≡ write_of room Data ds Last
+pub said-two : (room ds es l l' : List ℕ) (a b : Result ℕ WriteError) → wrote a l ≡ write_of room Data ds Last
     → wrote b l' ≡ write_of (take (length l - (length ds + 4)) (drop (length ds + 4) l)) Data es Last → 32 ≤ length room → 1 ≤ length ds → 1 ≤ length es
     → length ds + length es ≤ 24
     → said (record { bytes = length ds + 4 + length es + 4; frames = 2 }) (take (length ds + 4) l ++ (l' ++ drop (length l - (length ds + 4)) (drop (length ds + 4) l)))

@@ -53,6 +53,9 @@ pub record Said : Type 0 where
   pub sent : Sent
   pub room : List ℕ
 
+abbrev pub sent_as : ℕ → ℕ → Sent
+sent_as bytes frames = record { bytes = bytes; frames = frames }
+
 abbrev pub said : Sent → List ℕ → Said
 said s r = record { sent = s; room = r }
 

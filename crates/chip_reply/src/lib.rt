@@ -31,22 +31,23 @@ pub struct Sent {
     pub frames: usize,
 }
 
+impl Sent {
+    // No frame, and so no byte.
+    pub const NOTHING: Sent = Sent {
+        bytes: 0,
+        frames: 0,
+    };
+}
+
 impl Reply {
     // The judgement of the frame that it answers, where that was judged bad.
+    #[tactic(auto, unfolding(crate::specs::Reply::fault_in))]
     pub fn fault(self) -> Judgement
         ensures { result ≡ fault_in self }
     {
         match self {
-            Reply::Silence => Judgement::Good,
-            Reply::Status(s) => Judgement::Good,
-            Reply::BadFrame(j) => j,
-            Reply::Rate(mode) => Judgement::Good,
-            Reply::Pair(s, t) => Judgement::Good,
-            Reply::BadPage(j) => j,
-            Reply::LastStored => Judgement::Good,
-            Reply::Sum(n) => Judgement::Good,
-            Reply::Signature => Judgement::Good,
-            Reply::Security => Judgement::Good,
+            Reply::BadFrame(j) | Reply::BadPage(j) => j,
+            _ => Judgement::Good,
         }
     }
 }
@@ -55,7 +56,7 @@ fn send_one(room: &mut [u8], payload: &[u8]) -> Sent
     requires { (32 ≤ length room.old) × (1 ≤ length payload.now) × (length payload.now ≤ 28) }
     ensures { said result room.new ≡ said_of (payload.now ∷ []) room.old }
 {
-    wire::write_data(room, payload, Footer::Last);
+    let _ = wire::write_data(room, payload, Footer::Last);
     Sent {
         bytes: payload.len() + frame::OVERHEAD,
         frames: 1,
@@ -68,8 +69,8 @@ fn send_two(room: &mut [u8], first: &[u8], second: &[u8]) -> Sent
     ensures { said result room.new ≡ said_of (first.now ∷ second.now ∷ []) room.old }
 {
     let n = first.len() + frame::OVERHEAD;
-    wire::write_data(room, first, Footer::Last);
-    wire::write_data(&mut room[n..], second, Footer::Last);
+    let _ = wire::write_data(room, first, Footer::Last);
+    let _ = wire::write_data(&mut room[n..], second, Footer::Last);
     Sent {
         bytes: n + second.len() + frame::OVERHEAD,
         frames: 2,
@@ -80,23 +81,14 @@ pub fn send(part: Part, options: Options, reply: Reply, room: &mut [u8]) -> Sent
     ensures { said result room.new ≡ send_of part options reply room.old }
 {
     if room.len() < 32 {
-        return Sent {
-            bytes: 0,
-            frames: 0,
-        };
+        return Sent::NOTHING;
     }
     if !part.is_described() {
-        return Sent {
-            bytes: 0,
-            frames: 0,
-        };
+        return Sent::NOTHING;
     }
     let status = [0x06];
     match reply {
-        Reply::Silence => Sent {
-            bytes: 0,
-            frames: 0,
-        },
+        Reply::Silence => Sent::NOTHING,
         Reply::Status(s) => {
             let d = [s];
             send_one(room, &d)
@@ -124,7 +116,7 @@ pub fn send(part: Part, options: Options, reply: Reply, room: &mut [u8]) -> Sent
             send_two(room, &d, &further)
         }
         Reply::Sum(n) => {
-            let d = numbers::low2(n);
+            let d = n.to_le_bytes();
             send_two(room, &status, &d)
         }
         Reply::Signature => {

@@ -34,9 +34,8 @@ use Rattle.part.specs.Refusal.{◌when◌, first_of}
 use Rattle.part.specs.declared.Area.TheVariants.{CodeFlash, DataFlash}
 use Rattle.part.specs.declared.Part.{Part}
 use Rattle.part.specs.declared.Place.{Place}
-use Rattle.part.specs.declared.Place.TheVariants.{In, Outside}
+use Rattle.std.specs.Prelude.{None, Ok, Option, Some}
 use Rattle.part.specs.declared.refusal.Refusal.TheVariants.{BadState, ShortRoom}
-use Rattle.part.specs.declared.refusal.Verdict.TheVariants.{Accepted}
 use Rattle.words.proofs.Laws.{and_both, and_left, and_right, or_right}
 use Rattle.words.specs.Words.{◌and◌, ◌or◌}
 
@@ -65,7 +64,7 @@ pub record Accepts (p : Part) (k : Core) (h : Handed) : Type 0 where
   pub state : good_state p k h.count h.head h.len ≡ true
   pub roomy : 32 ≤ h.room
 
-pub accepts : {p : Part} {k : Core} {h : Handed} → verdict_of p k h ≡ Accepted → Accepts p k h
+pub accepts : {p : Part} {k : Core} {h : Handed} → verdict_of p k h ≡ Ok tt → Accepts p k h
 unfolding verdict_of
 accepts {p} {k} {h} e =
     let a = passed _ _ e in
@@ -81,7 +80,7 @@ accepts {p} {k} {h} e =
       roomy = ltb-false h.room 32 f.not-held;
     }
 
-pub accepted : {p : Part} {k : Core} {h : Handed} → Accepts p k h → verdict_of p k h ≡ Accepted
+pub accepted : {p : Part} {k : Core} {h : Handed} → Accepts p k h → verdict_of p k h ≡ Ok tt
 unfolding verdict_of
 accepted {p} {k} {h} a =
     passes _ _ (ap not a.part)
@@ -95,12 +94,12 @@ unfolding verdict_of
 verdict-left p k h d c e = first_on _ _ _ (ap not d) ∙ first_on _ _ _ (ap not (eq-eqb _ _ c)) ∙ first_on _ _ _ (ap not (eq-eqb _ _ e))
 
 -- No name of a part is looked at: the verdict on a part without its names is the part's.
-places-bare : (p : Part) (x y : Place) → good_places (bare p) x y ≡ good_places p x y
+places-bare : (p : Part) (x y : Option Place) → good_places (bare p) x y ≡ good_places p x y
 unfolding good_places
-places-bare p Outside Outside = refl
-places-bare p Outside (In a x i g) = refl
-places-bare p (In a x i g) Outside = refl
-places-bare p (In a x i g) (In b y j h) = rw (block-size-bare p b)
+places-bare p None None = refl
+places-bare p None (Some place) = refl
+places-bare p (Some place) None = refl
+places-bare p (Some place) (Some other) = rw (block-size-bare p other.area)
 
 phase-bare : (p : Part) (f : Phase) → good_phase (bare p) f ≡ good_phase p f
 unfolding good_phase good_awaited
@@ -270,8 +269,8 @@ heard-good f d w e = go (dec_lt d.len 1)
     go (no k) = on f (omega arith) (front-for f _ _ _ (omega (arith, n)) e)
 
 -- Where a call is accepted, the same with something else collected that is good is accepted too.
-pub collected-accepted : (p : Part) (k : Core) (h : Handed) (n head len : ℕ) → verdict_of p k h ≡ Accepted → good_collected (hearing k.phase) n head len ≡ true
-    → verdict_of p k (record { count = n; head = head; len = len; code = h.code; «data» = h.«data»; room = h.room }) ≡ Accepted
+pub collected-accepted : (p : Part) (k : Core) (h : Handed) (n head len : ℕ) → verdict_of p k h ≡ Ok tt → good_collected (hearing k.phase) n head len ≡ true
+    → verdict_of p k (record { count = n; head = head; len = len; code = h.code; «data» = h.«data»; room = h.room }) ≡ Ok tt
 unfolding good_state
 collected-accepted p k h n head len e g =
     let a = accepts e in
@@ -289,8 +288,8 @@ unfolding good_collected
 more-collected f n head len s c (of_command x) = front-good Command (n + 1) head len (record { within = omega arith; heads = x.heads; lacks = full-not (n + 1) len s })
 more-collected f n head len s c (of_data x) = front-good Data (n + 1) head len (record { within = omega arith; heads = x.heads; lacks = full-not (n + 1) len s })
 
-pub one-more-accepted : (p : Part) (k : Core) (h : Handed) → verdict_of p k h ≡ Accepted → 2 ≤ h.count → h.count + 1 < counted h.len + 4 → counted h.len ≤ 256
-    → verdict_of p k (record { count = h.count + 1; head = h.head; len = h.len; code = h.code; «data» = h.«data»; room = h.room }) ≡ Accepted
+pub one-more-accepted : (p : Part) (k : Core) (h : Handed) → verdict_of p k h ≡ Ok tt → 2 ≤ h.count → h.count + 1 < counted h.len + 4 → counted h.len ≤ 256
+    → verdict_of p k (record { count = h.count + 1; head = h.head; len = h.len; code = h.code; «data» = h.«data»; room = h.room }) ≡ Ok tt
 one-more-accepted p k h e n s c =
     let f = hearing k.phase in
     let x = front-for f h.count h.head h.len (omega arith) (state-collected p k h.count h.head h.len f (accepts e).state refl) in

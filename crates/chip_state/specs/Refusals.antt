@@ -1,5 +1,5 @@
 -- The chip's refusals: document 01, "Refusal numbers" (chip), and which states are good.
-use Rattle.std.specs.Prelude.{Bool, false, not, true, List, [], ◌∷◌, ◌%◌, ◌+◌, ℕ, eqb, leb, ltb, get_or, length}
+use Rattle.std.specs.Prelude.{Bool, false, not, true, List, [], ◌∷◌, ◌%◌, ◌+◌, ℕ, eqb, leb, ltb, get_or, length, None, Option, Result, Some}
 use Rattle.chip_state.specs.declared.Chip.{Chip}
 use Rattle.chip_state.specs.declared.Handed.{Handed}
 use Rattle.chip_core.specs.declared.Awaited.{Awaited}
@@ -19,10 +19,9 @@ use Rattle.part.specs.Refusal.{◌when◌, first_of}
 use Rattle.part.specs.declared.Area.{Area}
 use Rattle.part.specs.declared.Area.TheVariants.{CodeFlash, DataFlash}
 use Rattle.part.specs.declared.Part.{Part}
+use Rattle.part.specs.declared.refusal.Refusal.{Refusal}
 use Rattle.part.specs.declared.Place.{Place}
-use Rattle.part.specs.declared.Place.TheVariants.{In, Outside}
 use Rattle.part.specs.declared.refusal.Refusal.TheVariants.{BadPart, BadState, CodeLength, DataLength, ShortRoom}
-use Rattle.part.specs.declared.refusal.Verdict.{Verdict}
 use Rattle.words.specs.Words.{◌and◌, ◌or◌}
 
 -- 9, phase 4: "another command than its three, or for 40h and 13h a next address that is no page start, a last address that is no block end, next past
@@ -33,11 +32,11 @@ same_area CodeFlash DataFlash = false
 same_area DataFlash CodeFlash = false
 same_area DataFlash DataFlash = true
 
-unfoldable pub good_places : Part → Place → Place → Bool
-good_places p Outside Outside = false
-good_places p Outside (In a x i g) = false
-good_places p (In a x i g) Outside = false
-good_places p (In a x i g) (In b y j h) = same_area a b and eqb (x % page_size) 0 and eqb ((y + 1) % block_size p b) 0
+unfoldable pub good_places : Part → Option Place → Option Place → Bool
+good_places p None None = false
+good_places p None (Some place) = false
+good_places p (Some place) None = false
+good_places p (Some place) (Some other) = same_area place.area other.area and eqb (place.offset % page_size) 0 and eqb ((other.offset + 1) % block_size p other.area) 0
 
 unfoldable pub good_awaited : Part → Awaited → Bool
 good_awaited p w =
@@ -71,7 +70,7 @@ unfoldable pub good_state : Part → Core → ℕ → ℕ → ℕ → Bool
 good_state p k count head len = good_collected (hearing k.phase) count head len and good_core p k
 
 -- "Order for the chip: 1, 2, 3, 9, 4".
-unfoldable pub verdict_of : Part → Core → Handed → Verdict
+unfoldable pub verdict_of : Part → Core → Handed → Result Unit Refusal
 verdict_of p k h =
     first_of
     (BadPart when not (described p)
@@ -85,5 +84,5 @@ verdict_of p k h =
 abbrev pub handed_with : Collector → ℕ → ℕ → ℕ → Handed
 handed_with c code «data» room = record { count = c.len; head = get_or c.bytes 0 0; len = get_or c.bytes 1 0; code = code; «data» = «data»; room = room }
 
-abbrev pub verdict_on : Part → Chip → ℕ → ℕ → ℕ → Verdict
+abbrev pub verdict_on : Part → Chip → ℕ → ℕ → ℕ → Result Unit Refusal
 verdict_on p c code «data» room = verdict_of p c.core (handed_with c.collector code «data» room)

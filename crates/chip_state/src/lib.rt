@@ -8,7 +8,7 @@ ghost use Rattle.chip_state.specs.Refusals.{same_area, good_places, good_awaited
 use chip_core::{Awaited, Core, Hearing, Phase};
 use frame::Header;
 use frame::collector::Collector;
-use part::refusal::{Refusal, Verdict};
+use part::refusal::Refusal;
 use part::{Area, Part, Place};
 
 #[derive(Clone, Copy)]
@@ -31,16 +31,7 @@ pub struct Handed {
 fn same_area(a: Area, b: Area) -> bool
     ensures { result ≡ same_area a b }
 {
-    match a {
-        Area::CodeFlash => match b {
-            Area::CodeFlash => true,
-            Area::DataFlash => false,
-        },
-        Area::DataFlash => match b {
-            Area::CodeFlash => false,
-            Area::DataFlash => true,
-        },
-    }
+    a == b
 }
 
 fn is_block_end(offset: usize, size: usize) -> bool
@@ -53,74 +44,37 @@ fn is_block_end(offset: usize, size: usize) -> bool
 fn has_pages(command: u8) -> bool
     ensures { result ≡ (eqb command 0x40 or eqb command 0x13) }
 {
-    if command == 0x40 {
-        return true;
-    }
-    command == 0x13
+    command == 0x40 || command == 0x13
 }
 
 // The places of the next and the last address of phase 4.
-fn are_good_places(part: Part, next: Place, last: Place) -> bool
+#[tactic(auto, unfolding(crate::specs::Refusals::good_places))]
+fn are_good_places(part: Part, next: Option<Place>, last: Option<Place>) -> bool
     ensures { result ≡ good_places part next last }
 {
-    match next {
-        Place::In {
-            area: a,
-            offset: x,
-            block: i,
-            page: g,
-        } => match last {
-            Place::In {
-                area: b,
-                offset: y,
-                block: j,
-                page: h,
-            } => {
-                if same_area(a, b) {
-                    if x % part::page_size() == 0 {
-                        return is_block_end(y, part.block_size(b));
-                    }
-                    return false;
-                }
-                false
-            }
-            Place::Outside => false,
-        },
-        Place::Outside => match last {
-            Place::In {
-                area: b,
-                offset: y,
-                block: j,
-                page: h,
-            } => false,
-            Place::Outside => false,
-        },
-    }
+    let (Some(next), Some(last)) = (next, last) else {
+        return false;
+    };
+    same_area(next.area, last.area)
+        && next.offset % part::page_size() == 0
+        && is_block_end(last.offset, part.block_size(last.area))
 }
 
 fn is_good_awaited(part: Part, w: Awaited) -> bool
     ensures { result ≡ good_awaited part w }
 {
-    let command = w.command;
-    if command == 0xA0 {
-        return true;
-    }
-    if has_pages(command) {
-        if w.next <= w.last {
-            return are_good_places(part, part.place(w.next), part.place(w.last));
-        }
-        return false;
-    }
-    false
+    w.command == 0xA0
+        || has_pages(w.command)
+            && w.next <= w.last
+            && are_good_places(part, part.place(w.next), part.place(w.last))
 }
 
+#[tactic(auto, unfolding(crate::specs::Refusals::good_phase))]
 fn is_good_phase(part: Part, phase: Phase) -> bool
     ensures { result ≡ good_phase part phase }
 {
     match phase {
-        Phase::ModeByte => true,
-        Phase::Setup => true,
-        Phase::Ready => true,
+        Phase::ModeByte | Phase::Setup | Phase::Ready => true,
         Phase::Awaiting(w) => is_good_awaited(part, w),
     }
 }
@@ -129,75 +83,52 @@ fn is_good_phase(part: Part, phase: Phase) -> bool
 fn is_good_begun(header: Header, count: usize, head: u8, len: u8) -> bool
     ensures { result ≡ good_begun header count head len }
 {
-    if count == 0 {
-        return true;
-    }
-    if count < frame::LONGEST {
-        if head == header.byte() {
-            if frame::is_full(count, len) {
-                return false;
-            }
-            return true;
-        }
-        return false;
-    }
-    false
+    count == 0 || count < frame::LONGEST && head == header.byte() && !frame::is_full(count, len)
 }
 
 // What is collected, by what the phase hears.
+#[tactic(auto, unfolding(crate::specs::Refusals::good_collected))]
 pub fn is_good_collected(hears: Hearing, count: usize, head: u8, len: u8) -> bool
     ensures { result ≡ good_collected hears count head len }
 {
     match hears {
         Hearing::HearsNothing => count == 0,
         Hearing::HearsCommands => is_good_begun(Header::Command, count, head, len),
-        Hearing::HearsData(w) => is_good_begun(Header::Data, count, head, len),
+        Hearing::HearsData(_) => is_good_begun(Header::Data, count, head, len),
     }
 }
 
 fn is_good_core(part: Part, core: Core) -> bool
     ensures { result ≡ good_core part core }
 {
-    if core.rate <= 0x03 {
-        let options = core.options;
-        if options.is_good(part) {
-            let phase = core.phase;
-            return is_good_phase(part, phase);
-        }
-        return false;
-    }
-    false
+    core.rate <= 0x03 && core.options.is_good(part) && is_good_phase(part, core.phase)
 }
 
 // Whether a state is one that the chip accepts: what is collected, then the record.
 pub fn is_good_state(part: Part, core: Core, count: usize, head: u8, len: u8) -> bool
     ensures { result ≡ good_state part core count head len }
 {
-    let phase = core.phase;
-    if is_good_collected(phase.hearing(), count, head, len) {
-        return is_good_core(part, core);
-    }
-    false
+    is_good_collected(core.phase.hearing(), count, head, len) && is_good_core(part, core)
 }
 
 // The verdict on a chip, by its record and what the call hands in.
-pub fn verdict(part: Part, core: Core, handed: Handed) -> Verdict
+pub fn verdict(part: Part, core: Core, handed: Handed) -> Result<(), Refusal>
     ensures { result ≡ verdict_of part core handed }
 {
-    if part.is_described() {
-        if handed.code == part.size(Area::CodeFlash) {
-            if handed.data == part.size(Area::DataFlash) {
-                if is_good_state(part, core, handed.count, handed.head, handed.len) {
-                    if handed.room < 32 {
-                        return Verdict::Refused(Refusal::ShortRoom);
-                    }
-                    return Verdict::Accepted;
-                }
-                return Verdict::Refused(Refusal::BadState);
-            }
-            return Verdict::Refused(Refusal::DataLength);
-        }
-        return Verdict::Refused(Refusal::CodeLength);
+    if !part.is_described() {
+        return Err(Refusal::BadPart);
     }
-    Verdict::Refused(Refusal::BadPart)
+    if handed.code != part.size(Area::CodeFlash) {
+        return Err(Refusal::CodeLength);
+    }
+    if handed.data != part.size(Area::DataFlash) {
+        return Err(Refusal::DataLength);
+    }
+    if !is_good_state(part, core, handed.count, handed.head, handed.len) {
+        return Err(Refusal::BadState);
+    }
+    if handed.room < 32 {
+        return Err(Refusal::ShortRoom);
+    }
+    Ok(())
 }

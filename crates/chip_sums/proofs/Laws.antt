@@ -1,23 +1,27 @@
 -- Laws of the kept sums: where a slot lies, a block's bytes, and how far a loop over the blocks has come.
 -- Assumes nothing.
-use mathlib.Core.List.{List}
+use mathlib.Core.Bool.{not}
+use mathlib.Core.List.{List, [], ◌∷◌}
 use mathlib.Core.Path.{◌∙◌, ◌≡◌, ap, refl, sym}
 use Prim.Native.Nat.{◌*◌, ◌+◌, ◌<◌, ◌^◌, ◌≤◌, ℕ}
 use native.Mathlib.Nat.{mul-le-mul_right, one-mul}
 use native.Mathlib.Numerals.{add-one}
 use native.Mathlib.Omega.{arith}
-use lib.ListN.{get_or-eq_default, drop, get_or, length, set, take}
+use lib.Dec.{eqb}
+use lib.ListN.{get_or-eq_default, drop, length, set, take}
 use lib.Seq.{set_out}
 use Rattle.chip_core.specs.Effect.{Flash, Memory, bytes_in, flash, memory}
-use Rattle.chip_flash.specs.Flash.{sum_of_bytes}
-use Rattle.chip_sums.specs.Sums.{block_sum, kept, range_bytes, resummed, slot, summed_to}
-use Rattle.part.proofs.Laws.{size_small}
-use Rattle.part.specs.Part.{block_size, blocks}
+use Rattle.chip_sums.specs.Sums.{block_sum, flash_verdict, kept, range_bytes, resummed, slot, summed_to}
+use Rattle.part.proofs.Laws.{row_ends, row-goes-on, size_small}
+use Rattle.part.specs.Part.{block_size, blocks, described, size}
+use Rattle.part.specs.Refusal.{Condition, ◌when◌, first_of}
+use Rattle.part.specs.declared.refusal.Refusal.{Refusal}
+use Rattle.part.specs.declared.refusal.Refusal.TheVariants.{BadPart, CodeLength, DataLength}
 use Rattle.part.specs.declared.Area.{Area}
 use Rattle.part.specs.declared.Area.TheVariants.{CodeFlash, DataFlash}
 use Rattle.part.specs.declared.Part.{Part}
 use Rattle.part.specs.declared.Place.{Place}
-use Rattle.part.specs.declared.Place.TheVariants.{In, Outside}
+use Rattle.std.specs.Prelude.{Err, None, Ok, Option, Some}
 use Rattle.words.proofs.Laws.{if-all}
 
 -- No slot comes before its block's number.
@@ -25,10 +29,6 @@ pub slot-past : (a : Area) (b : ℕ) → b ≤ slot a b
 unfolding slot
 slot-past CodeFlash b = omega arith
 slot-past DataFlash b = omega arith
-
-pub kept_there : (s : List ℕ) (a : Area) (b i : ℕ) → i ≡ slot a b → get_or s i 0 ≡ kept s a b
-unfolding kept
-kept_there s a b i e = rw e
 
 -- Past the last slot nothing is kept, and nothing is put.
 pub none_kept : (s : List ℕ) (a : Area) (b : ℕ) → length s ≤ slot a b → 0 ≡ kept s a b
@@ -55,10 +55,19 @@ pub block-bytes : (p : Part) (a : Area) (b : ℕ) (m : Flash) → range_bytes p 
 unfolding range_bytes
 block-bytes p a b m = ap (λ (n : ℕ). take n (drop (b * block_size p a) (bytes_in a m))) (one-mul (block_size p a))
 
-pub block-summed : {t : List ℕ} {n s : ℕ} (p : Part) (a : Area) (b : ℕ) (m : Flash) → s ≡ block_size p a → t ≡ take s (drop (b * s) (bytes_in a m)) → n ≡ sum_of_bytes t
-    → n ≡ block_sum p a b m
-unfolding block_sum
-block-summed p a b m e f g = g ∙ ap sum_of_bytes (f ∙ ap (λ (x : ℕ). take x (drop (b * x) (bytes_in a m))) e ∙ sym (block-bytes p a b m))
+-- The verdict on what is lent of flash stands first in every row of refusals that begins as it does.
+pub flash-bars : {r : Refusal} (p : Part) (code «data» : ℕ) (own : List Condition) → flash_verdict p code «data» ≡ Err r
+    → first_of (BadPart when not (described p) ∷ CodeLength when not (eqb code (size p CodeFlash)) ∷ DataLength when not (eqb «data» (size p DataFlash)) ∷ own) ≡ Err r
+unfolding flash_verdict
+flash-bars p code «data» own e =
+    row_ends (BadPart when not (described p) ∷ CodeLength when not (eqb code (size p CodeFlash)) ∷ DataLength when not (eqb «data» (size p DataFlash)) ∷ []) own _ e
+
+pub flash-lets : (p : Part) (code «data» : ℕ) (own : List Condition) → flash_verdict p code «data» ≡ Ok tt
+    → first_of (BadPart when not (described p) ∷ CodeLength when not (eqb code (size p CodeFlash)) ∷ DataLength when not (eqb «data» (size p DataFlash)) ∷ own)
+    ≡ first_of own
+unfolding flash_verdict
+flash-lets p code «data» own e =
+    row-goes-on (BadPart when not (described p) ∷ CodeLength when not (eqb code (size p CodeFlash)) ∷ DataLength when not (eqb «data» (size p DataFlash)) ∷ []) own e
 
 -- How far a loop over an area's blocks has come: those before block i are summed.
 pub record SummedTo (p : Part) (a : Area) (m : Flash) (l : List ℕ) (i : ℕ) (s : List ℕ) : Type 0 where
@@ -77,13 +86,13 @@ pub summed-end : {p : Part} {a : Area} {m : Flash} {l s : List ℕ} {i n : ℕ} 
 summed-end f e = f.is ∙ rw e
 
 -- A sum worked out afresh leaves flash as it was.
-pub resummed-flash : (p : Part) (at : Place) (m : Memory) → (resummed p at m).flash ≡ m.flash
+pub resummed-flash : (p : Part) (at : Option Place) (m : Memory) → (resummed p at m).flash ≡ m.flash
 unfolding resummed
-resummed-flash p Outside m = refl
-resummed-flash p (In a offset block page) m = if-all (λ (n : Memory). n.flash ≡ m.flash) _ (λ t. refl) (λ t. refl)
+resummed-flash p None m = refl
+resummed-flash p (Some place) m = if-all (λ (n : Memory). n.flash ≡ m.flash) _ (λ t. refl) (λ t. refl)
 
 -- What a change of flash and the sum worked out after it leave.
-pub resummed-after : {c d t : List ℕ} {f : Flash} (p : Part) (at : Place) (s : List ℕ) → flash c d ≡ f → t ≡ (resummed p at (memory c d s)).sums
+pub resummed-after : {c d t : List ℕ} {f : Flash} (p : Part) (at : Option Place) (s : List ℕ) → flash c d ≡ f → t ≡ (resummed p at (memory c d s)).sums
     → memory c d t ≡ resummed p at (record { flash = f; sums = s })
 resummed-after {c} {d} p at s e g =
     let m : Memory = memory c d s in

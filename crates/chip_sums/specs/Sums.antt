@@ -1,5 +1,5 @@
 -- Each block's sum, kept beside the chip's lasting record: document 02, §1. Where it is kept, what it is, when it is right, and all of them worked out at once.
-use Rattle.std.specs.Prelude.{not, List, [], ◌∷◌, ◌≡◌, ◌*◌, ◌+◌, ◌<◌, suc, zero, ℕ, eqb, ltb, drop, get_or, length, set, take}
+use Rattle.std.specs.Prelude.{not, List, [], ◌∷◌, ◌≡◌, ◌*◌, ◌+◌, ◌<◌, suc, zero, ℕ, eqb, ltb, drop, get_or, length, set, take, Err, None, Ok, Option, Result, Some}
 use Rattle.chip_core.specs.Effect.{Flash, Memory, bytes_in}
 use Rattle.chip_flash.specs.Flash.{sum_of_bytes}
 use Rattle.part.specs.Part.{block_size, blocks, described, size}
@@ -7,11 +7,9 @@ use Rattle.part.specs.Refusal.{◌when◌, first_of}
 use Rattle.part.specs.declared.Area.{Area}
 use Rattle.part.specs.declared.Area.TheVariants.{CodeFlash, DataFlash}
 use Rattle.part.specs.declared.Part.{Part}
+use Rattle.part.specs.declared.refusal.Refusal.{Refusal}
 use Rattle.part.specs.declared.Place.{Place}
-use Rattle.part.specs.declared.Place.TheVariants.{In, Outside}
 use Rattle.part.specs.declared.refusal.Refusal.TheVariants.{BadPart, CodeLength, DataLength}
-use Rattle.part.specs.declared.refusal.Verdict.{Verdict}
-use Rattle.part.specs.declared.refusal.Verdict.TheVariants.{Accepted, Refused}
 use Rattle.words.specs.Words.{if◌then◌otherwise◌}
 
 -- A slot for each block that a part can have: "Code flash: 8 to 64 blocks .. Data flash: 0 to 8 blocks".
@@ -44,10 +42,10 @@ abbrev pub put_sum : Part → Area → ℕ → Flash → List ℕ → List ℕ
 put_sum p a block m s = set s (slot a block) (block_sum p a block m)
 
 -- The sum of the block at a place worked out afresh. (No block of the part, nothing to work out.)
-unfoldable pub resummed : Part → Place → Memory → Memory
-resummed p Outside m = m
-resummed p (In a offset block page) m =
-    if ltb block (blocks p a) then record { flash = m.flash; sums = put_sum p a block m.flash m.sums }
+unfoldable pub resummed : Part → Option Place → Memory → Memory
+resummed p None m = m
+resummed p (Some place) m =
+    if ltb place.block (blocks p place.area) then record { flash = m.flash; sums = put_sum p place.area place.block m.flash m.sums }
     otherwise m
 
 -- "One call works all sums out": those of the first n blocks of an area, and of both areas. The slots of blocks that the part has not stay.
@@ -59,7 +57,7 @@ unfoldable pub all_summed : Part → Flash → List ℕ → List ℕ
 all_summed p m s = summed_to (blocks p DataFlash) p DataFlash m (summed_to (blocks p CodeFlash) p CodeFlash m s)
 
 -- What bars the call: the chip's refusals, as far as they concern what is lent to it, in their order.
-unfoldable pub flash_verdict : Part → ℕ → ℕ → Verdict
+unfoldable pub flash_verdict : Part → ℕ → ℕ → Result Unit Refusal
 flash_verdict p code «data» =
     first_of
     (BadPart when not (described p)
@@ -69,15 +67,15 @@ flash_verdict p code «data» =
 
 -- What the call leaves: its verdict, and all of the lent sums. Refused, it changes nothing.
 pub record Summing : Type 0 where
-  pub verdict : Verdict
+  pub verdict : Result Unit Refusal
   pub sums : List ℕ
 
-abbrev pub summing : Verdict → List ℕ → Summing
+abbrev pub summing : Result Unit Refusal → List ℕ → Summing
 summing v s = record { verdict = v; sums = s }
 
-unfoldable pub summed_by : Verdict → Part → Flash → List ℕ → Summing
-summed_by (Refused r) p m s = summing (Refused r) s
-summed_by Accepted p m s = summing Accepted (all_summed p m s)
+unfoldable pub summed_by : Result Unit Refusal → Part → Flash → List ℕ → Summing
+summed_by (Err r) p m s = summing (Err r) s
+summed_by (Ok _) p m s = summing (Ok tt) (all_summed p m s)
 
 unfoldable pub worked_out : Part → Flash → List ℕ → Summing
 worked_out p m s = summed_by (flash_verdict p (length m.code_flash) (length m.data_flash)) p m s

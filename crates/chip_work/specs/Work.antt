@@ -1,5 +1,5 @@
 -- The work of each command: document 01, "Commands"; 000, chapter 3. Parameters before protection, then the work.
-use Rattle.std.specs.Prelude.{Bool, false, not, ◌%◌, ℕ, eqb, ltb}
+use Rattle.std.specs.Prelude.{Bool, false, not, ◌%◌, ℕ, eqb, ltb, None, Option, Some}
 use Rattle.chip_core.specs.Effect.{Effect, Flash, Memory, awaiting, bytes_in, effect, says, told, with_bytes, with_flash}
 use Rattle.chip_core.specs.Effect.{acknowledge, not_blank, parameter_error, protect_error}
 use Rattle.chip_core.specs.declared.Core.{Core}
@@ -13,10 +13,8 @@ use Rattle.part.specs.Rate.{accepts_rate, mode_of}
 use Rattle.part.specs.declared.Area.{Area}
 use Rattle.part.specs.declared.Area.TheVariants.{CodeFlash, DataFlash}
 use Rattle.part.specs.declared.Part.{Part}
-use Rattle.part.specs.declared.Place.{Place}
-use Rattle.part.specs.declared.Place.TheVariants.{In, Outside}
 use Rattle.part.specs.declared.Range.{Range}
-use Rattle.part.specs.declared.Range.TheVariants.{Bad, Blocks}
+use Rattle.part.specs.declared.Place.{Place}
 use Rattle.chip_reply.specs.declared.Reply.TheVariants.{Rate, Sum}
 use Rattle.words.specs.Words.{◌and◌, ◌or◌, if◌then◌otherwise◌}
 
@@ -41,40 +39,40 @@ unfoldable pub erased_in : Area → ℕ → ℕ → Flash → Flash
 erased_in a offset n m = with_bytes a m (erase_of (bytes_in a m) offset n).bytes
 
 -- Its sum is worked out afresh (document 02, §1).
-unfoldable pub block_erase : Part → Core → Place → Memory → Effect
-block_erase p k Outside m = effect (says parameter_error k) m
-block_erase p k (In a offset block page) m =
-    if not (eqb (offset % block_size p a) 0) then effect (says parameter_error k) m
-    otherwise if forbidden (erase_allowed p k.options.flags) (is_boot a block) (boot_allowed p k.options.flags) then effect (says protect_error k) m
-    otherwise effect (says acknowledge k) (resummed p (In a offset block page) (with_flash m (erased_in a offset (block_size p a) m.flash)))
+unfoldable pub block_erase : Part → Core → Option Place → Memory → Effect
+block_erase p k None m = effect (says parameter_error k) m
+block_erase p k (Some place) m =
+    if not (eqb (place.offset % block_size p place.area) 0) then effect (says parameter_error k) m
+    otherwise if forbidden (erase_allowed p k.options.flags) (is_boot place.area place.block) (boot_allowed p k.options.flags) then effect (says protect_error k) m
+    otherwise effect (says acknowledge k) (resummed p (Some place) (with_flash m (erased_in place.area place.offset (block_size p place.area) m.flash)))
 
 -- 32h: "range and D01. 00h: 1Bh unless all FFh. 01h: also unless flags and window are fresh. Other D01: 05h"
-unfoldable pub blank_check : Part → Core → Range → ℕ → Flash → Done
-blank_check p k Bad d01 m = says parameter_error k
-blank_check p k (Blocks a block count) d01 m =
+unfoldable pub blank_check : Part → Core → Option Range → ℕ → Flash → Done
+blank_check p k None d01 m = says parameter_error k
+blank_check p k (Some range) d01 m =
     if not (eqb d01 0x00 or eqb d01 0x01) then says parameter_error k
-    otherwise if not (blank (range_bytes p a block count m)) then says not_blank k
+    otherwise if not (blank (range_bytes p range.area range.block range.count m)) then says not_blank k
     otherwise if eqb d01 0x01 and not (is_fresh p k.options) then says not_blank k
     otherwise says acknowledge k
 
 -- 40h: "range; 06h, then pages"; 10h "if bit 4 is 0, or the range holds a boot block and bit 1 is 0"
-unfoldable pub programming : Part → Core → Range → ℕ → ℕ → Done
-programming p k Bad start end = says parameter_error k
-programming p k (Blocks a block count) start end =
-    if forbidden (write_allowed p k.options.flags) (is_boot a block) (boot_allowed p k.options.flags) then says protect_error k
+unfoldable pub programming : Part → Core → Option Range → ℕ → ℕ → Done
+programming p k None start end = says parameter_error k
+programming p k (Some range) start end =
+    if forbidden (write_allowed p k.options.flags) (is_boot range.area range.block) (boot_allowed p k.options.flags) then says protect_error k
     otherwise says acknowledge (awaiting 0x40 start end k)
 
 -- 13h: "range; 06h, then pages"
-unfoldable pub verify : Core → Range → ℕ → ℕ → Done
-verify k Bad start end = says parameter_error k
-verify k (Blocks a block count) start end = says acknowledge (awaiting 0x13 start end k)
+unfoldable pub verify : Core → Option Range → ℕ → ℕ → Done
+verify k None start end = says parameter_error k
+verify k (Some range) start end = says acknowledge (awaiting 0x13 start end k)
 
 -- B0h: "range; 06h, then a two-byte data frame, low first: 0000h less each byte, 16 bits"; "over one block .. the kept sum, right or wrong" (document 02, §1)
-unfoldable pub checksum : Part → Core → Range → Memory → Done
-checksum p k Bad m = says parameter_error k
-checksum p k (Blocks a block count) m =
-    if eqb count 1 then told (Sum (kept m.sums a block)) k
-    otherwise told (Sum (sum_of_bytes (range_bytes p a block count m.flash))) k
+unfoldable pub checksum : Part → Core → Option Range → Memory → Done
+checksum p k None m = says parameter_error k
+checksum p k (Some range) m =
+    if eqb range.count 1 then told (Sum (kept m.sums range.area range.block)) k
+    otherwise told (Sum (sum_of_bytes (range_bytes p range.area range.block range.count m.flash))) k
 
 -- A2h: "fresh flags and window"; 10h "if bit 1 or bit 2 is 0. Then A2h answers 1Bh unless all flash is blank."
 unfoldable pub security_release : Part → Core → Flash → Done

@@ -13,26 +13,21 @@ ghost use Rattle.chip_work.specs.Work.{rate_set, is_boot, forbidden, erased_in, 
 
 use chip_core::{Core, Done, Phase, awaiting, says};
 use chip_reply::Reply;
-use part::{Area, Part, Place, Range};
+use part::{Area, Part};
 
 pub fn rate_set(part: Part, core: Core, rate: u8, supply: u8) -> Done
     ensures { result ≡ rate_set part core rate supply }
 {
-    if part::rate::accepts(part, rate as u32, supply as u32) {
-        let mode = part::rate::mode(part, supply as u32);
-        let options = core.options;
-        return Done {
-            reply: Reply::Rate(mode),
-            core: Core {
-                options,
-                rate,
-                phase: Phase::Ready,
-            },
-        };
+    if !part::rate::accepts(part, rate as u32, supply as u32) {
+        return says(core, 0x05);
     }
     Done {
-        reply: Reply::Status(0x05),
-        core,
+        reply: Reply::Rate(part::rate::mode(part, supply as u32)),
+        core: Core {
+            rate,
+            phase: Phase::Ready,
+            ..core
+        },
     }
 }
 
@@ -48,16 +43,7 @@ fn is_boot(area: Area, block: usize) -> bool
 fn is_forbidden(allowed: bool, boot: bool, boot_flag: bool) -> bool
     ensures { result ≡ forbidden allowed boot boot_flag }
 {
-    if allowed {
-        if boot {
-            if boot_flag {
-                return false;
-            }
-            return true;
-        }
-        return false;
-    }
-    true
+    !allowed || boot && !boot_flag
 }
 
 fn erase_in(area: Area, offset: usize, size: usize, code: &mut [u8], data: &mut [u8])
@@ -65,10 +51,10 @@ fn erase_in(area: Area, offset: usize, size: usize, code: &mut [u8], data: &mut 
 {
     match area {
         Area::CodeFlash => {
-            chip_flash::erase(code, offset, size);
+            let _ = chip_flash::erase(code, offset, size);
         }
         Area::DataFlash => {
-            chip_flash::erase(data, offset, size);
+            let _ = chip_flash::erase(data, offset, size);
         }
     }
 }
@@ -85,44 +71,24 @@ pub fn block_erase(
         ≡ block_erase part core (place_of part start) (memory code.old «data».old sums.old) }
 {
     let place = part.place(start);
-    match place {
-        Place::In {
-            area,
-            offset,
-            block,
-            page,
-        } => {
-            let size = part.block_size(area);
-            if offset % size == 0 {
-                let options = core.options;
-                let flags = options.flags;
-                if is_forbidden(
-                    chip_options::erase_allowed(part, flags),
-                    is_boot(area, block),
-                    chip_options::boot_allowed(part, flags),
-                ) {
-                    return Done {
-                        reply: Reply::Status(0x10),
-                        core,
-                    };
-                }
-                erase_in(area, offset, size, code, data);
-                chip_sums::resum(part, place, code, data, sums);
-                return Done {
-                    reply: Reply::Status(0x06),
-                    core,
-                };
-            }
-            Done {
-                reply: Reply::Status(0x05),
-                core,
-            }
-        }
-        Place::Outside => Done {
-            reply: Reply::Status(0x05),
-            core,
-        },
+    let Some(at) = place else {
+        return says(core, 0x05);
+    };
+    let size = part.block_size(at.area);
+    if at.offset % size != 0 {
+        return says(core, 0x05);
     }
+    let flags = core.options.flags;
+    if is_forbidden(
+        chip_options::erase_allowed(part, flags),
+        is_boot(at.area, at.block),
+        chip_options::boot_allowed(part, flags),
+    ) {
+        return says(core, 0x10);
+    }
+    erase_in(at.area, at.offset, size, code, data);
+    chip_sums::resum(part, place, code, data, sums);
+    says(core, 0x06)
 }
 
 // The bytes of a good range.
@@ -138,20 +104,15 @@ fn range_bytes<'a>(
     ensures { result.now ≡ range_bytes part area block count (flash code.now «data».now) }
 {
     let size = part.block_size(area);
-    match area {
-        Area::CodeFlash => lent::span(code, block * size, count * size),
-        Area::DataFlash => lent::span(data, block * size, count * size),
-    }
+    let bytes = chip_core::area_bytes(area, code, data);
+    lent::span(bytes, block * size, count * size)
 }
 
 // 32h knows two values of D01.
 fn is_known(d01: u8) -> bool
     ensures { result ≡ (eqb d01 0x00 or eqb d01 0x01) }
 {
-    if d01 == 0x00 {
-        return true;
-    }
-    d01 == 0x01
+    matches!(d01, 0x00 | 0x01)
 }
 
 pub fn blank_check<'a>(
@@ -165,57 +126,46 @@ pub fn blank_check<'a>(
 ) -> Done
     ensures { result ≡ blank_check part core (range_of part start end) d01 (flash code.now «data».now) }
 {
-    let range = part.range(start, end);
-    match range {
-        Range::Blocks { area, block, count } => {
-            if is_known(d01) {
-                if chip_flash::is_blank(range_bytes(part, area, block, count, code, data)) {
-                    if d01 == 0x01 {
-                        let options = core.options;
-                        if options.is_fresh(part) {
-                            return says(core, 0x06);
-                        }
-                        return says(core, 0x1B);
-                    }
-                    return says(core, 0x06);
-                }
-                return says(core, 0x1B);
-            }
-            says(core, 0x05)
-        }
-        Range::Bad => says(core, 0x05),
+    let Some(range) = part.range(start, end) else {
+        return says(core, 0x05);
+    };
+    if !is_known(d01) {
+        return says(core, 0x05);
     }
+    let bytes = range_bytes(part, range.area, range.block, range.count, code, data);
+    if !chip_flash::is_blank(bytes) {
+        return says(core, 0x1B);
+    }
+    if d01 == 0x01 && !core.options.is_fresh(part) {
+        return says(core, 0x1B);
+    }
+    says(core, 0x06)
 }
 
 pub fn programming(part: Part, core: Core, start: usize, end: usize) -> Done
     ensures { result ≡ programming part core (range_of part start end) start end }
 {
-    let range = part.range(start, end);
-    match range {
-        Range::Blocks { area, block, count } => {
-            let options = core.options;
-            let flags = options.flags;
-            if is_forbidden(
-                chip_options::write_allowed(part, flags),
-                is_boot(area, block),
-                chip_options::boot_allowed(part, flags),
-            ) {
-                return says(core, 0x10);
-            }
-            says(awaiting(core, 0x40, start, end), 0x06)
-        }
-        Range::Bad => says(core, 0x05),
+    let Some(range) = part.range(start, end) else {
+        return says(core, 0x05);
+    };
+    let flags = core.options.flags;
+    if is_forbidden(
+        chip_options::write_allowed(part, flags),
+        is_boot(range.area, range.block),
+        chip_options::boot_allowed(part, flags),
+    ) {
+        return says(core, 0x10);
     }
+    says(awaiting(core, 0x40, start, end), 0x06)
 }
 
 pub fn verify(part: Part, core: Core, start: usize, end: usize) -> Done
     ensures { result ≡ verify core (range_of part start end) start end }
 {
-    let range = part.range(start, end);
-    match range {
-        Range::Blocks { area, block, count } => says(awaiting(core, 0x13, start, end), 0x06),
-        Range::Bad => says(core, 0x05),
+    if part.range(start, end).is_none() {
+        return says(core, 0x05);
     }
+    says(awaiting(core, 0x13, start, end), 0x06)
 }
 
 pub fn checksum<'a>(
@@ -229,62 +179,44 @@ pub fn checksum<'a>(
 ) -> Done
     ensures { result ≡ checksum part core (range_of part start end) (memory code.now «data».now sums.now) }
 {
-    let range = part.range(start, end);
-    match range {
-        Range::Blocks { area, block, count } => {
-            if count == 1 {
-                let kept = chip_sums::kept(sums, area, block);
-                return Done {
-                    reply: Reply::Sum(kept),
-                    core,
-                };
-            }
-            let sum = chip_flash::sum(range_bytes(part, area, block, count, code, data));
-            Done {
-                reply: Reply::Sum(sum),
-                core,
-            }
-        }
-        Range::Bad => says(core, 0x05),
+    let Some(range) = part.range(start, end) else {
+        return says(core, 0x05);
+    };
+    let sum = if range.count == 1 {
+        chip_sums::kept(sums, range.area, range.block)
+    } else {
+        chip_flash::sum(range_bytes(part, range.area, range.block, range.count, code, data))
+    };
+    Done {
+        reply: Reply::Sum(sum),
+        core,
     }
 }
 
 fn is_all_blank(code: &[u8], data: &[u8]) -> bool
     ensures { result ≡ (blank code.now and blank «data».now) }
 {
-    if chip_flash::is_blank(code) {
-        return chip_flash::is_blank(data);
-    }
-    false
+    chip_flash::is_blank(code) && chip_flash::is_blank(data)
 }
 
 fn is_releasable(part: Part, flags: u8) -> bool
     ensures { result ≡ (boot_allowed part flags and erase_allowed part flags) }
 {
-    if chip_options::boot_allowed(part, flags) {
-        return chip_options::erase_allowed(part, flags);
-    }
-    false
+    chip_options::boot_allowed(part, flags) && chip_options::erase_allowed(part, flags)
 }
 
 pub fn release(part: Part, core: Core, code: &[u8], data: &[u8]) -> Done
     ensures { result ≡ security_release part core (flash code.now «data».now) }
 {
-    let options = core.options;
-    if is_releasable(part, options.flags) {
-        if is_all_blank(code, data) {
-            let released = options.released(part);
-            let phase = core.phase;
-            return Done {
-                reply: Reply::Status(0x06),
-                core: Core {
-                    options: released,
-                    rate: core.rate,
-                    phase,
-                },
-            };
-        }
+    if !is_releasable(part, core.options.flags) {
+        return says(core, 0x10);
+    }
+    if !is_all_blank(code, data) {
         return says(core, 0x1B);
     }
-    says(core, 0x10)
+    let fresh = Core {
+        options: core.options.released(part),
+        ..core
+    };
+    says(fresh, 0x06)
 }

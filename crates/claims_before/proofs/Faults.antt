@@ -20,8 +20,8 @@ use Rattle.frame.specs.Collector.{heard}
 use Rattle.frame.specs.declared.judgement.Judgement.{Judgement}
 use Rattle.frame.specs.declared.judgement.Judgement.TheVariants.{Good}
 use Rattle.part.specs.declared.Part.{Part}
-use Rattle.part.specs.declared.refusal.Verdict.{Verdict}
-use Rattle.part.specs.declared.refusal.Verdict.TheVariants.{Accepted, Refused}
+use Rattle.part.specs.declared.refusal.Refusal.{Refusal}
+use Rattle.std.specs.Prelude.{Err, Ok, Result}
 
 -- Two effects that are the same on the wire, of which the second names no fault.
 record Wired (x y : Effect) : Type 0 where
@@ -46,11 +46,11 @@ record Steps (o u : Outcome) : Type 0 where
   same : SameButFault o u
   none : u.fault ≡ Good
 
-settled-wired : (w : Verdict) (p : Part) (x y : Reaction) (c : Chip) (m : Memory) (room : List ℕ) → Both Wired x y
+settled-wired : (w : Result Unit Refusal) (p : Part) (x y : Reaction) (c : Chip) (m : Memory) (room : List ℕ) → Both Wired x y
     → Steps (settled w p x c m room) (settled w p y c m room)
 unfolding settled
-settled-wired (Refused r) p x y c m room b = record { same = record { answer = refl; chip = refl; memory = refl; room = refl }; none = refl }
-settled-wired Accepted p x y c m room b =
+settled-wired (Err r) p x y c m room b = record { same = record { answer = refl; chip = refl; memory = refl; room = refl }; none = refl }
+settled-wired (Ok _) p x y c m room b =
     let e = b.does in
     record {
       same =

@@ -35,8 +35,10 @@ use Rattle.commands.proofs.Laws.{com-read}
 use Rattle.commands.specs.Commands.{com_of, read_command}
 use Rattle.commands.specs.declared.Command as Commands
 use Rattle.commands.specs.declared.Command.TheVariants.{BlankCheck, BlockErase, Checksum, Programming, RateSet, Reset, SecurityGet, SecurityRelease, SecuritySet, SignatureGet, Verify}
-use Rattle.commands.specs.declared.Reading.{Reading}
-use Rattle.commands.specs.declared.Reading.TheVariants.{Meant, UnfitLen, Unknown}
+use Rattle.part.specs.declared.Place.{Place}
+use Rattle.commands.specs.declared.Misread.TheVariants.{UnfitLen, Unknown}
+use Rattle.commands.specs.declared.Misread.{Misread}
+use Rattle.std.specs.Prelude.{Err, Ok, Option, Result}
 use Rattle.frame.specs.Collector.{hear, heard}
 use Rattle.frame.specs.Frame.{complete, payload}
 use Rattle.frame.specs.Judgement.{fitting, is_good, judge_of}
@@ -46,11 +48,10 @@ use Rattle.frame.specs.declared.judgement.Judgement.{Judgement}
 use Rattle.frame.specs.declared.judgement.Judgement.TheVariants.{UnfitLength}
 use Rattle.part.specs.Part.{place_of, range_of}
 use Rattle.part.specs.declared.Part.{Part}
-use Rattle.part.specs.declared.Place.{Place}
 use Rattle.words.specs.Words.{if◌then◌otherwise◌}
 
 -- B0h is allowed in phase 3 alone.
-sum-ready : (g : List ℕ) (start end : ℕ) → read_command (payload g) ≡ Meant (Checksum start end) → (ph : Phase) → allowed_in ph (get_or (payload g) 0 0) ≡ true
+sum-ready : (g : List ℕ) (start end : ℕ) → read_command (payload g) ≡ Ok (Checksum start end) → (ph : Phase) → allowed_in ph (get_or (payload g) 0 0) ≡ true
     → ph ≡ Ready
 unfolding com_of
 sum-ready g start end r ph t = only-ready _ (ap (λ (c : ℕ). eqb c 0x9A) (com-read (payload g) _ r)) ph t
@@ -80,9 +81,9 @@ pub record PageTaken (k : Core) (hs : List ℕ) (v : Event) (w : Awaited) (g : L
 -- Where v comes after hs, each rule of R is, by Rel, like the chip's own. The same flash f is lent with the sums s, and under R with t.
 pub record RulesLike (R : Rules) (Rel : Effect → Effect → Type 0) (p : Part) (k : Core) (hs : List ℕ) (v : Event) (f : Flash) (s t : List ℕ) : Type 0 where
   pub same : (d : Done) → Plain d.reply → Rel (effect d (lent f s)) (effect d (lent f t))
-  pub erases : (x : Place) → Rel (block_erase p k x (lent f s)) (R.erases p k x (lent f t))
+  pub erases : (x : Option Place) → Rel (block_erase p k x (lent f s)) (R.erases p k x (lent f t))
   pub sums : (g : List ℕ) (start end : ℕ) → k.phase ≡ Ready → taken_in (hearing k.phase) hs v ≡ g ∷ [] → is_good (judge_of Last g) ≡ true
-      → read_command (payload g) ≡ Meant (Checksum start end)
+      → read_command (payload g) ≡ Ok (Checksum start end)
       → Rel (effect (checksum p k (range_of p start end) (lent f s)) (lent f s)) (effect (R.sums p k (range_of p start end) (lent f t)) (lent f t))
   pub stores : (w : Awaited) (g : List ℕ) → PageTaken k hs v w g → eqb w.command 0x40 ≡ true
       → Rel (program_page p k w (place_of p w.next) (payload g) (lent f s)) (R.stores p k w (place_of p w.next) (payload g) (lent f t))
@@ -98,7 +99,7 @@ pub record Both (Rel : Effect → Effect → Type 0) (x y : Reaction) : Type 0 w
 
 module _ {R : Rules} {Rel : Effect → Effect → Type 0} {p : Part} {k : Core} {hs : List ℕ} {v : Event} {f : Flash} {s t : List ℕ} (l : RulesLike R Rel p k hs v f s t) where
   module _ (g : List ℕ) (q : taken_in (hearing k.phase) hs v ≡ g ∷ []) where
-    works : is_good (judge_of Last g) ≡ true → allowed_in k.phase (get_or (payload g) 0 0) ≡ true → (c : Commands.Command) → read_command (payload g) ≡ Meant c
+    works : is_good (judge_of Last g) ≡ true → allowed_in k.phase (get_or (payload g) 0 0) ≡ true → (c : Commands.Command) → read_command (payload g) ≡ Ok c
         → Rel (work c p k (lent f s)) (work_under R c p k (lent f t))
     unfolding work work_under fault_in
     works u x (RateSet rate supply) e = l.same _ (rate-plain p k rate supply)
@@ -113,12 +114,12 @@ module _ {R : Rules} {Rel : Effect → Effect → Type 0} {p : Part} {k : Core} 
     works u x SecuritySet e = l.same _ (status-plain _)
     works u x SecurityRelease e = l.same _ (release-plain p k f)
 
-    reading-does : is_good (judge_of Last g) ≡ true → allowed_in k.phase (get_or (payload g) 0 0) ≡ true → (r : Reading) → read_command (payload g) ≡ r
+    reading-does : is_good (judge_of Last g) ≡ true → allowed_in k.phase (get_or (payload g) 0 0) ≡ true → (r : Result Commands.Command Misread) → read_command (payload g) ≡ r
         → Rel (reading_does r p k (lent f s)) (reading_does_under R r p k (lent f t))
     unfolding reading_does reading_does_under
-    reading-does u x Unknown e = l.same _ (status-plain _)
-    reading-does u x UnfitLen e = l.frames k UnfitLength
-    reading-does u x (Meant c) e = works u x c e
+    reading-does u x (Err Unknown) e = l.same _ (status-plain _)
+    reading-does u x (Err UnfitLen) e = l.frames k UnfitLength
+    reading-does u x (Ok c) e = works u x c e
 
     command-does : Rel (command_does p k g (lent f s)) (command_does_under R p k g (lent f t))
     unfolding command_does command_does_under

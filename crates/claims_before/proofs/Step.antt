@@ -28,12 +28,11 @@ use Rattle.claims_before.specs.Rules.{step_under}
 use Rattle.claims_runs.proofs.Window.{if-two}
 use Rattle.part.specs.declared.Area.{Area}
 use Rattle.part.specs.declared.Part.{Part}
-use Rattle.part.specs.declared.Place.{Place}
-use Rattle.part.specs.declared.Place.TheVariants.{In, Outside}
+use Rattle.part.specs.Part.{range_at}
+use Rattle.part.specs.declared.refusal.Refusal.{Refusal}
 use Rattle.part.specs.declared.Range.{Range}
-use Rattle.part.specs.declared.Range.TheVariants.{Bad, Blocks}
-use Rattle.part.specs.declared.refusal.Verdict.{Verdict}
-use Rattle.part.specs.declared.refusal.Verdict.TheVariants.{Accepted, Refused}
+use Rattle.part.specs.declared.Place.{Place}
+use Rattle.std.specs.Prelude.{Err, None, Ok, Option, Result, Some}
 use Rattle.words.proofs.Laws.{if-all}
 
 -- Two effects that differ at most in the sums.
@@ -47,37 +46,37 @@ module _ (p : Part) (k : Core) (f : Flash) (s t : List ℕ) where
   same : (d : Done) → Like (effect d (lent f s)) (effect d (lent f t))
   same d = record { reply = refl; core = refl; flash = refl }
 
-  erases : (x : Place) → Like (block_erase p k x (lent f s)) (block_erase_before p k x (lent f t))
+  erases : (x : Option Place) → Like (block_erase p k x (lent f s)) (block_erase_before p k x (lent f t))
   unfolding block_erase block_erase_before
-  erases Outside = same _
-  erases (In a offset block page) =
+  erases None = same _
+  erases (Some place) =
       if-two Like _ (λ u. same _) (λ u. if-two Like _ (λ v. same _) (λ v. record { reply = refl; core = refl; flash = resummed-flash p _ _ }))
 
   -- Where the range is one block, the sum that is kept has to be the one worked out from flash.
-  sums : (r : Range) → ((a : Area) (b : ℕ) → r ≡ Blocks a b 1 → kept s a b ≡ block_sum p a b f)
+  sums : (r : Option Range) → ((a : Area) (b : ℕ) → r ≡ Some (range_at a b 1) → kept s a b ≡ block_sum p a b f)
       → Like (effect (checksum p k r (lent f s)) (lent f s)) (effect (checksum_before p k r f) (lent f t))
   unfolding checksum checksum_before block_sum
-  sums Bad h = same _
-  sums (Blocks a b n) h =
-      if-all (λ (d : Done). Like (effect d (lent f s)) (effect (told (Sum (sum_of_bytes (range_bytes p a b n f))) k) (lent f t)))
-      (eqb n 1)
-      (λ e. let one : n ≡ 1 = eqb-true n 1 e in
+  sums None h = same _
+  sums (Some range) h =
+      if-all (λ (d : Done). Like (effect d (lent f s)) (effect (told (Sum (sum_of_bytes (range_bytes p range.area range.block range.count f))) k) (lent f t)))
+      (eqb range.count 1)
+      (λ e. let one : range.count ≡ 1 = eqb-true range.count 1 e in
       record {
-        reply = ap Sum (h a b (ap (Blocks a b) one) ∙ ap (λ (c : ℕ). sum_of_bytes (range_bytes p a b c f)) (sym one));
+        reply = ap Sum (h range.area range.block (ap {B = Option Range} (λ (n : ℕ). Some (range_at range.area range.block n)) one) ∙ ap (λ (c : ℕ). sum_of_bytes (range_bytes p range.area range.block c f)) (sym one));
         core = refl;
         flash = refl;
       })
       (λ e. same _)
 
-  stores : (w : Awaited) (x : Place) (ds : List ℕ) → Like (program_page p k w x ds (lent f s)) (program_page_before k w x ds (lent f t))
+  stores : (w : Awaited) (x : Option Place) (ds : List ℕ) → Like (program_page p k w x ds (lent f s)) (program_page_before k w x ds (lent f t))
   unfolding program_page program_page_before page_written
   stores w x ds = record { reply = refl; core = refl; flash = resummed-flash p _ _ }
 
-  settled-both : (w : Verdict) (x y : Reaction) (c : Chip) (room : List ℕ) → Both Like x y
+  settled-both : (w : Result Unit Refusal) (x y : Reaction) (c : Chip) (room : List ℕ) → Both Like x y
       → SameButSums (settled w p x c (lent f s) room) (settled w p y c (lent f t) room)
   unfolding settled
-  settled-both (Refused r) x y c room b = record { answer = refl; fault = refl; chip = refl; flash = refl; room = refl }
-  settled-both Accepted x y c room b =
+  settled-both (Err r) x y c room b = record { answer = refl; fault = refl; chip = refl; flash = refl; room = refl }
+  settled-both (Ok _) x y c room b =
       record {
         answer = rw (b.does.core, b.does.reply);
         fault = ap fault_in b.does.reply;

@@ -42,7 +42,7 @@ use Rattle.lent.specs.Lent.{same}
 use Rattle.part.specs.Part.{place_of}
 use Rattle.part.specs.declared.Part.{Part}
 use Rattle.part.specs.declared.Place.{Place}
-use Rattle.part.specs.declared.refusal.Verdict.TheVariants.{Accepted}
+use Rattle.std.specs.Prelude.{Ok, Option}
 use Rattle.words.specs.Words.{if◌then◌otherwise◌}
 
 -- Whether two lists of bytes are equal can be told, and so of what is lent.
@@ -63,7 +63,7 @@ memory-equal m n = go (bytes-equal m.flash.code_flash n.flash.code_flash) (bytes
     go (yes c) (yes d) (no s) = no (λ e. s (ap (λ (x : Memory). x.sums) e))
 
 -- The two rules, by whether the page there is blank and whether what is sent lands.
-module _ (p : Part) (k : Core) (w : Awaited) (at : Place) (ds : List ℕ) (m : Memory) where
+module _ (p : Part) (k : Core) (w : Awaited) (at : Option Place) (ds : List ℕ) (m : Memory) where
   page-lands : programmed (page_in at m.flash) ds ≡ ds → program_page p k w at ds m ≡ effect (told (stored_reply w) (next_page w k)) (page_written p at ds m)
   unfolding program_page
   page-lands e = ap (λ (d : Done). effect d (page_written p at ds m)) (stored-told w k ((status-is-told (page_in at m.flash) ds).landed e))
@@ -157,7 +157,7 @@ module _ (R : Rules) (p : Part) (k : Core) (m : Memory) (w : Awaited) (g : List 
 
 page-step : (R : Rules) (p : Part) (o : Outcome) (v : Event) (w : Awaited) (ds : List ℕ) {x : Effect} → Stands p o → PageSent o v w ds
     → R.stores p o.chip.core w (place_of p w.next) ds o.memory ≡ x
-    → onward_under R p o v ≡ settled Accepted p (reaction [] x) o.chip o.memory o.room
+    → onward_under R p o v ≡ settled (Ok tt) p (reaction [] x) o.chip o.memory o.room
 unfolding step_under hearing good_for
 page-step R p o v w ds {x} st q e =
     let k : Core = o.chip.core in
@@ -165,15 +165,15 @@ page-step R p o v w ds {x} st q e =
     rw (st.accepted, frame-heard R p k _ o.memory w q.frame v (ap hearing q.phase) q.taken, page-does R p k o.memory w q.frame q.command q.good, s)
 
 module _ (p : Part) (c : Chip) (k : Core) (m n : Memory) (room : List ℕ) where
-  says-pair : (s t : ℕ) → PageDone (settled Accepted p (reaction [] (effect (pair s t k) n)) c m room) (says_frame (s ∷ t ∷ [])) k n
+  says-pair : (s t : ℕ) → PageDone (settled (Ok tt) p (reaction [] (effect (pair s t k) n)) c m room) (says_frame (s ∷ t ∷ [])) k n
   unfolding settled said_of fault_in payloads frames_of framed
   says-pair s t = record { said = refl; record_is = refl; memory = refl }
 
-  says-stored : (w : Awaited) → PageDone (settled Accepted p (reaction [] (effect (told (stored_reply w) k) n)) c m room) (says_stored w) k n
+  says-stored : (w : Awaited) → PageDone (settled (Ok tt) p (reaction [] (effect (told (stored_reply w) k) n)) c m room) (says_stored w) k n
   unfolding settled said_of fault_in payloads frames_of framed stored_reply says_stored if◌then◌otherwise◌
   says-stored w = go (is_last_page w) refl
     where
-      go : (t : Bool) → is_last_page w ≡ t → PageDone (settled Accepted p (reaction [] (effect (told (stored_reply w) k) n)) c m room) (says_stored w) k n
+      go : (t : Bool) → is_last_page w ≡ t → PageDone (settled (Ok tt) p (reaction [] (effect (told (stored_reply w) k) n)) c m room) (says_stored w) k n
       go true t = rw t (record { said = refl; record_is = refl; memory = refl })
       go false t = rw t (record { said = refl; record_is = refl; memory = refl })
 

@@ -45,6 +45,7 @@ use Rattle.lent.specs.Lent.{Left, all_are, put_at, put_of}
 use Rattle.part.specs.Part.{block_of, block_size, described, lies_in, page_of, place_in, place_of}
 use Rattle.part.specs.Refusal.{first_of}
 use Rattle.part.specs.declared.Place.{Place}
+use Rattle.std.specs.Prelude.{Option}
 use Rattle.words.specs.Words.{◌and◌, ◌from◌to◌, ◌or◌, if◌then◌otherwise◌}
 
 -- The pages are bytes, so the chip at their footers stands.
@@ -139,7 +140,7 @@ put_back l at n h =
     sym (ap (λ (x : Left). x.bytes) (part-put l at n (take n (drop at l)) h (length-take-le n (drop at l) (rw length-drop (omega arith)))))
     ∙ rw (take-append-drop, take-append-drop)
 
-abbrev there : Place
+abbrev there : Option Place
 there = place_of the_part 0x0400
 
 code-long : length written_once.flash.code_flash ≡ 16384

@@ -41,14 +41,14 @@ use Rattle.frame.specs.declared.Header.TheVariants.{Data}
 use Rattle.lent.specs.Lent.{same}
 use Rattle.part.specs.Part.{place_of}
 use Rattle.part.specs.declared.Part.{Part}
+use Rattle.part.specs.declared.refusal.Refusal.{Refusal}
 use Rattle.part.specs.declared.Place.{Place}
-use Rattle.part.specs.declared.refusal.Verdict.{Verdict}
-use Rattle.part.specs.declared.refusal.Verdict.TheVariants.{Accepted, Refused}
+use Rattle.std.specs.Prelude.{Err, Ok, Option, Result}
 use Rattle.words.proofs.Laws.{and_right, if-all}
 use Rattle.words.specs.Words.{◌and◌, ◌or◌, if◌then◌otherwise◌}
 
 -- The two rules, by whether the page is equal, whether it is the last, and what is remembered.
-module _ (k : Core) (w : Awaited) (at : Place) (ds : List ℕ) (m : Flash) where
+module _ (k : Core) (w : Awaited) (at : Option Place) (ds : List ℕ) (m : Flash) where
   same-rule : (same (page_in at m) ds ≡ false → is_last_page w ≡ false → ⊥) → (same (page_in at m) ds ≡ true → is_last_page w ≡ true → w.differed ≡ true → ⊥)
       → verify_page k w at ds m ≡ verify_page_before k w at ds m
   unfolding verify_page verify_page_before compared verify_status next_page is_last_page ◌and◌ ◌or◌ if◌then◌otherwise◌
@@ -62,7 +62,7 @@ module _ (k : Core) (w : Awaited) (at : Place) (ds : List ℕ) (m : Flash) where
       go true true true e f g = absurd (y e f g)
 
 -- A page that is neither of A0h nor of 40h is one of 13h, where the call is accepted.
-is-13h : (p : Part) (o : Outcome) (w : Awaited) → verdict_in p o ≡ Accepted → o.chip.core.phase ≡ Awaiting w → eqb w.command 0xA0 ≡ false
+is-13h : (p : Part) (o : Outcome) (w : Awaited) → verdict_in p o ≡ Ok tt → o.chip.core.phase ≡ Awaiting w → eqb w.command 0xA0 ≡ false
     → eqb w.command 0x40 ≡ false → w.command ≡ 0x13
 unfolding good_state good_phase ◌or◌
 is-13h p o w e ph n x =
@@ -76,14 +76,14 @@ as-before-verify p o v n = go (verdict_in p o) refl
     k : Core
     k = o.chip.core
 
-    at-page : verdict_in p o ≡ Accepted → (w : Awaited) (g : List ℕ) → PageTaken k (heard o.chip.collector) v w g → eqb w.command 0x40 ≡ false → (equal : Bool)
+    at-page : verdict_in p o ≡ Ok tt → (w : Awaited) (g : List ℕ) → PageTaken k (heard o.chip.collector) v w g → eqb w.command 0x40 ≡ false → (equal : Bool)
         → same (page_in (place_of p w.next) o.memory.flash) (payload g) ≡ equal → PageCompared p o v w equal
     at-page a w g q x equal e =
         record { frame = g; phase = q.phase; command = is-13h p o w a q.phase q.page x; taken = q.taken; good = q.good; result = e }
 
-    go : (x : Verdict) → verdict_in p o ≡ x → onward p o v ≡ onward_under rules_before_verify p o v
-    go (Refused r) e = rw e
-    go Accepted a =
+    go : (x : Result Unit Refusal) → verdict_in p o ≡ x → onward p o v ≡ onward_under rules_before_verify p o v
+    go (Err r) e = rw e
+    go (Ok _) a =
         sym
         (equal-step p o.chip v o.memory o.room
         (record {

@@ -1,6 +1,6 @@
 -- The chip before document 02, §1: the rules that it replaced, without the sums. None is read or written here; those that are lent pass through.
 -- What §1 did not replace is the chip's own, used by its name: so is how a page of 40h is written, which is §6's matter (specs/Stored).
-use Rattle.std.specs.Prelude.{not, List, ◌%◌, ℕ, eqb}
+use Rattle.std.specs.Prelude.{not, List, ◌%◌, ℕ, eqb, None, Option, Some}
 use Rattle.chip.specs.Run.{Spoken}
 use Rattle.chip.specs.Step.{Outcome}
 use Rattle.chip.specs.declared.Event.{Event}
@@ -17,27 +17,25 @@ use Rattle.chip_work.specs.Work.{erased_in, forbidden, is_boot}
 use Rattle.claims_before.specs.Rules.{Rules, answers_under, onward_under, rules_now, run_under}
 use Rattle.part.specs.Part.{block_size}
 use Rattle.part.specs.declared.Part.{Part}
-use Rattle.part.specs.declared.Place.{Place}
-use Rattle.part.specs.declared.Place.TheVariants.{In, Outside}
 use Rattle.part.specs.declared.Range.{Range}
-use Rattle.part.specs.declared.Range.TheVariants.{Bad, Blocks}
+use Rattle.part.specs.declared.Place.{Place}
 use Rattle.words.specs.Words.{if◌then◌otherwise◌}
 
 -- B0h: "range; 06h, then a two-byte data frame, low first: 0000h less each byte, 16 bits", worked out from flash over every range.
-unfoldable pub checksum_before : Part → Core → Range → Flash → Done
-checksum_before p k Bad m = says parameter_error k
-checksum_before p k (Blocks a block count) m = told (Sum (sum_of_bytes (range_bytes p a block count m))) k
+unfoldable pub checksum_before : Part → Core → Option Range → Flash → Done
+checksum_before p k None m = says parameter_error k
+checksum_before p k (Some range) m = told (Sum (sum_of_bytes (range_bytes p range.area range.block range.count m))) k
 
 -- 22h: the block is erased.
-unfoldable pub block_erase_before : Part → Core → Place → Memory → Effect
-block_erase_before p k Outside m = effect (says parameter_error k) m
-block_erase_before p k (In a offset block page) m =
-    if not (eqb (offset % block_size p a) 0) then effect (says parameter_error k) m
-    otherwise if forbidden (erase_allowed p k.options.flags) (is_boot a block) (boot_allowed p k.options.flags) then effect (says protect_error k) m
-    otherwise effect (says acknowledge k) (with_flash m (erased_in a offset (block_size p a) m.flash))
+unfoldable pub block_erase_before : Part → Core → Option Place → Memory → Effect
+block_erase_before p k None m = effect (says parameter_error k) m
+block_erase_before p k (Some place) m =
+    if not (eqb (place.offset % block_size p place.area) 0) then effect (says parameter_error k) m
+    otherwise if forbidden (erase_allowed p k.options.flags) (is_boot place.area place.block) (boot_allowed p k.options.flags) then effect (says protect_error k) m
+    otherwise effect (says acknowledge k) (with_flash m (erased_in place.area place.offset (block_size p place.area) m.flash))
 
 -- 40h: a page is written; its block's sum is not.
-unfoldable pub program_page_before : Core → Awaited → Place → List ℕ → Memory → Effect
+unfoldable pub program_page_before : Core → Awaited → Option Place → List ℕ → Memory → Effect
 program_page_before k w at ds m =
     effect (told_written (page_status (page_in at m.flash) ds) w k) (with_flash m (page_programmed at ds m.flash))
 

@@ -1,6 +1,6 @@
 -- Worked examples on the part of document 01's: ranges of one block and of two, and what B0h over them says to a chip whose sums of code block 1 and data block 0
 -- are 1234h, which is wrong: all of its flash is FFh.
-use Rattle.std.specs.Prelude.{List, [], ◌++◌, ◌∷◌, map, ◌≡◌, ℕ, replicate, set, take}
+use Rattle.std.specs.Prelude.{List, [], ◌++◌, ◌∷◌, map, ◌≡◌, ℕ, replicate, set, take, Some}
 use Rattle.chip.specs.Run.{before, heard_back, run}
 use Rattle.chip.specs.Step.{Outcome}
 use Rattle.chip.specs.declared.Event.TheVariants.{Byte}
@@ -9,14 +9,13 @@ use Rattle.claims_before.specs.Asked.{SumOver}
 use Rattle.claims_before.specs.Before.{answers_before}
 use Rattle.claims_before.specs.Said.{says_sum}
 use Rattle.claims_stars.specs.Table.{Example, acknowledged, example, fresh_memory, fresh_sums, ready_chip, reply_by, the_part}
-use Rattle.part.specs.Part.{range_of}
+use Rattle.part.specs.Part.{range_of, range_at}
 use Rattle.part.specs.declared.Area.TheVariants.{CodeFlash, DataFlash}
-use Rattle.part.specs.declared.Range.TheVariants.{Blocks}
 
 pub record Ranges : Type 0 where
-  pub one_of_code : range_of the_part 0x000400 0x0007FF ≡ Blocks CodeFlash 1 1
-  pub one_of_data : range_of the_part 0x0F1000 0x0F13FF ≡ Blocks DataFlash 0 1
-  pub two : range_of the_part 0x000000 0x0007FF ≡ Blocks CodeFlash 0 2
+  pub one_of_code : range_of the_part 0x000400 0x0007FF ≡ Some (range_at CodeFlash 1 1)
+  pub one_of_data : range_of the_part 0x0F1000 0x0F13FF ≡ Some (range_at DataFlash 0 1)
+  pub two : range_of the_part 0x000000 0x0007FF ≡ Some (range_at CodeFlash 0 2)
 
 abbrev pub spoiled : Memory
 spoiled = record { flash = fresh_memory.flash; sums = set (set fresh_sums 1 0x1234) 64 0x1234 }

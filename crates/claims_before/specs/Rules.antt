@@ -1,6 +1,6 @@
 -- The chip under given rules: the rules that requests of document 02 replace are an argument, and what calls them stands here once, as the chip has it
 -- (chip_commands/specs/Commands, chip_pages/specs/Pages, chip/specs/Step, chip/specs/Run). All else is the chip's, by its name.
-use Rattle.std.specs.Prelude.{not, List, [], ◌∷◌, ◌≡◌, ℕ, eqb, get_or, length}
+use Rattle.std.specs.Prelude.{not, List, [], ◌∷◌, ◌≡◌, ℕ, eqb, get_or, length, Err, Ok, Option, Result}
 use Rattle.chip.specs.Run.{Spoken, spoken_in}
 use Rattle.chip.specs.Step.{Outcome, Reaction, heard_byte, powered_on, reaction, settled, step_of}
 use Rattle.chip_frame.specs.Does.{mode_byte, silent}
@@ -24,8 +24,10 @@ use Rattle.commands.specs.Commands.{read_command}
 use Rattle.commands.specs.declared.Command as Commands
 use Rattle.commands.specs.declared.Command.TheVariants.{BlankCheck, BlockErase, Checksum, Programming, RateSet, Reset, Verify}
 use Rattle.commands.specs.declared.Command.TheVariants.{SecurityGet, SecurityRelease, SecuritySet, SignatureGet}
-use Rattle.commands.specs.declared.Reading.{Reading}
-use Rattle.commands.specs.declared.Reading.TheVariants.{Meant, UnfitLen, Unknown}
+use Rattle.part.specs.declared.Range.{Range}
+use Rattle.part.specs.declared.Place.{Place}
+use Rattle.commands.specs.declared.Misread.TheVariants.{UnfitLen, Unknown}
+use Rattle.commands.specs.declared.Misread.{Misread}
 use Rattle.frame.specs.Collector.{hear, heard}
 use Rattle.frame.specs.Frame.{payload}
 use Rattle.frame.specs.Judgement.{fitting, is_good, judge_of}
@@ -35,17 +37,15 @@ use Rattle.frame.specs.declared.judgement.Judgement.{Judgement}
 use Rattle.frame.specs.declared.judgement.Judgement.TheVariants.{UnfitLength}
 use Rattle.part.specs.Part.{place_of, range_of}
 use Rattle.part.specs.declared.Part.{Part}
-use Rattle.part.specs.declared.Place.{Place}
-use Rattle.part.specs.declared.Range.{Range}
 use Rattle.words.specs.Words.{if◌then◌otherwise◌}
 
 -- 22h's rule, B0h's, those of a good page of 40h and of 13h, and how a bad frame and a bad page are answered. §1 replaces the first three, §2 the fourth, §4 the
 -- last two, §6 the third again.
 pub record Rules : Type 0 where
-  pub erases : Part → Core → Place → Memory → Effect
-  pub sums : Part → Core → Range → Memory → Done
-  pub stores : Part → Core → Awaited → Place → List ℕ → Memory → Effect
-  pub compares : Core → Awaited → Place → List ℕ → Flash → Done
+  pub erases : Part → Core → Option Place → Memory → Effect
+  pub sums : Part → Core → Option Range → Memory → Done
+  pub stores : Part → Core → Awaited → Option Place → List ℕ → Memory → Effect
+  pub compares : Core → Awaited → Option Place → List ℕ → Flash → Done
   pub to_bad_frame : Judgement → Reply
   pub to_bad_page : Judgement → Reply
 
@@ -63,10 +63,10 @@ work_under R SecurityGet p k m = effect (told Security k) m
 work_under R SecuritySet p k m = effect (says acknowledge (awaiting 0xA0 0 0 k)) m
 work_under R SecurityRelease p k m = effect (security_release p k m.flash) m
 
-unfoldable pub reading_does_under : Rules → Reading → Part → Core → Memory → Effect
-reading_does_under R Unknown p k m = effect (says command_error k) m
-reading_does_under R UnfitLen p k m = effect (told (R.to_bad_frame UnfitLength) k) m
-reading_does_under R (Meant c) p k m = work_under R c p k m
+unfoldable pub reading_does_under : Rules → Result Commands.Command Misread → Part → Core → Memory → Effect
+reading_does_under R (Err Unknown) p k m = effect (says command_error k) m
+reading_does_under R (Err UnfitLen) p k m = effect (told (R.to_bad_frame UnfitLength) k) m
+reading_does_under R (Ok c) p k m = work_under R c p k m
 
 -- A complete command frame.
 unfoldable pub command_does_under : Rules → Part → Core → List ℕ → Memory → Effect

@@ -1,8 +1,8 @@
 -- "B0h over one block gives the kept sum, right or wrong" (document 02, §1); over more blocks the sum worked out from flash, as document 01 has it.
-use Rattle.std.specs.Prelude.{[], ◌++◌, ◌∷◌, ◌≢◌, ◌≡◌, ◌%◌, ◌/◌, ℕ}
+use Rattle.std.specs.Prelude.{[], ◌++◌, ◌∷◌, ◌≢◌, ◌≡◌, ◌%◌, ◌/◌, ℕ, Ok}
 use Rattle.chip.specs.Run.{onward, spoken_in}
 use Rattle.chip.specs.Step.{Outcome}
-use Rattle.chip.specs.declared.Answer.TheVariants.{Replied}
+use Rattle.chip_reply.specs.Reply.{sent_as}
 use Rattle.chip.specs.declared.Event.{Event}
 use Rattle.chip_flash.specs.Flash.{sum_of_bytes}
 use Rattle.chip_sums.specs.Sums.{kept, range_bytes}
@@ -16,7 +16,7 @@ use Rattle.part.specs.declared.Part.{Part}
 
 -- "06h, then a two-byte data frame, low first": two frames, of 11 bytes.
 unfoldable pub says_sum : ℕ → Utterance
-says_sum n = record { answer = Replied 11 2; fault = Good; bytes = data_frame (0x06 ∷ []) Last ++ data_frame (n % 256 ∷ n / 256 % 256 ∷ []) Last }
+says_sum n = record { answer = Ok (sent_as 11 2); fault = Good; bytes = data_frame (0x06 ∷ []) Last ++ data_frame (n % 256 ∷ n / 256 % 256 ∷ []) Last }
 
 -- This number is said, and nothing is changed: not flash, not a sum, not the record.
 pub record TellsSum (p : Part) (o : Outcome) (v : Event) (n : ℕ) : Type 0 where

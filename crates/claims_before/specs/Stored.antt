@@ -1,6 +1,6 @@
 -- Document 02, §6, "Writing over a page that isn't blank": 40h's rule before it, as it was; the inputs on which the two rules differ, with what is said and left there
 -- under each; and that on all other inputs every byte is as under the rule before.
-use Rattle.std.specs.Prelude.{false, not, true, List, [], ◌∷◌, ◌≢◌, ◌≡◌, ℕ}
+use Rattle.std.specs.Prelude.{false, not, true, List, [], ◌∷◌, ◌≢◌, ◌≡◌, ℕ, Option}
 use Rattle.chip.specs.Run.{onward, spoken_in}
 use Rattle.chip.specs.Step.{Outcome}
 use Rattle.chip.specs.declared.Event.{Event}
@@ -24,7 +24,7 @@ use Rattle.part.specs.declared.Place.{Place}
 use Rattle.words.specs.Words.{if◌then◌otherwise◌}
 
 -- Document 01: "For 40h the second is 06h and the page is stored if flash there was all FFh; else 1Ch, nothing stored, command over." A stored page's sum is §1's.
-unfoldable pub program_page_blank : Part → Core → Awaited → Place → List ℕ → Memory → Effect
+unfoldable pub program_page_blank : Part → Core → Awaited → Option Place → List ℕ → Memory → Effect
 program_page_blank p k w at ds m =
     if not (blank (page_in at m.flash)) then effect (pair acknowledge write_error (ready k)) m
     otherwise effect (told (stored_reply w) (next_page w k)) (resummed p at (with_flash m (page_stored at ds m.flash)))

@@ -1,6 +1,6 @@
 -- Document 02, §2, "Verify tells us too early": 13h's rule before it, as it was; the inputs on which the two rules differ, with what is said there under each;
 -- and that on all other inputs every byte is as under the rule before.
-use Rattle.std.specs.Prelude.{false, not, true, List, [], ◌∷◌, ◌≡◌, ◌+◌, ℕ}
+use Rattle.std.specs.Prelude.{false, not, true, List, [], ◌∷◌, ◌≡◌, ◌+◌, ℕ, Option}
 use Rattle.chip.specs.Run.{answers, onward, run, spoken_in}
 use Rattle.chip.specs.Step.{Outcome}
 use Rattle.chip.specs.declared.Event.{Event}
@@ -23,7 +23,7 @@ use Rattle.part.specs.declared.Place.{Place}
 use Rattle.words.specs.Words.{if◌then◌otherwise◌}
 
 -- Document 01: "For 13h the second is 06h if equal, else 0Fh and the command is over (ours)." Nothing is remembered here: what w remembers passes through.
-unfoldable pub verify_page_before : Core → Awaited → Place → List ℕ → Flash → Done
+unfoldable pub verify_page_before : Core → Awaited → Option Place → List ℕ → Flash → Done
 verify_page_before k w at ds m =
     if not (same (page_in at m) ds) then pair acknowledge verify_error (ready k)
     otherwise pair acknowledge acknowledge (next_page w k)

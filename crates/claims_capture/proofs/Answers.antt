@@ -19,9 +19,8 @@ use Rattle.claims_capture.specs.Records.{Cut, last, next, none}
 use Rattle.conversion.proofs.Writing.{counts}
 use Rattle.conversion.specs.Conversion.{Converting, bytes_written, convert_by, convert_of, converting, first_not, held_by_old, refusal_number, passes, record_named, rewritten_all, written_into}
 use Rattle.conversion.specs.declared.Asked.TheVariants.{Good, Held}
-use Rattle.conversion.specs.declared.Converted.TheVariants.{NoRoom, NotHeldAt, Wrote}
-use Rattle.conversion.specs.declared.Found.{Found}
-use Rattle.conversion.specs.declared.Found.TheVariants.{Nowhere}
+use Rattle.conversion.specs.declared.ConvertError.TheVariants.{NoRoom, NotHeldAt}
+use Rattle.std.specs.Prelude.{Err, None, Ok, Option}
 use Rattle.conversion_door.specs.Calls.{convert_told, converted_through}
 use Rattle.replay_capture.proofs.Laws.{good-is}
 use Rattle.replay_capture.specs.Capture.{good_record, record_size, records_in, records_of}
@@ -38,29 +37,29 @@ module _ (from : Form) (capture : List ℕ) where
   unfolding passes
   found-held = search_is from Held (records_from from capture)
 
-  pub none-bad : AllPass (good_record from) (records_from from capture) → first_not from Good (records_from from capture) ≡ Nowhere
+  pub none-bad : AllPass (good_record from) (records_from from capture) → first_not from Good (records_from from capture) ≡ None
   none-bad h = search-only found-good (nowhere h)
 
-  pub none-unheld : AllPass (held_by_old from) (records_from from capture) → first_not from Held (records_from from capture) ≡ Nowhere
+  pub none-unheld : AllPass (held_by_old from) (records_from from capture) → first_not from Held (records_from from capture) ≡ None
   none-unheld h = search-only found-held (nowhere h)
 
   pub needed-is : AllPass (good_record from) (records_from from capture) → length (rewritten_all from (records_from from capture)) ≡ needed from capture
   needed-is h = (counts from capture (none-bad h)).taken
 
   -- What the four of them come to.
-  convert-is : {f g : Found} (output : List ℕ) → first_not from Good (records_from from capture) ≡ f → first_not from Held (records_from from capture) ≡ g
+  convert-is : {f g : Option ℕ} (output : List ℕ) → first_not from Good (records_from from capture) ≡ f → first_not from Held (records_from from capture) ≡ g
       → convert_of from capture output ≡ convert_by f g (rewritten_all from (records_from from capture)) output
   unfolding convert_of
   convert-is output e f = rw (e, f)
 
   written-needed : (output : List ℕ) → AllPass (good_record from) (records_from from capture) → needed from capture ≤ length output
       → written_into (rewritten_all from (records_from from capture)) output
-      ≡ converting (Wrote (needed from capture)) (rewritten_all from (records_from from capture) ++ drop (needed from capture) output)
+      ≡ converting (Ok (needed from capture)) (rewritten_all from (records_from from capture) ++ drop (needed from capture) output)
   unfolding written_into if◌then◌otherwise◌
   written-needed output h k = rw (needed-is h) (simp (le-ltb (length output) (needed from capture) k))
 
   not_written : (output : List ℕ) → AllPass (good_record from) (records_from from capture) → length output < needed from capture
-      → written_into (rewritten_all from (records_from from capture)) output ≡ converting NoRoom output
+      → written_into (rewritten_all from (records_from from capture)) output ≡ converting (Err NoRoom) output
   unfolding written_into if◌then◌otherwise◌
   not_written output h k = rw (needed-is h) (simp (lt-ltb (length output) (needed from capture) k))
 
@@ -74,7 +73,7 @@ answer-is from capture output =
     room g h (yes k) = rw (written-needed from capture output g k) (wrote g h k)
     room g h (no k) = rw (not_written from capture output g (omega arith)) (no_room g h (omega arith))
 
-    go : {f g : Found} → Search (good_record from) (records_from from capture) f → Search (held_by_old from) (records_from from capture) g
+    go : {f g : Option ℕ} → Search (good_record from) (records_from from capture) f → Search (held_by_old from) (records_from from capture) g
         → Answered from capture output (convert_by f g (rewritten_all from (records_from from capture)) output)
     go (at k x) y = bad k x
     go (nowhere g) (at k y) = not_held k g y
@@ -100,7 +99,7 @@ refused-untouched from capture output h = go (answer-is from capture output) h
 pub old-never-not-held : OldNeverNotHeld
 old-never-not-held capture output k e = go (answer-is Old capture output) e
   where
-    go : {x : Converting} → Answered Old capture output x → x.converted ≢ NotHeldAt k
+    go : {x : Converting} → Answered Old capture output x → x.converted ≢ (Err (NotHeldAt k))
     go (bad l y) p = let z : ◌≡◌ {A = ℕ} 0 1 = cc in omega arith
     go (not_held l g y) p = false≢true (sym y.fails ∙ old-is-held (get_or (records_from Old capture) l []) (g l y.there))
     go (no_room g i l) p = let z : ◌≡◌ {A = ℕ} 0 1 = cc in omega arith

@@ -11,21 +11,20 @@ use Rattle.claims_capture.specs.Answers.{records_from}
 use Rattle.claims_capture.specs.Pieces.{JudgedInPieces, WrittenInPieces, else_after}
 use Rattle.conversion.specs.Conversion.{first_not, one_later, passes, rewritten, rewritten_all}
 use Rattle.conversion.specs.declared.Asked.{Asked}
-use Rattle.conversion.specs.declared.Found.{Found}
-use Rattle.conversion.specs.declared.Found.TheVariants.{At, Nowhere}
+use Rattle.std.specs.Prelude.{None, Option, Some}
 use Rattle.replay_capture.specs.declared.Form.{Form}
 use Rattle.words.specs.Words.{if◌then◌otherwise◌}
 
-else-none : (f : Found) → f ≡ else_after 0 Nowhere f
+else-none : (f : Option ℕ) → f ≡ else_after 0 None f
 unfolding else_after
-else-none Nowhere = refl
-else-none (At k) = ap At (omega arith)
+else-none None = refl
+else-none (Some k) = ap Some (omega arith)
 
-else-later : (n : ℕ) (f g : Found) → one_later (else_after n f g) ≡ else_after (suc n) (one_later f) g
+else-later : (n : ℕ) (f g : Option ℕ) → one_later (else_after n f g) ≡ else_after (suc n) (one_later f) g
 unfolding else_after one_later
-else-later n (At k) g = refl
-else-later n Nowhere Nowhere = refl
-else-later n Nowhere (At k) = ap At (omega arith)
+else-later n (Some k) g = refl
+else-later n None None = refl
+else-later n None (Some k) = ap Some (omega arith)
 
 first-append : (form : Form) (asked : Asked) (rs ss : List (List ℕ)) → first_not form asked (rs ++ ss) ≡ else_after (length rs) (first_not form asked rs) (first_not form asked ss)
 unfolding first_not else_after if◌then◌otherwise◌
@@ -33,8 +32,8 @@ first-append form asked [] ss = else-none (first_not form asked ss)
 first-append form asked (r ∷ rs) ss = go (passes form asked r) (first-append form asked rs ss)
   where
     go : (t : Bool) → first_not form asked (rs ++ ss) ≡ else_after (length rs) (first_not form asked rs) (first_not form asked ss)
-        → (if t then one_later (first_not form asked (rs ++ ss)) otherwise At 0)
-        ≡ else_after (length (r ∷ rs)) (if t then one_later (first_not form asked rs) otherwise At 0) (first_not form asked ss)
+        → (if t then one_later (first_not form asked (rs ++ ss)) otherwise Some 0)
+        ≡ else_after (length (r ∷ rs)) (if t then one_later (first_not form asked rs) otherwise Some 0) (first_not form asked ss)
     go true e = ap one_later e ∙ else-later (length rs) (first_not form asked rs) (first_not form asked ss)
     go false e = refl
 

@@ -21,6 +21,7 @@ use Rattle.replay_capture.specs.Capture.{carried_bytes, count, data_in, data_siz
 use Rattle.replay_capture.specs.declared.Form.{Form}
 use Rattle.replay_capture.specs.declared.Form.TheVariants.{New, Old}
 use Rattle.replay_capture.specs.declared.Record.TheVariants.{BytesRecord, GapRecord}
+use Rattle.std.specs.Prelude.{Ok}
 use Rattle.words.proofs.Laws.{and_both, and_left, and_right}
 use Rattle.words.specs.Words.{◌and◌, if◌then◌otherwise◌}
 
@@ -71,7 +72,7 @@ laid-rewritten form k seat tick bs h =
     rw (between-zeros (other form), six-is form k seat tick bs h)
     (ap (λ (l : List ℕ). k ∷ length bs ∷ l) (join (between (other form) 0 0) bs _ _ _ (zeros-join (other form) (length bs) h)))
 
-laid-played : {form : Form} {k tick : ℕ} {bs r : List ℕ} → LaidAs form k 0 tick bs r → record_of form r ≡ (if eqb k 0x00 then GapRecord otherwise BytesRecord (length bs))
+laid-played : {form : Form} {k tick : ℕ} {bs r : List ℕ} → LaidAs form k 0 tick bs r → record_of form r ≡ (if eqb k 0x00 then Ok GapRecord otherwise Ok (BytesRecord (length bs)))
 unfolding record_of if◌then◌otherwise◌
 laid-played x = simp (x.good, x.seat_is, x.kind_is, x.count_is)
 

@@ -18,8 +18,8 @@ use Rattle.claims_capture.specs.RoundTrip.{BackWithRoom, RoundTrip, back}
 use Rattle.conversion.specs.Conversion.{Converting, convert_by, convert_of, converting, first_not, held_by_old, one_later, other, passes, rewritten, rewritten_all, written_into}
 use Rattle.conversion.specs.declared.Asked.{Asked}
 use Rattle.conversion.specs.declared.Asked.TheVariants.{Good, Held}
-use Rattle.conversion.specs.declared.Converted.TheVariants.{NoRoom, Wrote}
-use Rattle.conversion.specs.declared.Found.TheVariants.{Nowhere}
+use Rattle.conversion.specs.declared.ConvertError.TheVariants.{NoRoom}
+use Rattle.std.specs.Prelude.{Err, None, Ok}
 use Rattle.replay_capture.proofs.Laws.{size-least}
 use Rattle.replay_capture.specs.Capture.{good_record, record_size}
 use Rattle.replay_capture.specs.declared.Form.{Form}
@@ -49,7 +49,7 @@ module _ (from : Form) where
   one_passes Good r g h = (rewritten-is-same from r g h).good
   one_passes Held r g h = (rewritten-is-same from r g h).held
 
-  rewritten-passes : (asked : Asked) (rs : List (List ℕ)) → Fine from rs → first_not (other from) asked (map (rewritten from) rs) ≡ Nowhere
+  rewritten-passes : (asked : Asked) (rs : List (List ℕ)) → Fine from rs → first_not (other from) asked (map (rewritten from) rs) ≡ None
   unfolding first_not one_later if◌then◌otherwise◌
   rewritten-passes asked [] x = refl
   rewritten-passes asked (r ∷ rs) x = let f = first r rs x in simp (one_passes asked r f.0 f.1, rewritten-passes asked rs (fine-rest x))
@@ -68,10 +68,10 @@ record Leg (from : Form) (capture written : List ℕ) : Type 0 where
   fine : Fine from (records_from from capture)
   is : written ≡ rewritten_all from (records_from from capture)
 
-leg : (from : Form) (capture output : List ℕ) (n : ℕ) → (convert_of from capture output).converted ≡ Wrote n → Leg from capture (take n (convert_of from capture output).output)
+leg : (from : Form) (capture output : List ℕ) (n : ℕ) → (convert_of from capture output).converted ≡ Ok n → Leg from capture (take n (convert_of from capture output).output)
 leg from capture output n e = go (answer-is from capture output) e
   where
-    go : {x : Converting} → Answered from capture output x → x.converted ≡ Wrote n → Leg from capture (take n x.output)
+    go : {x : Converting} → Answered from capture output x → x.converted ≡ Ok n → Leg from capture (take n x.output)
     go (bad k y) p = absurd (let z : ◌≡◌ {A = ℕ} 0 1 = cc in omega arith)
     go (not_held k g y) p = absurd (let z : ◌≡◌ {A = ℕ} 0 1 = cc in omega arith)
     go (no_room g h k) p = absurd (let z : ◌≡◌ {A = ℕ} 0 1 = cc in omega arith)
@@ -115,12 +115,12 @@ round_trip from capture output output₂ n m e f = go (dec_lt (length output₂)
 
     go : Dec (length output₂ < length capture) → take m (back from capture output n output₂).output ≡ capture
     go (yes h) =
-        let x : back from capture output n output₂ ≡ converting NoRoom output₂ = there ∙ simp (lt-ltb (length output₂) (length capture) h) in
-        let y : NoRoom ≡ Wrote m = ap (λ (c : Converting). c.converted) (sym x) ∙ f in
+        let x : back from capture output n output₂ ≡ converting (Err NoRoom) output₂ = there ∙ simp (lt-ltb (length output₂) (length capture) h) in
+        let y : (Err NoRoom) ≡ Ok m = ap (λ (c : Converting). c.converted) (sym x) ∙ f in
         absurd (let z : ◌≡◌ {A = ℕ} 0 1 = cc in omega arith)
     go (no h) =
-        let x : back from capture output n output₂ ≡ converting (Wrote (length capture)) (capture ++ drop (length capture) output₂) =
+        let x : back from capture output n output₂ ≡ converting (Ok (length capture)) (capture ++ drop (length capture) output₂) =
         back-with-room from capture output output₂ n e (omega arith) in
-        let y : Wrote (length capture) ≡ Wrote m = ap (λ (c : Converting). c.converted) (sym x) ∙ f in
+        let y : Ok (length capture) ≡ Ok m = ap (λ (c : Converting). c.converted) (sym x) ∙ f in
         let k : length capture ≡ m = cc in
         ap (λ (c : Converting). take m c.output) x ∙ take_at capture (drop (length capture) output₂) m k

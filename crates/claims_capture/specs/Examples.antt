@@ -1,10 +1,11 @@
 -- Capture records and conversions of document 02, section 5, as tables: what a record is in its form, what a conversion answers, tells and leaves.
-use Rattle.std.specs.Prelude.{List, [], ◌++◌, ◌∷◌, ℕ, replicate}
+use Rattle.std.specs.Prelude.{List, [], ◌++◌, ◌∷◌, ℕ, replicate, Err, Ok, Result}
 use Rattle.conversion_door.specs.Calls.{ConvertTold, convert_told}
 use Rattle.replay_capture.specs.declared.Form.{Form}
 use Rattle.replay_capture.specs.declared.Form.TheVariants.{New, Old}
+use Rattle.replay_capture.specs.declared.Record.TheVariants.{BytesRecord, GapRecord, OtherSeat}
+use Rattle.replay_capture.specs.declared.BadRecord.{BadRecord}
 use Rattle.replay_capture.specs.declared.Record.{Record}
-use Rattle.replay_capture.specs.declared.Record.TheVariants.{BadRecord, BytesRecord, GapRecord, OtherSeat}
 
 abbrev pub zeros : ℕ → List ℕ
 zeros n = replicate n 0x00
@@ -31,48 +32,48 @@ new_six = 0x01 ∷ 0x06 ∷ 0x00 ∷ 0x00 ∷ 0x00 ∷ 0x00 ∷ 0x00 ∷ 0x00 �
 pub record RecordExample : Type 0 where
   pub form : Form
   pub bytes : List ℕ
-  pub is : Record
+  pub is : Result Record BadRecord
 
-abbrev pub old : List ℕ → Record → RecordExample
+abbrev pub old : List ℕ → Result Record BadRecord → RecordExample
 old bs r = record { form = Old; bytes = bs; is = r }
 
-abbrev pub new : List ℕ → Record → RecordExample
+abbrev pub new : List ℕ → Result Record BadRecord → RecordExample
 new bs r = record { form = New; bytes = bs; is = r }
 
 -- Good ones; then of no kind, with a wrong count, with a byte where there must be none, of no seat, with a byte between seat and tick, and of another size.
 unfoldable pub record_table : List RecordExample
 record_table =
-    old (zeros 8) GapRecord
-    ∷ old (0x01 ∷ 0x01 ∷ 0x3A ∷ zeros 5) (BytesRecord 1)
-    ∷ old old_six (BytesRecord 6)
-    ∷ new (zeros 16) GapRecord
-    ∷ new (new_record 0x00 0x00 0x00 0x00 tick_later (zeros 8)) GapRecord
-    ∷ new (new_record 0x00 0x00 0x01 0x00 tick_later (zeros 8)) OtherSeat
-    ∷ new (new_record 0x01 0x01 0x00 0x00 (zeros 4) (0x3A ∷ zeros 7)) (BytesRecord 1)
-    ∷ new new_six (BytesRecord 6)
-    ∷ new (new_record 0x01 0x08 0x00 0x00 tick_later eight) (BytesRecord 8)
-    ∷ new (new_record 0x01 0x08 0x01 0x00 tick_later eight) OtherSeat
-    ∷ old (0x02 ∷ 0x01 ∷ 0x3A ∷ zeros 5) BadRecord
-    ∷ new (new_record 0x02 0x01 0x00 0x00 (zeros 4) (0x3A ∷ zeros 7)) BadRecord
-    ∷ old (0x01 ∷ 0x07 ∷ six) BadRecord
-    ∷ new (new_record 0x01 0x09 0x00 0x00 (zeros 4) eight) BadRecord
-    ∷ old (0x01 ∷ zeros 7) BadRecord
-    ∷ new (new_record 0x01 0x00 0x00 0x00 (zeros 4) (zeros 8)) BadRecord
-    ∷ old (0x00 ∷ 0x01 ∷ zeros 6) BadRecord
-    ∷ new (new_record 0x00 0x01 0x00 0x00 (zeros 4) (zeros 8)) BadRecord
-    ∷ old (0x00 ∷ 0x00 ∷ 0x3A ∷ zeros 5) BadRecord
-    ∷ new (new_record 0x00 0x00 0x00 0x00 (zeros 4) (0x3A ∷ zeros 7)) BadRecord
-    ∷ old (0x01 ∷ 0x05 ∷ six) BadRecord
-    ∷ new (new_record 0x01 0x06 0x00 0x00 (zeros 4) (six ++ 0x0A ∷ 0x00 ∷ [])) BadRecord
-    ∷ new (new_record 0x01 0x07 0x00 0x00 (zeros 4) eight) BadRecord
-    ∷ new (new_record 0x01 0x08 0x02 0x00 (zeros 4) eight) BadRecord
-    ∷ new (new_record 0x01 0x08 0x01 0x01 (zeros 4) eight) BadRecord
-    ∷ old (zeros 7) BadRecord
-    ∷ old (zeros 9) BadRecord
-    ∷ old [] BadRecord
-    ∷ new (zeros 15) BadRecord
-    ∷ new (zeros 17) BadRecord
-    ∷ new (zeros 8) BadRecord
+    old (zeros 8) (Ok GapRecord)
+    ∷ old (0x01 ∷ 0x01 ∷ 0x3A ∷ zeros 5) (Ok (BytesRecord 1))
+    ∷ old old_six (Ok (BytesRecord 6))
+    ∷ new (zeros 16) (Ok GapRecord)
+    ∷ new (new_record 0x00 0x00 0x00 0x00 tick_later (zeros 8)) (Ok GapRecord)
+    ∷ new (new_record 0x00 0x00 0x01 0x00 tick_later (zeros 8)) (Ok OtherSeat)
+    ∷ new (new_record 0x01 0x01 0x00 0x00 (zeros 4) (0x3A ∷ zeros 7)) (Ok (BytesRecord 1))
+    ∷ new new_six (Ok (BytesRecord 6))
+    ∷ new (new_record 0x01 0x08 0x00 0x00 tick_later eight) (Ok (BytesRecord 8))
+    ∷ new (new_record 0x01 0x08 0x01 0x00 tick_later eight) (Ok OtherSeat)
+    ∷ old (0x02 ∷ 0x01 ∷ 0x3A ∷ zeros 5) (Err (record {}))
+    ∷ new (new_record 0x02 0x01 0x00 0x00 (zeros 4) (0x3A ∷ zeros 7)) (Err (record {}))
+    ∷ old (0x01 ∷ 0x07 ∷ six) (Err (record {}))
+    ∷ new (new_record 0x01 0x09 0x00 0x00 (zeros 4) eight) (Err (record {}))
+    ∷ old (0x01 ∷ zeros 7) (Err (record {}))
+    ∷ new (new_record 0x01 0x00 0x00 0x00 (zeros 4) (zeros 8)) (Err (record {}))
+    ∷ old (0x00 ∷ 0x01 ∷ zeros 6) (Err (record {}))
+    ∷ new (new_record 0x00 0x01 0x00 0x00 (zeros 4) (zeros 8)) (Err (record {}))
+    ∷ old (0x00 ∷ 0x00 ∷ 0x3A ∷ zeros 5) (Err (record {}))
+    ∷ new (new_record 0x00 0x00 0x00 0x00 (zeros 4) (0x3A ∷ zeros 7)) (Err (record {}))
+    ∷ old (0x01 ∷ 0x05 ∷ six) (Err (record {}))
+    ∷ new (new_record 0x01 0x06 0x00 0x00 (zeros 4) (six ++ 0x0A ∷ 0x00 ∷ [])) (Err (record {}))
+    ∷ new (new_record 0x01 0x07 0x00 0x00 (zeros 4) eight) (Err (record {}))
+    ∷ new (new_record 0x01 0x08 0x02 0x00 (zeros 4) eight) (Err (record {}))
+    ∷ new (new_record 0x01 0x08 0x01 0x01 (zeros 4) eight) (Err (record {}))
+    ∷ old (zeros 7) (Err (record {}))
+    ∷ old (zeros 9) (Err (record {}))
+    ∷ old [] (Err (record {}))
+    ∷ new (zeros 15) (Err (record {}))
+    ∷ new (zeros 17) (Err (record {}))
+    ∷ new (zeros 8) (Err (record {}))
     ∷ []
 
 -- A conversion from a form into an output; what it answers and tells, [bytes written, record's number]; and the output after it.

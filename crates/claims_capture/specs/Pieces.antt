@@ -1,19 +1,17 @@
 -- A capture converted in pieces, as the program reads it: document 02, section 5. Every piece but the last is whole records. What is found in the pieces is what is
 -- found in the whole, with its number there, and what is written of them, one after the other, is what is written of the whole.
-use Rattle.std.specs.Prelude.{List, ◌++◌, ◌≡◌, ◌%◌, ◌+◌, ℕ, length}
+use Rattle.std.specs.Prelude.{List, ◌++◌, ◌≡◌, ◌%◌, ◌+◌, ℕ, length, None, Option, Some}
 use Rattle.claims_capture.specs.Answers.{records_from}
 use Rattle.conversion.specs.Conversion.{first_not, rewritten_all}
 use Rattle.conversion.specs.declared.Asked.{Asked}
-use Rattle.conversion.specs.declared.Found.{Found}
-use Rattle.conversion.specs.declared.Found.TheVariants.{At, Nowhere}
 use Rattle.replay_capture.specs.Capture.{record_size}
 use Rattle.replay_capture.specs.declared.Form.{Form}
 
 -- What is found in one piece, else, by its number behind the records of that one, in the next.
-unfoldable pub else_after : ℕ → Found → Found → Found
-else_after n (At k) f = At k
-else_after n Nowhere Nowhere = Nowhere
-else_after n Nowhere (At k) = At (n + k)
+unfoldable pub else_after : ℕ → Option ℕ → Option ℕ → Option ℕ
+else_after n (Some k) f = Some k
+else_after n None None = None
+else_after n None (Some k) = Some (n + k)
 
 abbrev pub JudgedInPieces : Type 0
 JudgedInPieces =

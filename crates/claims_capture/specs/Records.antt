@@ -1,12 +1,13 @@
 -- The records of a capture, and what lies where in one: document 01, "Capture records are 8 bytes, no header", and 02, section 5, "New records are 16 bytes, no header:
 -- kind, count, seat (0 or 1), 00h, tick as four bytes low first, eight data bytes, unused ones 00h; a gap has count 0". Over the size and over the form.
-use Rattle.std.specs.Prelude.{false, true, List, [], ◌++◌, ◌∷◌, ◌≡◌, ◌%◌, ◌-◌, ◌<◌, ◌^◌, ◌≤◌, ℕ, get_or, length, replicate}
+use Rattle.std.specs.Prelude.{false, true, List, [], ◌++◌, ◌∷◌, ◌≡◌, ◌%◌, ◌-◌, ◌<◌, ◌^◌, ◌≤◌, ℕ, get_or, length, replicate, Err, Ok, Result}
 use Rattle.numbers.specs.Numbers.{low_first}
 use Rattle.replay_capture.specs.Capture.{carried_bytes, count, data_size, good_record, kind, record_of, record_size, records_of, seat_of, tick_of}
 use Rattle.replay_capture.specs.declared.Form.{Form}
 use Rattle.replay_capture.specs.declared.Form.TheVariants.{New, Old}
+use Rattle.replay_capture.specs.declared.Record.TheVariants.{BytesRecord, GapRecord, OtherSeat}
+use Rattle.replay_capture.specs.declared.BadRecord.{BadRecord}
 use Rattle.replay_capture.specs.declared.Record.{Record}
-use Rattle.replay_capture.specs.declared.Record.TheVariants.{BadRecord, BytesRecord, GapRecord, OtherSeat}
 
 -- A capture cut into records: nothing, and there is none; what is left, not more than the size, is the last; or one of the size, and the rest is cut.
 pub data Cut (size : ℕ) : List ℕ → List (List ℕ) → Type 0 where
@@ -77,11 +78,11 @@ abbrev pub TickAndSeat : Type 0
 TickAndSeat = (tick_of New marked ≡ 0x04030201) × (seat_of New marked ≡ 0x05) × (tick_of Old marked ≡ 0) × (seat_of Old marked ≡ 0)
 
 -- What a record is to a replay, which "skips seat 1": not good; the other seat's; a gap; or so many bytes.
-pub data RecordIs (form : Form) (r : List ℕ) : Record → Type 0 where
-  is_bad : good_record form r ≡ false → RecordIs form r BadRecord
-  is_other : good_record form r ≡ true → seat_of form r ≡ 1 → RecordIs form r OtherSeat
-  is_gap : good_record form r ≡ true → seat_of form r ≡ 0 → kind r ≡ 0x00 → RecordIs form r GapRecord
-  is_bytes : good_record form r ≡ true → seat_of form r ≡ 0 → kind r ≡ 0x01 → RecordIs form r (BytesRecord (count r))
+pub data RecordIs (form : Form) (r : List ℕ) : Result Record BadRecord → Type 0 where
+  is_bad : good_record form r ≡ false → RecordIs form r (Err (record {}))
+  is_other : good_record form r ≡ true → seat_of form r ≡ 1 → RecordIs form r (Ok OtherSeat)
+  is_gap : good_record form r ≡ true → seat_of form r ≡ 0 → kind r ≡ 0x00 → RecordIs form r (Ok GapRecord)
+  is_bytes : good_record form r ≡ true → seat_of form r ≡ 0 → kind r ≡ 0x01 → RecordIs form r (Ok (BytesRecord (count r)))
 
 abbrev pub RecordOfIs : Type 0
 RecordOfIs = (form : Form) (r : List ℕ) → RecordIs form r (record_of form r)

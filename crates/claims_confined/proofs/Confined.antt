@@ -44,7 +44,9 @@ use Rattle.claims_good.specs.Good.{Stands, and_event}
 use Rattle.claims_runs.proofs.Taken.{Went, frame_done, only_heard, quiet_core, quiet_in, went}
 use Rattle.claims_runs.specs.Taken.{taken_by}
 use Rattle.commands.specs.Commands.{read_command}
-use Rattle.commands.specs.declared.Reading.TheVariants.{Meant}
+use Rattle.part.specs.declared.Range.{Range}
+use Rattle.part.specs.declared.Place.{Place}
+use Rattle.std.specs.Prelude.{None, Ok, Option, Some}
 use Rattle.dock_flow.specs.Frames.{first_of_block, frame_of, last_of_block, query_at, query_with}
 use Rattle.dock_job.proofs.Laws.{block-is, place_is}
 use Rattle.dock_job.specs.Job.{area_of, blocks_of, is_over, size_of}
@@ -58,10 +60,6 @@ use Rattle.frame.specs.Frame.{payload}
 use Rattle.part.proofs.Laws.{block-page, lies-place, place-lies}
 use Rattle.part.specs.Part.{described, first, page_size, place_in, place_of}
 use Rattle.part.specs.declared.Part.{Part}
-use Rattle.part.specs.declared.Place.{Place}
-use Rattle.part.specs.declared.Place.TheVariants.{In, Outside}
-use Rattle.part.specs.declared.Range.{Range}
-use Rattle.part.specs.declared.Range.TheVariants.{Bad, Blocks}
 use Rattle.words.proofs.Laws.{and_right, if-all}
 
 -- What a frame did, from the record k and the memory m, stays with the job.
@@ -85,10 +83,10 @@ module _ (j : Job) (k : Core) (m : Memory) (d : described j.part ≡ true) (now 
   unfolding rate_set
   rate-set rate supply = if-all (λ x. Keeps j k m (effect x m)) _ (λ t. as-was _) (λ t. moved _ _ refl at_ready)
 
-  checks : (r : Range) (d01 : ℕ) → Keeps j k m (effect (blank_check p k r d01 m.flash) m)
+  checks : (r : Option Range) (d01 : ℕ) → Keeps j k m (effect (blank_check p k r d01 m.flash) m)
   unfolding blank_check
-  checks Bad d01 = as-was _
-  checks (Blocks a block count) d01 =
+  checks None d01 = as-was _
+  checks (Some range) d01 =
       if-all (λ x. Keeps j k m (effect x m)) _ (λ t. as-was _)
       (λ t. if-all (λ x. Keeps j k m (effect x m)) _ (λ u. as-was _) (λ u. if-all (λ x. Keeps j k m (effect x m)) _ (λ v. as-was _) (λ v. as-was _)))
 
@@ -109,17 +107,17 @@ module _ (j : Job) (k : Core) (m : Memory) (d : described j.part ≡ true) (now 
           within = now;
         })))
 
-    programs : (r : Range) → Keeps j k m (effect (programming p k r (first_of_block j b) (last_of_block j b)) m)
+    programs : (r : Option Range) → Keeps j k m (effect (programming p k r (first_of_block j b) (last_of_block j b)) m)
     unfolding programming
-    programs Bad = as-was _
-    programs (Blocks a block count) =
+    programs None = as-was _
+    programs (Some range) =
         let i = block_inside j b h in
         if-all (λ x. Keeps j k m (effect x m)) _ (λ t. as-was _) (λ t. moved _ _ refl (at_pages _ (λ e. omega arith) i.begins i.ends))
 
-    verifies : (r : Range) → Keeps j k m (effect (verify k r (first_of_block j b) (last_of_block j b)) m)
+    verifies : (r : Option Range) → Keeps j k m (effect (verify k r (first_of_block j b) (last_of_block j b)) m)
     unfolding verify
-    verifies Bad = as-was _
-    verifies (Blocks a block count) = let i = block_inside j b h in moved _ _ refl (at_pages _ (λ e. omega arith) i.begins i.ends)
+    verifies None = as-was _
+    verifies (Some range) = let i = block_inside j b h in moved _ _ refl (at_pages _ (λ e. omega arith) i.begins i.ends)
 
   works : (st : Stage) → good_stage j st ≡ true → is_over st ≡ false → Keeps j k m (work (query_at j st).command p k m)
   unfolding work query_with is_over
@@ -135,7 +133,7 @@ module _ (j : Job) (k : Core) (m : Memory) (d : described j.part ≡ true) (now 
   works (Over e) g o = absurd (true≢false o)
 
   -- The frame of a command of the job is read as that command.
-  job_read : (st : Stage) → good_stage j st ≡ true → is_over st ≡ false → read_command (payload (frame_of (query_at j st).command)) ≡ Meant (query_at j st).command
+  job_read : (st : Stage) → good_stage j st ≡ true → is_over st ≡ false → read_command (payload (frame_of (query_at j st).command)) ≡ Ok (query_at j st).command
   unfolding query_with is_over
   job_read (SetUp BaudRate) g o = framed-read _ (omega arith) (omega arith)
   job_read (SetUp ResetChip) g o = framed-read _ (omega arith) (omega arith)
@@ -151,7 +149,7 @@ module _ (j : Job) (k : Core) (m : Memory) (d : described j.part ≡ true) (now 
   reading-does : (f : List ℕ) → JobCommand j f → Keeps j k m (reading_does (read_command (payload f)) p k m)
   unfolding reading_does
   reading-does f c =
-      let e : read_command (payload f) ≡ Meant (query_at j c.stage).command = ap (λ (g : List ℕ). read_command (payload g)) c.is ∙ job_read c.stage c.good c.going in
+      let e : read_command (payload f) ≡ Ok (query_at j c.stage).command = ap (λ (g : List ℕ). read_command (payload g)) c.is ∙ job_read c.stage c.good c.going in
       rw e (works c.stage c.good c.going)
 
   command-does : (f : List ℕ) → (good_for a_command f ≡ true → JobCommand j f) → Keeps j k m (command_does p k f m)
@@ -175,12 +173,12 @@ module _ (j : Job) (k : Core) (m : Memory) (d : described j.part ≡ true) (now 
         let e : (w.last - first t.area + 1) % page_size ≡ 0 = block-page p t.area (w.last - first t.area + 1) g.end in
         omega (arith, e, g.page, g.order, g.here.low, g.there.low)
 
-    stored : (x : Place) → place_of p w.next ≡ x → (ds : List ℕ) → length ds ≤ 256 → OutsideSame j m.flash (page_stored x ds m.flash)
+    stored : (x : Option Place) → place_of p w.next ≡ x → (ds : List ℕ) → length ds ≤ 256 → OutsideSame j m.flash (page_stored x ds m.flash)
     unfolding page_stored
-    stored Outside e ds l = λ a i o. refl
-    stored (In a offset block page) e ds l = put-outside j a w.next offset ds m.flash (place-lies p w.next a offset block page e).is low (omega (arith, page-ends))
+    stored None e ds l = λ a i o. refl
+    stored (Some place) e ds l = put-outside j place.area w.next place.offset ds m.flash (place-lies p w.next place.area place.offset place.block place.page e).is low (omega (arith, page-ends))
 
-    written : (x : Place) → place_of p w.next ≡ x → (ds : List ℕ) → Keeps j k m (program_page p k w x ds m)
+    written : (x : Option Place) → place_of p w.next ≡ x → (ds : List ℕ) → Keeps j k m (program_page p k w x ds m)
     unfolding program_page page_written
     written x e ds =
         told-either (λ (d : Awaited → Core → Done). Keeps j k m (effect (d w k) (page_written p x ds m))) (page_in x m.flash) ds

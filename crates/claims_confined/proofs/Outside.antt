@@ -24,7 +24,7 @@ use Rattle.part.specs.declared.Area.{Area}
 use Rattle.part.specs.declared.Area.TheVariants.{CodeFlash, DataFlash}
 use Rattle.part.specs.declared.Part.{Part}
 use Rattle.part.specs.declared.Range.{Range}
-use Rattle.part.specs.declared.Range.TheVariants.{Bad, Blocks}
+use Rattle.std.specs.Prelude.{None, Option, Some}
 use Rattle.words.proofs.Laws.{and_both}
 
 -- An address outside the range lies below it or past it.
@@ -79,19 +79,19 @@ pub block_inside : (j : Job) (k : ℕ) → k < blocks_of j → InJob j k
 unfolding first_of_block last_of_block blocks_in area_in
 block_inside j k h = go (job_range j) refl h
   where
-    go : (r : Range) → job_range j ≡ r → k < blocks_in r → InJob j k
-    go Bad e h = absurd (omega arith)
-    go (Blocks a block count) e h =
-        let st = range-good j.part j.start j.end a block count e in
+    go : (r : Option Range) → job_range j ≡ r → k < blocks_in r → InJob j k
+    go None e h = absurd (omega arith)
+    go (Some range) e h =
+        let st = range-good j.part j.start j.end range.area range.block range.count e in
         let n = size_of j in
-        let z : size_of j ≡ block_size j.part a = ap (λ (r : Range). block_size j.part (area_in r)) e in
-        let pos : 0 < n = rw z (block_size-pos j.part a) in
-        let l : (k + 1) * n ≤ count * n = mul-le-mul_right n (omega arith) in
+        let z : size_of j ≡ block_size j.part range.area = ap (λ (r : Option Range). block_size j.part (area_in r)) e in
+        let pos : 0 < n = rw z (block_size-pos j.part range.area) in
+        let l : (k + 1) * n ≤ range.count * n = mul-le-mul_right n (omega arith) in
         let q : (k + 1) * n ≡ k * n + n = rw add-one (suc-mul k n) in
-        let x : (block + count) * n ≡ block * n + count * n = add-mul block count n in
-        let y : j.end + 1 ≡ first a + (block + count) * n = rw z st.ends in
-        let w : j.start ≡ first a + block * n = rw z st.begins in
-        let v : (block + count) * n ≤ blocks j.part a * n = mul-le-mul_right n st.inside in
-        let t : size j.part a ≡ blocks j.part a * n = rw z refl in
-        let u : area_of j ≡ a = ap area_in e in
+        let x : (range.block + range.count) * n ≡ range.block * n + range.count * n = add-mul range.block range.count n in
+        let y : j.end + 1 ≡ first range.area + (range.block + range.count) * n = rw z st.ends in
+        let w : j.start ≡ first range.area + range.block * n = rw z st.begins in
+        let v : (range.block + range.count) * n ≤ blocks j.part range.area * n = mul-le-mul_right n st.inside in
+        let t : size j.part range.area ≡ blocks j.part range.area * n = rw z refl in
+        let u : area_of j ≡ range.area = ap area_in e in
         record { begins = omega arith; ends = omega arith; long = omega arith; lies = same_area u (record { low = omega arith; high = omega arith }) }

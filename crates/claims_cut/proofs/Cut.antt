@@ -31,8 +31,10 @@ use Rattle.chip_pages.specs.Pages.{data_does, footer_of, good_data, length_of, p
 use Rattle.commands.specs.declared.Command.{Command}
 use Rattle.commands.specs.declared.Command.TheVariants.{BlankCheck, BlockErase, Checksum, Programming, RateSet, Reset, Verify}
 use Rattle.commands.specs.declared.Command.TheVariants.{SecurityGet, SecurityRelease, SecuritySet, SignatureGet}
-use Rattle.commands.specs.declared.Reading.{Reading}
-use Rattle.commands.specs.declared.Reading.TheVariants.{Meant, UnfitLen, Unknown}
+use Rattle.part.specs.declared.Place.{Place}
+use Rattle.commands.specs.declared.Misread.TheVariants.{UnfitLen, Unknown}
+use Rattle.commands.specs.declared.Misread.{Misread}
+use Rattle.std.specs.Prelude.{Err, None, Ok, Option, Result, Some}
 use Rattle.chip_core.specs.declared.Awaited.{Awaited}
 use Rattle.frame.proofs.Laws.Frame.{payload-long}
 use Rattle.frame.specs.Frame.{payload}
@@ -47,12 +49,10 @@ use Rattle.frame.specs.Judgement.{fitting, is_good, judge_of}
 use Rattle.frame.specs.declared.judgement.Judgement.{Judgement}
 use Rattle.frame.specs.declared.judgement.Judgement.TheVariants.{UnfitLength}
 use Rattle.part.proofs.Laws.{Spot, block-page, lies-place, place-lies}
-use Rattle.part.specs.Part.{block_size, blocks, described, first, page_size, place_in, place_of, size}
+use Rattle.part.specs.Part.{block_size, blocks, described, first, page_size, place_in, place_of, size, place_at}
 use Rattle.part.specs.declared.Area.{Area}
 use Rattle.part.specs.declared.Area.TheVariants.{CodeFlash, DataFlash}
 use Rattle.part.specs.declared.Part.{Part}
-use Rattle.part.specs.declared.Place.{Place}
-use Rattle.part.specs.declared.Place.TheVariants.{In, Outside}
 use Rattle.words.proofs.Laws.{and_right, if-all}
 use Rattle.words.specs.Words.{◌and◌, if◌then◌otherwise◌}
 
@@ -104,17 +104,17 @@ page-long w f n g =
     omega (arith, payload-long f)
 
 module _ (p : Part) (k : Core) (m : Memory) (long : (a : Area) → length (bytes_in a m.flash) ≡ size p a) where
-  erases : (at : ℕ) (x : Place) → place_of p at ≡ x → Does p m (block_erase p k x m)
+  erases : (at : ℕ) (x : Option Place) → place_of p at ≡ x → Does p m (block_erase p k x m)
   unfolding block_erase erased_in erase_of
-  erases at Outside e = stays-so m _
-  erases at (In a offset block page) e =
+  erases at None e = stays-so m _
+  erases at (Some place) e =
       if-all (Does p m) _ (λ t. stays-so m _)
       (λ t. if-all (Does p m) _ (λ u. stays-so m _)
       (λ u.
-      let z : offset % block_size p a ≡ 0 = eqb-true _ _ (not-false _ t) in
-      let n : length (replicate (block_size p a) erased) ≡ block_size p a = length-replicate {A = ℕ} (block_size p a) erased in
-      let i = block_inside p at a offset block page (place-lies p at a offset block page e) z in
-      record { change = one_block a offset z (rw (resummed-flash p) (put-becomes a offset (replicate (block_size p a) erased) m.flash (omega (arith, long a)))) }))
+      let z : place.offset % block_size p place.area ≡ 0 = eqb-true _ _ (not-false _ t) in
+      let n : length (replicate (block_size p place.area) erased) ≡ block_size p place.area = length-replicate {A = ℕ} (block_size p place.area) erased in
+      let i = block_inside p at place.area place.offset place.block place.page (place-lies p at place.area place.offset place.block place.page e) z in
+      record { change = one_block place.area place.offset z (rw (resummed-flash p) (put-becomes place.area place.offset (replicate (block_size p place.area) erased) m.flash (omega (arith, long place.area)))) }))
 
   works : (c : Command) → Does p m (work c p k m)
   unfolding work
@@ -130,11 +130,11 @@ module _ (p : Part) (k : Core) (m : Memory) (long : (a : Area) → length (bytes
   works SecuritySet = stays-so m _
   works SecurityRelease = stays-so m _
 
-  reading-does : (r : Reading) → Does p m (reading_does r p k m)
+  reading-does : (r : Result Command Misread) → Does p m (reading_does r p k m)
   unfolding reading_does
-  reading-does Unknown = stays-so m _
-  reading-does UnfitLen = stays-so m _
-  reading-does (Meant c) = works c
+  reading-does (Err Unknown) = stays-so m _
+  reading-does (Err UnfitLen) = stays-so m _
+  reading-does (Ok c) = works c
 
   command-does : (f : List ℕ) → Does p m (command_does p k f m)
   unfolding command_does
@@ -142,7 +142,7 @@ module _ (p : Part) (k : Core) (m : Memory) (long : (a : Area) → length (bytes
 
   -- The page is programmed, whatever its status is.
   programs : (w : Awaited) (a : Area) (offset block page : ℕ) (ds : List ℕ) → offset % page_size ≡ 0 → offset + 256 ≤ size p a → length ds ≡ 256
-      → Does p m (program_page p k w (In a offset block page) ds m)
+      → Does p m (program_page p k w (Some (place_at a offset block page)) ds m)
   unfolding program_page page_written page_in page_stored
   programs w a offset block page ds z i n =
       let old = take page_size (drop offset (bytes_in a m.flash)) in

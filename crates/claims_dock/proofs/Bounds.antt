@@ -8,10 +8,9 @@ use Prim.Native.Nat.{◌*◌, ◌+◌, ◌-◌, ◌≤◌, ℕ}
 use native.Mathlib.Omega.{arith}
 use lib.ListN.{length}
 use Rattle.claims_dock.proofs.Budget.{Kept, heard-kept, needs, start-good, start-needs}
-use Rattle.claims_dock.specs.Examples.{at}
 use Rattle.claims_dock.specs.Stepping.{most_frames}
 use Rattle.dock.specs.Calls.{ask_of, asked, asking, fresh_dock, hear_of, moved, sending, standing, begin_of, starting, stepped, turning}
-use Rattle.dock.specs.declared.Report.TheVariants as Report
+use Rattle.std.specs.Prelude.{Err, Ok, Result}
 use Rattle.dock_flow.proofs.Laws.{heard-within}
 use Rattle.dock_flow.specs.Flow.{Heard, after_heard, exchanges, first_stage, flow, frames_in, spent_in}
 use Rattle.dock_flow.specs.Frames.{handed, hand_of}
@@ -25,9 +24,6 @@ use Rattle.dock_job.specs.declared.Stage.{Stage}
 use Rattle.dock_job.specs.declared.refusals.Call.TheVariants.{Asks, Begins, Tells}
 use Rattle.part.specs.Part.{block_size}
 use Rattle.part.specs.declared.refusal.Refusal.{Refusal}
-use Rattle.part.specs.declared.refusal.Verdict.{Verdict}
-use Rattle.part.specs.declared.refusal.Verdict.TheVariants.{Accepted}
-use Rattle.part.specs.declared.refusal.Verdict.TheVariants as Verdict
 use Rattle.words.specs.Words.{if◌then◌otherwise◌}
 
 -- "at most 3 + 12(B + R) frames": the bound, with the setup's three commands and four pages to a block.
@@ -85,11 +81,11 @@ pub start-keeps : (j : Job) (image : List ℕ) → good_dock j (begin_of j image
 unfolding begin_of starting fresh_dock
 start-keeps j image = go (call_verdict j (length image) Begins)
   where
-    go : (v : Verdict) → good_dock j (starting v (fresh_dock j)).dock ≡ true
-    go (Verdict.Refused r) = dock-yes (record { at_stage = start-good j; few-used = omega arith; few-sent = omega arith })
-    go Accepted = dock-yes (record { at_stage = start-good j; few-used = omega arith; few-sent = omega arith })
+    go : (v : Result Unit Refusal) → good_dock j (starting v (fresh_dock j)).dock ≡ true
+    go (Err r) = dock-yes (record { at_stage = start-good j; few-used = omega arith; few-sent = omega arith })
+    go (Ok _) = dock-yes (record { at_stage = start-good j; few-used = omega arith; few-sent = omega arith })
 
-pub ask-keeps : (j : Job) (image : List ℕ) (d : Dock) (room : List ℕ) → call_verdict j (length image) (Asks d (length room)) ≡ Accepted
+pub ask-keeps : (j : Job) (image : List ℕ) (d : Dock) (room : List ℕ) → call_verdict j (length image) (Asks d (length room)) ≡ Ok tt
     → good_dock j (ask_of j image d room).dock ≡ true
 unfolding ask_of asked hand_of handed
 ask-keeps j image d room e =
@@ -97,7 +93,7 @@ ask-keeps j image d room e =
     let g : GoodDock j (sending d) = record { at_stage = a.good.at_stage; few-used = a.good.few-used; few-sent = omega (arith, a.below) } in
     rw e (dock-yes g)
 
-pub hear-keeps : (j : Job) (image : List ℕ) (d : Dock) (h : Heard) → call_verdict j (length image) (Tells d) ≡ Accepted
+pub hear-keeps : (j : Job) (image : List ℕ) (d : Dock) (h : Heard) → call_verdict j (length image) (Tells d) ≡ Ok tt
     → good_dock j (hear_of j image d h).dock ≡ true
 unfolding hear_of turning
 hear-keeps j image d h e =
@@ -107,18 +103,18 @@ hear-keeps j image d h e =
     rw e (dock-yes g)
 
 -- A refused call leaves the dock and the room as they were.
-pub ask-denied : (j : Job) (image : List ℕ) (d : Dock) (room : List ℕ) (r : Refusal) → call_verdict j (length image) (Asks d (length room)) ≡ Verdict.Refused r
-    → ask_of j image d room ≡ asking (stepped (Report.Refused r) d) room
+pub ask-denied : (j : Job) (image : List ℕ) (d : Dock) (room : List ℕ) (r : Refusal) → call_verdict j (length image) (Asks d (length room)) ≡ Err r
+    → ask_of j image d room ≡ asking (stepped (Err r) d) room
 unfolding ask_of asked hand_of handed
 ask-denied j image d room r e = rw e
 
-pub hear-denied : (j : Job) (image : List ℕ) (d : Dock) (h : Heard) (r : Refusal) → call_verdict j (length image) (Tells d) ≡ Verdict.Refused r
-    → hear_of j image d h ≡ stepped (Report.Refused r) d
+pub hear-denied : (j : Job) (image : List ℕ) (d : Dock) (h : Heard) (r : Refusal) → call_verdict j (length image) (Tells d) ≡ Err r
+    → hear_of j image d h ≡ stepped (Err r) d
 unfolding hear_of turning
 hear-denied j image d h r e = rw e
 
 -- What an accepted call tells is read off the dock that it leaves: how the job ended, with that dock's own counts, where it is over.
-pub hear-reports : (j : Job) (image : List ℕ) (d : Dock) (h : Heard) → call_verdict j (length image) (Tells d) ≡ Accepted
+pub hear-reports : (j : Job) (image : List ℕ) (d : Dock) (h : Heard) → call_verdict j (length image) (Tells d) ≡ Ok tt
     → (hear_of j image d h).report ≡ standing (hear_of j image d h).dock.stage (hear_of j image d h).dock
 unfolding hear_of turning
 hear-reports j image d h e = rw e

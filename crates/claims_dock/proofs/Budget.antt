@@ -11,9 +11,8 @@ use lib.ListN.{length}
 use borrow.Author.Tests.{ltb-true}
 use Rattle.commands.specs.Commands.{com_of}
 use Rattle.dock_answer.specs.Answer.{read_answer}
-use Rattle.dock_answer.specs.declared.Decoded.{Decoded}
-use Rattle.dock_answer.specs.declared.Decoded.TheVariants.{Garbled, Said}
-use Rattle.claims_dock.specs.Examples.{at}
+use Rattle.dock_answer.specs.declared.Said.{Said}
+use Rattle.std.specs.Prelude.{Err, None, Ok, Option, Some}
 use Rattle.dock_flow.proofs.Laws.{not_last}
 use Rattle.dock_flow.specs.Flow.{Heard, after_answer, after_heard, after_setup, after_status, after_work, answered, block_from, failing, fails, first_stage, in_block, leads, next, retried, says_not_blank, setup_from, silence}
 use Rattle.dock_flow.specs.Frames.{last_page, query_at, query_with}
@@ -23,7 +22,6 @@ use Rattle.dock_job.specs.Job.{blocks_of, bound, is_over, pages_of, per_block, s
 use Rattle.dock_job.specs.Refusals.{good_block, good_ending, good_failure, good_named_block, good_named_page, good_page, good_stage, good_work}
 use Rattle.dock_job.specs.declared.Cause.{Cause}
 use Rattle.dock_job.specs.declared.Cause.TheVariants.{Mismatch, TimedOut, UnexpectedStatus, Unreadable}
-use Rattle.dock_job.specs.declared.Ending.TheVariants.{Failed, Finished}
 use Rattle.dock_job.specs.declared.Job.{Job}
 use Rattle.dock_job.specs.declared.Setup.{Setup}
 use Rattle.dock_job.specs.declared.Setup.TheVariants.{BaudRate, ResetChip, SiliconSignature}
@@ -99,7 +97,7 @@ the_rest : (j : Job) (k : ℕ) → From j k (block_from j k)
 unfolding block_from if◌then◌otherwise◌ needs work_needs good_stage good_work good_ending
 the_rest j k = go (ltb k (blocks_of j)) refl
   where
-    go : (t : Bool) → ltb k (blocks_of j) ≡ t → From j k (if t then InBlock k Blank otherwise Over Finished)
+    go : (t : Bool) → ltb k (blocks_of j) ≡ t → From j k (if t then InBlock k Blank otherwise Over (Ok tt))
     go true e =
         let h : k < blocks_of j = ltb-true k (blocks_of j) e in
         let m = one_more (per_block j) (blocks_of j - k) (blocks_of j - (k + 1)) (omega arith) in
@@ -177,7 +175,7 @@ fails-kept : (j : Job) (used : ℕ) (st : Stage) (c : Cause) (s : ℕ) (fault : 
     → Kept j used st (fails j c s fault st)
 unfolding needs good_stage good_ending
 fails-kept j used st c s fault u g o =
-    free j used st (Over (Failed (failing c s fault (query_at j st)))) u (failing-good j c s fault st g) (omega (arith, needs-some j st g o))
+    free j used st (Over (Err (failing c s fault (query_at j st)))) u (failing-good j c s fault st g) (omega (arith, needs-some j st g o))
 
 restart-good : (j : Job) (st : Stage) → good_stage j st ≡ true → good_stage j (in_block Blank st) ≡ true
 unfolding in_block good_stage good_work
@@ -236,9 +234,9 @@ pub heard-kept : (j : Job) (used : ℕ) (st : Stage) (h : Heard) → used ≤ j.
 unfolding after_heard after_answer
 heard-kept j used st (answered bs) u g o = let a = read_answer j.part j.supply (query_at j st).form bs in go a.decoded a.fault
   where
-    go : (d : Decoded) (fault : Judgement) → Kept j used st (after_answer j used st d fault)
-    go (Said s m) fault = status-kept j used st s m u g o
-    go Garbled fault = fails-kept j used st Unreadable 0x00 fault u g o
+    go : (d : Option Said) (fault : Judgement) → Kept j used st (after_answer j used st d fault)
+    go (Some said) fault = status-kept j used st said.status said.matches u g o
+    go None fault = fails-kept j used st Unreadable 0x00 fault u g o
 heard-kept j used st silence u g o = fails-kept j used st TimedOut 0x00 Good u g o
 
 -- At the start what is needed, and a block's frames for each retry allowed, are the bound.

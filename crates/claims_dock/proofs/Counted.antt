@@ -12,8 +12,8 @@ use Rattle.claims_dock.specs.Counted.{asks_again, restart, restarts, restarts_ov
 use Rattle.claims_dock.specs.Stepping.{result_at, results_in, stepping}
 use Rattle.dock.specs.Calls.{begin_of}
 use Rattle.dock_answer.specs.Answer.{read_answer}
-use Rattle.dock_answer.specs.declared.Decoded.{Decoded}
-use Rattle.dock_answer.specs.declared.Decoded.TheVariants.{Garbled, Said}
+use Rattle.dock_answer.specs.declared.Said.{Said}
+use Rattle.std.specs.Prelude.{None, Ok, Option, Some}
 use Rattle.dock_flow.specs.Flow.{Heard, after_answer, after_heard, after_status, answered, exchanges, fails, first_stage, flow, in_block, leads, next, retried, says_not_blank, silence, spent_in}
 use Rattle.dock_flow.specs.Frames.{frame_at, query_at}
 use Rattle.dock_flow.specs.declared.Turned.{Turned}
@@ -28,7 +28,6 @@ use Rattle.dock_job.specs.declared.Work.TheVariants.{Blank, Erase}
 use Rattle.dock_job.specs.declared.refusals.Call.TheVariants.{Begins}
 use Rattle.frame.specs.declared.judgement.Judgement.{Judgement}
 use Rattle.frame.specs.declared.judgement.Judgement.TheVariants.{Good}
-use Rattle.part.specs.declared.refusal.Verdict.TheVariants.{Accepted}
 use Rattle.words.proofs.Laws.{and_right, if-both}
 use Rattle.words.specs.Words.{◌and◌, ◌or◌, if◌then◌otherwise◌}
 
@@ -93,10 +92,10 @@ heard-counts : (j : Job) (used : ℕ) (st : Stage) (h : Heard) → is_over st �
 unfolding after_heard restart says_again after_answer asks_again
 heard-counts j used st (answered bs) o = let a = read_answer j.part j.supply (query_at j st).form bs in go a.decoded a.fault
   where
-    go : (d : Decoded) (fault : Judgement)
+    go : (d : Option Said) (fault : Judgement)
         → (after_answer j used st d fault).spent ≡ (if asks_again d and not (is_over (after_answer j used st d fault).stage) then 1 otherwise 0)
-    go (Said s m) fault = (status-counts j used st s m o).spends
-    go Garbled fault = (over-after false j Unreadable 0x00 fault st).spends
+    go (Some said) fault = (status-counts j used st said.status said.matches o).spends
+    go None fault = (over-after false j Unreadable 0x00 fault st).spends
 heard-counts j used st silence o = (over-after false j TimedOut 0x00 Good st).spends
 
 spent-counted : (j : Job) (image : List ℕ) (used : ℕ) (st : Stage) (hs : List Heard) → spent_in (exchanges j image used st hs) ≡ restarts j used st hs
@@ -121,7 +120,7 @@ unfolding flow
 retries-counted j image hs = spent-counted j image 0 (first_stage j) hs
 
 -- The result of the stepped dock, where the flow is over: its ending, the number of frames sent, and the number of restarts; and no other.
-pub result-counted : (j : Job) (image room : List ℕ) (hs : List Heard) → call_verdict j (length image) Begins ≡ Accepted → 260 ≤ length room
+pub result-counted : (j : Job) (image room : List ℕ) (hs : List Heard) → call_verdict j (length image) Begins ≡ Ok tt → 260 ≤ length room
     → results_in (stepping j image room (begin_of j image).dock hs).reports ≡ result_at (flow j image hs).place (length (flow j image hs).sent) (restarts_over j hs)
 result-counted j image room hs v r =
     (dock-is-flow j image room hs v r).same_results

@@ -15,7 +15,7 @@ use Rattle.frame.specs.Sum.{less, less_all, sum_of}
 use Rattle.frame.specs.Wire.{judge_reply, unfit_reply}
 use Rattle.dock_job.specs.Job.{area_in, blocks_in, bound, is_over, setup}
 use Rattle.dock_job.specs.Refusals.{bad_job, bad_state, call_verdict, due, good_block, good_dock, good_ending, good_failure, good_named_block, good_named_page, good_page, good_stage, good_work, is_bad, out_of_turn, short_room, spent}
-use Rattle.dock_job.specs.declared.Ending.TheVariants.{Finished}
+use Rattle.std.specs.Prelude.{Ok}
 use Rattle.dock_job.specs.declared.Stage.TheVariants.{Over}
 use Rattle.lent.specs.Lent.{same}
 use Rattle.numbers.specs.Numbers.{low_first}
@@ -48,7 +48,7 @@ unfolding faults_found com_of information_of payload_of deciding judge_answer ju
 faults-expected = refl
 
 -- "at most 3 + 12(B + R) frames": 39 for two blocks and one retry, and that many are sent.
-pub bound-reached : (length (flow two_block_job two_block_image worst).sent ≡ 39) × ((flow two_block_job two_block_image worst).spent ≡ 1) × ((flow two_block_job two_block_image worst).place ≡ Over Finished) × (bound two_block_job ≡ 39)
+pub bound-reached : (length (flow two_block_job two_block_image worst).sent ≡ 39) × ((flow two_block_job two_block_image worst).spent ≡ 1) × ((flow two_block_job two_block_image worst).place ≡ Over (Ok tt)) × (bound two_block_job ≡ 39)
 unfolding worst com_of information_of payload_of deciding judge_answer judge_frames matching rate_matches read_answer shape signature_matches statuses after_answer
     after_heard after_setup after_status after_work block_from exchanges flow frames_in in_block next place_after retried says_not_blank setup_from spent_in first_of_block
     frame_at last_of_block last_page page_footer query_with stored_form work_frame area_in blocks_in bound is_over setup due spent counted framed is_frame judge_of summed

@@ -16,8 +16,8 @@ use Rattle.claims_dock.specs.Faults.{carried_before, decoded_before, exactly_bef
 use Rattle.claims_frame.proofs.Faults.{reply-place-is, judged-as-before}
 use Rattle.claims_frame.specs.Faults.{BlamedReply, good_before, judge_before}
 use Rattle.commands.specs.Commands.{com_of}
-use Rattle.dock_answer.specs.Answer.{deciding, in_first, judge_answer, judge_frames, matching, none_left, read_answer, shape, statuses}
-use Rattle.dock_answer.specs.declared.Decoded.TheVariants.{Garbled, Said}
+use Rattle.dock_answer.specs.Answer.{deciding, in_first, judge_answer, judge_frames, matching, none_left, read_answer, shape, statuses, said_as}
+use Rattle.std.specs.Prelude.{None, Some}
 use Rattle.dock_answer.specs.declared.Form.{Form}
 use Rattle.dock_answer.specs.declared.Form.TheVariants.{OfLastPage, OfPage, OneStatus, WithRate, WithSignature}
 use Rattle.dock_flow.specs.Flow.{Heard, after_answer, after_heard, after_setup, after_status, after_work, answered, block_from, first_stage, flow, in_block}
@@ -229,7 +229,7 @@ unfolding after_heard after_answer read_answer is_unreadable if◌then◌otherwi
 heard-named j used st (answered bs) o = go (judge_answer (query_at j st).form bs) (is_good (judge_answer (query_at j st).form bs)) refl
   where
     go : (fault : Judgement) (g : Bool) → is_good fault ≡ g
-        → Leads (after_answer j used st (if g then Said (deciding (statuses (query_at j st).form bs)) (matching j.part j.supply (query_at j st).form bs) otherwise Garbled) fault)
+        → Leads (after_answer j used st (if g then Some (said_as (deciding (statuses (query_at j st).form bs)) (matching j.part j.supply (query_at j st).form bs)) otherwise None) fault)
     go fault true e = status-named j used st _ _ o
     go fault false e = failed e
 heard-named j used st silence o = failed refl

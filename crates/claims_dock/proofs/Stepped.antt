@@ -14,9 +14,9 @@ use Rattle.claims_dock.proofs.Budget.{Kept, heard-kept, needs, needs-some, start
 use Rattle.claims_dock.specs.Stepping.{Course, SameCourse, as_flow, handed_out, noted, result_at, result_of, stepping}
 use Rattle.dock.specs.Calls.{Asking, ask_of, asked, asking, begin_of, fresh_dock, hear_of, sending, standing, starting, stepped, turning}
 use Rattle.dock.specs.declared.Account.{Account}
-use Rattle.dock.specs.declared.Report.{Report}
 use Rattle.dock.specs.declared.Report.TheVariants.{Due, Put}
-use Rattle.dock.specs.declared.Report.TheVariants as Report
+use Rattle.dock.specs.declared.Report.{Report}
+use Rattle.std.specs.Prelude.{Err, Ok, Result}
 use Rattle.dock.specs.declared.Stepped.{Stepped}
 use Rattle.dock_flow.specs.Flow.{Exchange, Heard, after_heard, exchanges, first_stage, flow, frames_in, place_after, setup_from, spent_in}
 use Rattle.dock_flow.specs.Frames.{frame_at, handed, placing, hand_of}
@@ -29,15 +29,12 @@ use Rattle.dock_job.specs.declared.Stage.{Stage}
 use Rattle.dock_job.specs.declared.Stage.TheVariants.{InBlock, Over, SetUp}
 use Rattle.dock_job.specs.declared.refusals.Call.TheVariants.{Asks, Begins, Tells}
 use Rattle.part.specs.declared.refusal.Refusal.{Refusal}
-use Rattle.part.specs.declared.refusal.Verdict.{Verdict}
-use Rattle.part.specs.declared.refusal.Verdict.TheVariants.{Accepted}
-use Rattle.part.specs.declared.refusal.Verdict.TheVariants as Verdict
 use Rattle.words.specs.Words.{if◌then◌otherwise◌}
 
 -- What a call tells while nothing has ended, or where it is refused, is not noted.
-pub record Quiet (A : Type 0) (note : Report → List A) : Type 0 where
-  pub going : note Due ≡ []
-  pub refused : (r : Refusal) → note (Report.Refused r) ≡ []
+pub record Quiet (A : Type 0) (note : Result Report Refusal → List A) : Type 0 where
+  pub going : note (Ok Due) ≡ []
+  pub refused : (r : Refusal) → note (Err r) ≡ []
 
 -- A course with what is noted of its reports.
 record View (A : Type 0) : Type 0 where
@@ -93,27 +90,27 @@ unfolding exchanges frames_in if◌then◌otherwise◌
 first-sent j image st used h hs o = rw o
 
 -- The frame that is due is handed out, and what is heard moves the dock on as the flow says.
-sent-asked : (j : Job) (image room : List ℕ) (d : Dock) → call_verdict j (length image) (Asks d (length room)) ≡ Accepted
-    → ask_of j image d room ≡ asking (stepped (Put (length (frame_at j image d.stage))) (sending d)) (placing (frame_at j image d.stage) room).room
+sent-asked : (j : Job) (image room : List ℕ) (d : Dock) → call_verdict j (length image) (Asks d (length room)) ≡ Ok tt
+    → ask_of j image d room ≡ asking (stepped ((Ok (Put (length (frame_at j image d.stage))))) (sending d)) (placing (frame_at j image d.stage) room).room
 unfolding ask_of asked hand_of handed
 sent-asked j image room d e = rw e
 
-moved_told : (j : Job) (image : List ℕ) (d : Dock) (h : Heard) → call_verdict j (length image) (Tells d) ≡ Accepted
-    → hear_of j image d h ≡ turning Accepted d (after_heard j d.retries d.stage h)
+moved_told : (j : Job) (image : List ℕ) (d : Dock) (h : Heard) → call_verdict j (length image) (Tells d) ≡ Ok tt
+    → hear_of j image d h ≡ turning (Ok tt) d (after_heard j d.retries d.stage h)
 unfolding hear_of
 moved_told j image d h e = rw e
 
-hands_out : (f room : List ℕ) → handed_out (Put (length f)) (f ++ drop (length f) room) ≡ f ∷ []
+hands_out : (f room : List ℕ) → handed_out (Ok (Put (length f))) (f ++ drop (length f) room) ≡ f ∷ []
 unfolding handed_out
 hands_out f room = rw (take-append_seam f (drop (length f) room))
 
-still-going : (st : Stage) (d : Dock) → is_over st ≡ false → standing st d ≡ Due
+still-going : (st : Stage) (d : Dock) → is_over st ≡ false → standing st d ≡ Ok Due
 unfolding standing is_over
 still-going (SetUp s) d o = refl
 still-going (InBlock k w) d o = refl
 still-going (Over e) d o = absurd (true≢false o)
 
-module _ (A : Type 0) (note : Report → List A) (q : Quiet A note) where
+module _ (A : Type 0) (note : Result Report Refusal → List A) (q : Quiet A note) where
   abbrev view : Course → View A
   view c = record { sent = c.sent; notes = noted note c.reports; dock = c.dock }
 
@@ -146,13 +143,13 @@ module _ (A : Type 0) (note : Report → List A) (q : Quiet A note) where
   over-still j image room d (h ∷ hs) o =
       go (call_verdict j (length image) (Asks d (length room))) refl (call_verdict j (length image) (Tells d)) refl (over-still j image room d hs o)
     where
-      go : (v : Verdict) → call_verdict j (length image) (Asks d (length room)) ≡ v → (w : Verdict) → call_verdict j (length image) (Tells d) ≡ w
+      go : (v : Result Unit Refusal) → call_verdict j (length image) (Asks d (length room)) ≡ v → (w : Result Unit Refusal) → call_verdict j (length image) (Tells d) ≡ w
           → view (stepping j image room d hs) ≡ record { sent = []; notes = []; dock = d } → view (stepping j image room d (h ∷ hs)) ≡ record { sent = []; notes = []; dock = d }
-      go Accepted e w f rest =
+      go (Ok _) e w f rest =
           absurd (true≢false (sym o ∙ (asked_is j d (length image) (length room) (accepts j (length image) (Asks d (length room)) e)).going))
-      go (Verdict.Refused r) e Accepted f rest = absurd (true≢false (sym o ∙ (told_is j d (length image) (accepts j (length image) (Tells d) f)).going))
-      go (Verdict.Refused r) e (Verdict.Refused s) f rest =
-          step_by j image room d h hs (asking (stepped (Report.Refused r) d) room) (stepped (Report.Refused s) d) (ask-denied j image d room r e) (hear-denied j image d h s f)
+      go (Err r) e (Ok _) f rest = absurd (true≢false (sym o ∙ (told_is j d (length image) (accepts j (length image) (Tells d) f)).going))
+      go (Err r) e (Err s) f rest =
+          step_by j image room d h hs (asking (stepped (Err r) d) room) (stepped (Err s) d) (ask-denied j image d room r e) (hear-denied j image d h s f)
           ∙ ap (λ (xs : List A). record { sent = (view (stepping j image room d hs)).sent; notes = xs ++ (view (stepping j image room d hs)).notes; dock = (view (stepping j image room d hs)).dock }) (q.refused s)
           ∙ rest
 
@@ -247,19 +244,19 @@ module _ (A : Type 0) (note : Report → List A) (q : Quiet A note) where
           let m = at t.stage (used + t.spent) (n + 1) in
           let s = needs-some j st g o in
           let gd : GoodDock j d = record { at_stage = g; few-used = u; few-sent = omega arith } in
-          let a : call_verdict j (length image) (Asks d (length room)) ≡ Accepted =
+          let a : call_verdict j (length image) (Asks d (length room)) ≡ (Ok tt) =
           ask-accepted j (length image) d (length room) b (record { good = gd; going = o; free = refl; below = omega arith; roomy = r }) in
           let gs : GoodDock j (sending d) = record { at_stage = g; few-used = u; few-sent = omega arith } in
-          let w : call_verdict j (length image) (Tells (sending d)) ≡ Accepted =
+          let w : call_verdict j (length image) (Tells (sending d)) ≡ (Ok tt) =
           tell-accepted j (length image) (sending d) b (record { good = gs; going = o; waiting = refl }) in
           let room' = f ++ drop (length f) room in
           let l : 260 ≤ length room' = rw (length-append, length-drop) (omega arith) in
           let c = view (stepping j image room' m hs) in
-          step_by j image room d h hs (asking (stepped (Put (length f)) (sending d)) room') (turning Accepted (sending d) t) (sent-asked j image room d a) (moved_told j image (sending d) h w)
+          step_by j image room d h hs (asking (stepped (Ok (Put (length f))) (sending d)) room') (turning (Ok tt) (sending d) t) (sent-asked j image room d a) (moved_told j image (sending d) h w)
           ∙ ap (λ (x : List (List ℕ)). record { sent = x ++ c.sent; notes = note (standing t.stage m) ++ c.notes; dock = c.dock }) (hands_out f room)
           ∙ onward j image st used n h hs o c (rest room' l (heard-kept j used st h u g o))
 
-  pub course-is : (j : Job) (image room : List ℕ) (hs : List Heard) → call_verdict j (length image) Begins ≡ Accepted → 260 ≤ length room
+  pub course-is : (j : Job) (image room : List ℕ) (hs : List Heard) → call_verdict j (length image) Begins ≡ Ok tt → 260 ≤ length room
       → view (stepping j image room (begin_of j image).dock hs)
       ≡ record { sent = (flow j image hs).sent; notes = note (standing (flow j image hs).place (as_flow (flow j image hs))); dock = as_flow (flow j image hs) }
   unfolding begin_of starting fresh_dock flow note_at is_over setup_from setup
@@ -273,8 +270,8 @@ module _ (A : Type 0) (note : Report → List A) (q : Quiet A note) where
       ∙ ap (λ (d : Dock). record { sent = (flow j image hs).sent; notes = note (standing d.stage d); dock = d }) k)
 
 -- What is noted over a history is what is noted of the flow's end.
-pub notes-told : (A : Type 0) (note : Report → List A) → Quiet A note → (j : Job) (image room : List ℕ) (hs : List Heard)
-    → call_verdict j (length image) Begins ≡ Accepted → 260 ≤ length room
+pub notes-told : (A : Type 0) (note : Result Report Refusal → List A) → Quiet A note → (j : Job) (image room : List ℕ) (hs : List Heard)
+    → call_verdict j (length image) Begins ≡ Ok tt → 260 ≤ length room
     → noted note (stepping j image room (begin_of j image).dock hs).reports ≡ note (standing (flow j image hs).place (as_flow (flow j image hs)))
 notes-told A note q j image room hs v r = ap (λ (x : View A). x.notes) (course-is A note q j image room hs v r)
 
@@ -288,7 +285,7 @@ result-is (SetUp s) d = refl
 result-is (InBlock k w) d = refl
 result-is (Over e) d = refl
 
-pub dock-is-flow : (j : Job) (image room : List ℕ) (hs : List Heard) → call_verdict j (length image) Begins ≡ Accepted → 260 ≤ length room
+pub dock-is-flow : (j : Job) (image room : List ℕ) (hs : List Heard) → call_verdict j (length image) Begins ≡ Ok tt → 260 ≤ length room
     → SameCourse (stepping j image room (begin_of j image).dock hs) (flow j image hs)
 dock-is-flow j image room hs v r =
     let f = flow j image hs in

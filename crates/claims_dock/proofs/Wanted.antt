@@ -23,8 +23,8 @@ use Rattle.dock_job.specs.declared.Job.{Job}
 use Rattle.dock_job.specs.declared.refusals.Call.TheVariants.{Tells}
 use Rattle.frame.proofs.Laws.Wire.{fit-long}
 use Rattle.frame.specs.Judgement.{is_good}
-use Rattle.part.specs.declared.refusal.Verdict.{Verdict}
-use Rattle.part.specs.declared.refusal.Verdict.TheVariants.{Accepted, Refused}
+use Rattle.part.specs.declared.refusal.Refusal.{Refusal}
+use Rattle.std.specs.Prelude.{Err, Ok, Result}
 use Rattle.words.proofs.Laws.{and_left, and_right, if-both}
 use Rattle.words.specs.Words.{◌and◌}
 
@@ -93,21 +93,21 @@ most-wanted f bs h = omega (arith, (shape-fits f (in_first 0 bs) (in_first 1 bs)
 abbrev form_at : Job → Dock → Form
 form_at j d = (query_at j d.stage).form
 
-none-by : (v : Verdict) → wants_by v 0 ≡ 0
+none-by : (v : Result Unit Refusal) → wants_by v 0 ≡ 0
 unfolding wants_by
-none-by Accepted = refl
-none-by (Refused r) = refl
+none-by (Ok _) = refl
+none-by (Err r) = refl
 
-most-by : (v : Verdict) (n m : ℕ) → (1 ≤ n → m + n ≤ 31) → 1 ≤ wants_by v n → m + wants_by v n ≤ 31
+most-by : (v : Result Unit Refusal) (n m : ℕ) → (1 ≤ n → m + n ≤ 31) → 1 ≤ wants_by v n → m + wants_by v n ≤ 31
 unfolding wants_by
-most-by Accepted n m f h = f h
-most-by (Refused r) n m f h = absurd (omega arith)
+most-by (Ok _) n m f h = f h
+most-by (Err r) n m f h = absurd (omega arith)
 
 pub whole-wants-none : (j : Job) (image : List ℕ) (d : Dock) (bs : List ℕ) → readable (form_at j d) bs ≡ true → wants_of j image d bs ≡ 0
 unfolding wants_of wanted_at
 whole-wants-none j image d bs e = rw (whole-wanted (form_at j d) bs e) (none-by (call_verdict j (length image) (Tells d)))
 
-pub front-wants-more : (j : Job) (image : List ℕ) (d : Dock) (bs : List ℕ) (k : ℕ) → call_verdict j (length image) (Tells d) ≡ Accepted
+pub front-wants-more : (j : Job) (image : List ℕ) (d : Dock) (bs : List ℕ) (k : ℕ) → call_verdict j (length image) (Tells d) ≡ Ok tt
     → readable (form_at j d) bs ≡ true → k < length bs → 1 ≤ wants_of j image d (take k bs)
 unfolding wants_of wants_by wanted_at
 front-wants-more j image d bs k a e h = rw a (front-wanted (form_at j d) bs k e h)

@@ -3,20 +3,20 @@
 use mathlib.Core.Bool.{false, true, true≢false}
 use mathlib.Core.List.{List}
 use mathlib.Core.Path.{◌∙◌, ◌≡◌, ap, refl}
-use Prim.Native.Nat.{◌-◌, ◌<◌, ◌^◌, ℕ}
+use Prim.Native.Nat.{◌<◌, ◌^◌, ℕ}
 use native.Mathlib.Omega.{arith}
 use lib.ListN.{length}
 use Rattle.commands.proofs.Laws.{read_back}
 use Rattle.commands.specs.Commands.{end_of, payload_of, read_command, start_of}
 use Rattle.commands.specs.declared.Command.{Command}
-use Rattle.commands.specs.declared.Reading.TheVariants.{Meant}
+use Rattle.part.specs.declared.Range.{Range}
+use Rattle.std.specs.Prelude.{None, Ok, Option, Some}
 use Rattle.dock_flow.specs.Frames.{first_of_block, frame_at, frame_of, last_of_block, query_at, query_with, work_frame}
 use Rattle.dock_job.proofs.Laws.{accepts, asked_is, block-is, place_is}
 use Rattle.dock_job.specs.Job.{blocks_in, blocks_of, is_over, job_range}
 use Rattle.dock_job.specs.Refusals.{call_verdict, good_stage}
 use Rattle.dock_job.specs.declared.Dock.{Dock}
 use Rattle.dock_job.specs.declared.Job.{Job}
-use Rattle.dock_job.specs.declared.Named.TheVariants.{Unnamed}
 use Rattle.dock_job.specs.declared.Setup.TheVariants.{BaudRate, ResetChip, SiliconSignature}
 use Rattle.dock_job.specs.declared.Stage.{Stage}
 use Rattle.dock_job.specs.declared.Stage.TheVariants.{InBlock, Over, SetUp}
@@ -28,9 +28,6 @@ use Rattle.frame.specs.declared.Footer.TheVariants.{Last}
 use Rattle.frame.specs.declared.Header.TheVariants as Header
 use Rattle.part.proofs.Laws.{blocks-most, first_small, range-good}
 use Rattle.part.specs.Part.{block_size, described}
-use Rattle.part.specs.declared.Range.{Range}
-use Rattle.part.specs.declared.Range.TheVariants.{Bad, Blocks}
-use Rattle.part.specs.declared.refusal.Verdict.TheVariants.{Accepted}
 
 -- The addresses of a block of a described job are three bytes.
 pub record Short (j : Job) (k : ℕ) : Type 0 where
@@ -41,21 +38,21 @@ pub short : (j : Job) (k : ℕ) → described j.part ≡ true → k < blocks_of 
 unfolding first_of_block last_of_block block_size blocks_in
 short j k d h = go (job_range j) refl h
   where
-    go : (r : Range) → job_range j ≡ r → k < blocks_in r → Short j k
-    go (Blocks a b n) e h =
-        let s = range-good j.part j.start j.end a b n e in
-        let m = blocks-most j.part a d in
-        let f = first_small a in
+    go : (r : Option Range) → job_range j ≡ r → k < blocks_in r → Short j k
+    go (Some range) e h =
+        let s = range-good j.part j.start j.end range.area range.block range.count e in
+        let m = blocks-most j.part range.area d in
+        let f = first_small range.area in
         record { starts = omega (arith, s.begins, s.inside); ends = omega (arith, s.begins, s.inside) }
-    go Bad e h = absurd (omega arith)
+    go None e h = absurd (omega arith)
 
 -- A command in its frame is read as it is.
-pub framed-read : (c : Command) → start_of c < 256 ^ 3 → end_of c < 256 ^ 3 → read_command (payload (frame_of c)) ≡ Meant c
+pub framed-read : (c : Command) → start_of c < 256 ^ 3 → end_of c < 256 ^ 3 → read_command (payload (frame_of c)) ≡ Ok c
 framed-read c s e = ap read_command (payload-framed Header.Command (payload_of c) Last) ∙ read_back c s e
 
 module _ (j : Job) (image : List ℕ) (d : described j.part ≡ true) where
-  stage-read : (st : Stage) → good_stage j st ≡ true → is_over st ≡ false → (query_at j st).page ≡ Unnamed
-      → read_command (payload (frame_at j image st)) ≡ Meant (query_at j st).command
+  stage-read : (st : Stage) → good_stage j st ≡ true → is_over st ≡ false → (query_at j st).page ≡ None
+      → read_command (payload (frame_at j image st)) ≡ Ok (query_at j st).command
   unfolding frame_at work_frame query_with is_over
   stage-read (SetUp BaudRate) g o n = framed-read _ (omega arith) (omega arith)
   stage-read (SetUp ResetChip) g o n = framed-read _ (omega arith) (omega arith)
@@ -68,8 +65,8 @@ module _ (j : Job) (image : List ℕ) (d : described j.part ≡ true) where
   stage-read (InBlock k (VerifyPage p)) g o n = absurd (let z : ◌≡◌ {A = ℕ} 0 1 = cc in omega arith)
   stage-read (Over e) g o n = absurd (true≢false o)
 
-pub command-read : (j : Job) (image : List ℕ) (d : Dock) (room : ℕ) → call_verdict j (length image) (Asks d room) ≡ Accepted
-    → (query_at j d.stage).page ≡ Unnamed → read_command (payload (frame_at j image d.stage)) ≡ Meant (query_at j d.stage).command
+pub command-read : (j : Job) (image : List ℕ) (d : Dock) (room : ℕ) → call_verdict j (length image) (Asks d room) ≡ Ok tt
+    → (query_at j d.stage).page ≡ None → read_command (payload (frame_at j image d.stage)) ≡ Ok (query_at j d.stage).command
 command-read j image d room v n =
     let a = accepts j (length image) (Asks d room) v in
     let b = asked_is j d (length image) room a in

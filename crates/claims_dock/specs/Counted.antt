@@ -1,9 +1,8 @@
 -- Retries counted by what was heard, without the flow's own count: document 01, "The dock's flow", "A status 07h or 15h spends one retry and restarts the block
 -- (or the setup command); with none left the job fails."
-use Rattle.std.specs.Prelude.{Bool, false, not, List, [], ◌∷◌, ◌+◌, ℕ, eqb}
+use Rattle.std.specs.Prelude.{Bool, false, not, List, [], ◌∷◌, ◌+◌, ℕ, eqb, None, Option, Some}
 use Rattle.dock_answer.specs.Answer.{read_answer}
-use Rattle.dock_answer.specs.declared.Decoded.{Decoded}
-use Rattle.dock_answer.specs.declared.Decoded.TheVariants.{Garbled, Said}
+use Rattle.dock_answer.specs.declared.Said.{Said}
 use Rattle.dock_flow.specs.Flow.{Heard, after_heard, answered, first_stage, silence}
 use Rattle.dock_flow.specs.Frames.{query_at}
 use Rattle.dock_job.specs.Job.{is_over}
@@ -12,9 +11,9 @@ use Rattle.dock_job.specs.declared.Stage.{Stage}
 use Rattle.words.specs.Words.{◌and◌, ◌or◌, if◌then◌otherwise◌}
 
 -- The status that decides an answer is 07h or 15h.
-unfoldable pub asks_again : Decoded → Bool
-asks_again (Said s matches) = eqb s 0x07 or eqb s 0x15
-asks_again Garbled = false
+unfoldable pub asks_again : Option Said → Bool
+asks_again (Some said) = eqb said.status 0x07 or eqb said.status 0x15
+asks_again None = false
 
 unfoldable pub says_again : Job → Stage → Heard → Bool
 says_again j st (answered bs) = asks_again (read_answer j.part j.supply (query_at j st).form bs).decoded

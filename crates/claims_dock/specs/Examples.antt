@@ -1,5 +1,5 @@
 -- Worked examples of the dock: frames that the documents print, and how a job of two blocks with one retry goes over short histories.
-use Rattle.std.specs.Prelude.{Bool, false, true, List, [], ◌++◌, ◌∷◌, ℕ, replicate, set, take}
+use Rattle.std.specs.Prelude.{Bool, false, true, List, [], ◌++◌, ◌∷◌, ℕ, replicate, set, take, Err, None, Ok, Option, Result, Some}
 use Rattle.dock_flow.specs.Flow.{Heard, answered, flow, silence}
 use Rattle.dock_flow.specs.Frames.{frame_at}
 use Rattle.frame.specs.Frame.{data_frame}
@@ -8,10 +8,8 @@ use Rattle.dock_job.specs.Refusals.{call_verdict}
 use Rattle.dock_job.specs.declared.Cause.{Cause}
 use Rattle.dock_job.specs.declared.Cause.TheVariants.{Mismatch, TimedOut, UnexpectedStatus, Unreadable}
 use Rattle.dock_job.specs.declared.Dock.{Dock}
-use Rattle.dock_job.specs.declared.Ending.TheVariants.{Failed, Finished}
+use Rattle.part.specs.declared.refusal.Refusal.{Refusal}
 use Rattle.dock_job.specs.declared.Job.{Job}
-use Rattle.dock_job.specs.declared.Named.{Named}
-use Rattle.dock_job.specs.declared.Named.TheVariants.{It, Unnamed}
 use Rattle.dock_job.specs.declared.Setup.TheVariants.{BaudRate, ResetChip, SiliconSignature}
 use Rattle.dock_job.specs.declared.Stage.{Stage}
 use Rattle.dock_job.specs.declared.Stage.TheVariants.{InBlock, Over, SetUp}
@@ -23,8 +21,6 @@ use Rattle.frame.specs.declared.judgement.Judgement.TheVariants.{Good, UnfitLeng
 use Rattle.part.specs.Refusal.{number}
 use Rattle.part.specs.Signature.{signature}
 use Rattle.part.specs.declared.Part.{Part}
-use Rattle.part.specs.declared.refusal.Verdict.{Verdict}
-use Rattle.part.specs.declared.refusal.Verdict.TheVariants.{Accepted, Refused}
 
 -- The part of document 01, "Replay"; device code, name and version as in 000, table 3-2.
 abbrev pub two_block_part : Part
@@ -136,62 +132,63 @@ pub record PlaceRow : Type 0 where
 abbrev pub after : List Heard → Stage → PlaceRow
 after hs st = record { stands = (flow two_block_job two_block_image hs).place; expected = st }
 
-abbrev pub failed_at : Cause → ℕ → Named → ℕ → Named → Stage
-failed_at c cmd p s k = Over (Failed (record { cause = c; command = cmd; page = p; status = s; block = k; fault = Good }))
+abbrev pub failed_at : Cause → ℕ → Option ℕ → ℕ → Option ℕ → Stage
+failed_at c cmd p s k = Over (Err (record { cause = c; command = cmd; page = p; status = s; block = k; fault = Good }))
 
 -- An unreadable answer, with its fault (document 02, §4).
-abbrev pub unreadable_at : ℕ → Named → Named → Judgement → Stage
-unreadable_at cmd p k fault = Over (Failed (record { cause = Unreadable; command = cmd; page = p; status = 0x00; block = k; fault = fault }))
+abbrev pub unreadable_at : ℕ → Option ℕ → Option ℕ → Judgement → Stage
+unreadable_at cmd p k fault = Over (Err (record { cause = Unreadable; command = cmd; page = p; status = 0x00; block = k; fault = fault }))
 
 unfoldable pub places : List PlaceRow
 places =
     -- setup: a timeout; 06h alone, nothing, or a byte too many to 9Ah; another clock, another mode; another status
-    after (silence ∷ []) (failed_at TimedOut 0x9A Unnamed 0x00 Unnamed)
-    ∷ after (say 0x06 ∷ []) (unreadable_at 0x9A Unnamed Unnamed UnfitLength)
-    ∷ after (answered [] ∷ []) (unreadable_at 0x9A Unnamed Unnamed WrongFirst)
-    ∷ after (answered (data_frame (0x06 ∷ 0x20 ∷ 0x00 ∷ []) Last ++ 0x00 ∷ []) ∷ []) (unreadable_at 0x9A Unnamed Unnamed UnfitLength)
-    ∷ after (answered (data_frame (0x06 ∷ 0x20 ∷ 0x00 ∷ []) More) ∷ []) (unreadable_at 0x9A Unnamed Unnamed (WrongFooter 6))
-    ∷ after (rate_said 31 0x00 ∷ []) (failed_at Mismatch 0x9A Unnamed 0x06 Unnamed)
-    ∷ after (rate_said 32 0x01 ∷ []) (failed_at Mismatch 0x9A Unnamed 0x06 Unnamed)
-    ∷ after (say 0x05 ∷ []) (failed_at UnexpectedStatus 0x9A Unnamed 0x05 Unnamed)
+    after (silence ∷ []) (failed_at TimedOut 0x9A None 0x00 None)
+    ∷ after (say 0x06 ∷ []) (unreadable_at 0x9A None None UnfitLength)
+    ∷ after (answered [] ∷ []) (unreadable_at 0x9A None None WrongFirst)
+    ∷ after (answered (data_frame (0x06 ∷ 0x20 ∷ 0x00 ∷ []) Last ++ 0x00 ∷ []) ∷ []) (unreadable_at 0x9A None None UnfitLength)
+    ∷ after (answered (data_frame (0x06 ∷ 0x20 ∷ 0x00 ∷ []) More) ∷ []) (unreadable_at 0x9A None None (WrongFooter 6))
+    ∷ after (rate_said 31 0x00 ∷ []) (failed_at Mismatch 0x9A None 0x06 None)
+    ∷ after (rate_said 32 0x01 ∷ []) (failed_at Mismatch 0x9A None 0x06 None)
+    ∷ after (say 0x05 ∷ []) (failed_at UnexpectedStatus 0x9A None 0x05 None)
     -- a setup command is restarted alone, and only as often as is allowed
     ∷ after (rate_said 32 0x00 ∷ say 0x07 ∷ []) (SetUp ResetChip)
-    ∷ after (say 0x15 ∷ say 0x07 ∷ []) (failed_at UnexpectedStatus 0x9A Unnamed 0x07 Unnamed)
+    ∷ after (say 0x15 ∷ say 0x07 ∷ []) (failed_at UnexpectedStatus 0x9A None 0x07 None)
     -- C0h: another signature; 06h alone
-    ∷ after (rate_said 32 0x00 ∷ say 0x06 ∷ signed_as (replicate 22 0x00) ∷ []) (failed_at Mismatch 0xC0 Unnamed 0x06 Unnamed)
-    ∷ after (rate_said 32 0x00 ∷ say 0x06 ∷ say 0x06 ∷ []) (unreadable_at 0xC0 Unnamed Unnamed WrongFirst)
+    ∷ after (rate_said 32 0x00 ∷ say 0x06 ∷ signed_as (replicate 22 0x00) ∷ []) (failed_at Mismatch 0xC0 None 0x06 None)
+    ∷ after (rate_said 32 0x00 ∷ say 0x06 ∷ say 0x06 ∷ []) (unreadable_at 0xC0 None None WrongFirst)
     -- 32h: blank goes to 40h, not blank to 22h
     ∷ after (setup_well ++ say 0x06 ∷ []) (InBlock 0 Program)
     ∷ after (setup_well ++ say 0x1B ∷ []) (InBlock 0 Erase)
-    ∷ after (setup_well ++ say 0x05 ∷ []) (failed_at UnexpectedStatus 0x32 Unnamed 0x05 (It 0))
+    ∷ after (setup_well ++ say 0x05 ∷ []) (failed_at UnexpectedStatus 0x32 None 0x05 (Some 0))
     -- 1Bh is expected of 32h alone
-    ∷ after (setup_well ++ say 0x06 ∷ say 0x1B ∷ []) (failed_at UnexpectedStatus 0x40 Unnamed 0x1B (It 0))
+    ∷ after (setup_well ++ say 0x06 ∷ say 0x1B ∷ []) (failed_at UnexpectedStatus 0x40 None 0x1B (Some 0))
     -- pages: the first unexpected status decides
     ∷ after (setup_well ++ say 0x06 ∷ say 0x06 ∷ both 0x06 0x07 ∷ []) (InBlock 0 Blank)
     ∷ after (setup_well ++ say 0x06 ∷ say 0x06 ∷ both 0x07 0x1C ∷ []) (InBlock 0 Blank)
-    ∷ after (setup_well ++ say 0x06 ∷ say 0x06 ∷ both 0x1C 0x07 ∷ []) (failed_at UnexpectedStatus 0x40 (It 0) 0x1C (It 0))
-    ∷ after (setup_well ++ say 0x06 ∷ say 0x06 ∷ both 0x06 0x06 ∷ both 0x06 0x1C ∷ []) (failed_at UnexpectedStatus 0x40 (It 1) 0x1C (It 0))
+    ∷ after (setup_well ++ say 0x06 ∷ say 0x06 ∷ both 0x1C 0x07 ∷ []) (failed_at UnexpectedStatus 0x40 (Some 0) 0x1C (Some 0))
+    ∷ after (setup_well ++ say 0x06 ∷ say 0x06 ∷ both 0x06 0x06 ∷ both 0x06 0x1C ∷ []) (failed_at UnexpectedStatus 0x40 (Some 1) 0x1C (Some 0))
     -- the last page of 40h: the third status, and none
-    ∷ after (setup_well ++ say 0x06 ∷ say 0x06 ∷ both 0x06 0x06 ∷ both 0x06 0x06 ∷ both 0x06 0x06 ∷ third 0x1B ∷ []) (failed_at UnexpectedStatus 0x40 (It 3) 0x1B (It 0))
+    ∷ after (setup_well ++ say 0x06 ∷ say 0x06 ∷ both 0x06 0x06 ∷ both 0x06 0x06 ∷ both 0x06 0x06 ∷ third 0x1B ∷ [])
+    (failed_at UnexpectedStatus 0x40 (Some 3) 0x1B (Some 0))
     ∷ after (setup_well ++ say 0x06 ∷ say 0x06 ∷ both 0x06 0x06 ∷ both 0x06 0x06 ∷ both 0x06 0x06 ∷ third 0x15 ∷ []) (InBlock 0 Blank)
-    ∷ after (setup_well ++ say 0x06 ∷ say 0x06 ∷ both 0x06 0x06 ∷ both 0x06 0x06 ∷ both 0x06 0x06 ∷ both 0x06 0x06 ∷ []) (unreadable_at 0x40 (It 3) (It 0) WrongFirst)
+    ∷ after (setup_well ++ say 0x06 ∷ say 0x06 ∷ both 0x06 0x06 ∷ both 0x06 0x06 ∷ both 0x06 0x06 ∷ both 0x06 0x06 ∷ []) (unreadable_at 0x40 (Some 3) (Some 0) WrongFirst)
     -- a middle page with a third status is none of its frames
-    ∷ after (setup_well ++ say 0x06 ∷ say 0x06 ∷ third 0x06 ∷ []) (unreadable_at 0x40 (It 0) (It 0) UnfitLength)
+    ∷ after (setup_well ++ say 0x06 ∷ say 0x06 ∷ third 0x06 ∷ []) (unreadable_at 0x40 (Some 0) (Some 0) UnfitLength)
     -- 13h: 0Fh on a middle page fails the job too, though a chip that follows document 02, §2 says it on the last alone
-    ∷ after (setup_well ++ to_verify ++ both 0x06 0x06 ∷ both 0x06 0x0F ∷ []) (failed_at UnexpectedStatus 0x13 (It 1) 0x0F (It 0))
+    ∷ after (setup_well ++ to_verify ++ both 0x06 0x06 ∷ both 0x06 0x0F ∷ []) (failed_at UnexpectedStatus 0x13 (Some 1) 0x0F (Some 0))
     -- the last page, in block 1
-    ∷ after (setup_well ++ block_well ++ both 0x06 0x06 ∷ block_well ++ both 0x06 0x0F ∷ []) (failed_at UnexpectedStatus 0x13 (It 3) 0x0F (It 1))
-    ∷ after (setup_well ++ block_well ++ both 0x06 0x06 ∷ block_well ++ both 0x06 0x06 ∷ []) (Over Finished)
+    ∷ after (setup_well ++ block_well ++ both 0x06 0x06 ∷ block_well ++ both 0x06 0x0F ∷ []) (failed_at UnexpectedStatus 0x13 (Some 3) 0x0F (Some 1))
+    ∷ after (setup_well ++ block_well ++ both 0x06 0x06 ∷ block_well ++ both 0x06 0x06 ∷ []) (Over (Ok tt))
     -- what comes after the end changes nothing
-    ∷ after (silence ∷ setup_well) (failed_at TimedOut 0x9A Unnamed 0x00 Unnamed)
+    ∷ after (silence ∷ setup_well) (failed_at TimedOut 0x9A None 0x00 None)
     ∷ []
 
 -- The fault of an unreadable answer, from its first faulty frame: first byte, LEN, footer, SUM, each place counted from that frame's header.
 abbrev pub at_reset : List ℕ → Judgement → PlaceRow
-at_reset bs fault = after (rate_said 32 0x00 ∷ answered bs ∷ []) (unreadable_at 0x00 Unnamed Unnamed fault)
+at_reset bs fault = after (rate_said 32 0x00 ∷ answered bs ∷ []) (unreadable_at 0x00 None None fault)
 
 abbrev pub at_signature : List ℕ → Judgement → PlaceRow
-at_signature bs fault = after (rate_said 32 0x00 ∷ say 0x06 ∷ answered bs ∷ []) (unreadable_at 0xC0 Unnamed Unnamed fault)
+at_signature bs fault = after (rate_said 32 0x00 ∷ say 0x06 ∷ answered bs ∷ []) (unreadable_at 0xC0 None None fault)
 
 abbrev pub signed : List ℕ
 signed = data_frame (signature two_block_part) Last
@@ -218,9 +215,9 @@ faults_found =
     ∷ []
 
 -- The number of a verdict, 0 where the call is accepted; beside the number that it should be.
-abbrev pub number_of : Verdict → ℕ
-number_of Accepted = 0
-number_of (Refused r) = number r
+abbrev pub number_of : Result Unit Refusal → ℕ
+number_of (Ok _) = 0
+number_of (Err r) = number r
 
 pub record RefusalRow : Type 0 where
   pub gives : ℕ
@@ -259,8 +256,8 @@ refusals =
     ∷ call two_block_job 2048 (Asks (dock_at (InBlock 1 (ProgramPage 4)) false 0 0) 260) 9
     ∷ call two_block_job 2048 (Asks (dock_at (InBlock 1 (VerifyPage 3)) false 0 0) 260) 0
     ∷ call two_block_job 2048 (Tells (dock_at (SetUp BaudRate) true 2 1)) 9
-    ∷ call two_block_job 2048 (Tells (dock_at (Over Finished) false 0 40)) 9
-    ∷ call two_block_job 2048 (Tells (dock_at (failed_at TimedOut 0x40 (It 4) 0x00 (It 0)) false 0 5)) 9
+    ∷ call two_block_job 2048 (Tells (dock_at (Over (Ok tt)) false 0 40)) 9
+    ∷ call two_block_job 2048 (Tells (dock_at (failed_at TimedOut 0x40 (Some 4) 0x00 (Some 0)) false 0 5)) 9
     -- a frame that is due at the bound; at the bound with an answer awaited
     ∷ call two_block_job 2048 (Asks (dock_at (SetUp BaudRate) false 0 39) 260) 9
     ∷ call two_block_job 2048 (Asks (dock_at (SetUp BaudRate) false 0 38) 260) 0
@@ -268,12 +265,12 @@ refusals =
     ∷ call two_block_job 2048 (Tells (dock_at (SetUp BaudRate) true 0 39)) 0
     -- 4 before 8
     ∷ call two_block_job 2048 (Asks (dock_at (SetUp BaudRate) true 0 1) 259) 4
-    ∷ call two_block_job 2048 (Asks (dock_at (Over Finished) false 0 1) 259) 4
+    ∷ call two_block_job 2048 (Asks (dock_at (Over (Ok tt)) false 0 1) 259) 4
     -- 8: a frame asked while an answer is awaited, an answer told while none is, and a job that is over
     ∷ call two_block_job 2048 (Asks (dock_at (SetUp BaudRate) true 0 1) 260) 8
     ∷ call two_block_job 2048 (Tells (dock_at (SetUp BaudRate) false 0 1)) 8
-    ∷ call two_block_job 2048 (Asks (dock_at (Over Finished) false 0 1) 260) 8
-    ∷ call two_block_job 2048 (Tells (dock_at (Over Finished) true 0 1)) 8
+    ∷ call two_block_job 2048 (Asks (dock_at (Over (Ok tt)) false 0 1) 260) 8
+    ∷ call two_block_job 2048 (Tells (dock_at (Over (Ok tt)) true 0 1)) 8
     -- states that are no refusal: no frame counted while an answer is awaited
     ∷ call two_block_job 2048 (Tells (dock_at (InBlock 0 Program) true 0 0)) 0
     ∷ []

@@ -1,17 +1,15 @@
 -- Document 02, §4: "The dock's failure result also names the fault of an unreadable reply, from its first faulty frame". Which answers are readable has not changed:
 -- what made one readable before stands here as it was.
-use Rattle.std.specs.Prelude.{Bool, false, not, true, List, [], ◌∷◌, ◌≡◌, ◌+◌, ℕ, eqb, drop, get_or, length, take}
+use Rattle.std.specs.Prelude.{Bool, false, not, true, List, [], ◌∷◌, ◌≡◌, ◌+◌, ℕ, eqb, drop, get_or, length, take, Err, None, Ok, Option, Some}
 use Rattle.claims_frame.specs.Faults.{BlamedReply, good_before, judge_before}
-use Rattle.dock_answer.specs.Answer.{deciding, in_first, judge_answer, judge_frames, matching, none_left, read_answer, readable, shape, statuses}
-use Rattle.dock_answer.specs.declared.Decoded.{Decoded}
-use Rattle.dock_answer.specs.declared.Decoded.TheVariants.{Garbled, Said}
+use Rattle.dock_answer.specs.Answer.{deciding, in_first, judge_answer, judge_frames, matching, none_left, read_answer, readable, shape, statuses, said_as}
+use Rattle.dock_answer.specs.declared.Said.{Said}
 use Rattle.dock_answer.specs.declared.Form.{Form}
 use Rattle.dock_flow.specs.Flow.{Heard, after_heard, answered, fails, flow}
 use Rattle.dock_flow.specs.Frames.{query_at}
 use Rattle.dock_job.specs.Job.{is_over}
 use Rattle.dock_job.specs.declared.Cause.{Cause}
 use Rattle.dock_job.specs.declared.Cause.TheVariants.{Mismatch, TimedOut, UnexpectedStatus, Unreadable}
-use Rattle.dock_job.specs.declared.Ending.TheVariants.{Failed, Finished}
 use Rattle.dock_job.specs.declared.Failure.{Failure}
 use Rattle.dock_job.specs.declared.Job.{Job}
 use Rattle.dock_job.specs.declared.Stage.{Stage}
@@ -39,8 +37,8 @@ exactly_before (n ∷ ns) bs = eqb (carried_before bs) n and exactly_before ns (
 unfoldable pub readable_before : Form → List ℕ → Bool
 readable_before f bs = exactly_before (shape f (in_first 0 bs) (in_first 1 bs)) bs
 
-unfoldable pub decoded_before : Part → ℕ → Form → List ℕ → Decoded
-decoded_before p supply f bs = if readable_before f bs then Said (deciding (statuses f bs)) (matching p supply f bs) otherwise Garbled
+unfoldable pub decoded_before : Part → ℕ → Form → List ℕ → Option Said
+decoded_before p supply f bs = if readable_before f bs then Some (said_as (deciding (statuses f bs)) (matching p supply f bs)) otherwise None
 
 abbrev pub ReadableAsBefore : Type 0
 ReadableAsBefore = (f : Form) (bs : List ℕ) → readable f bs ≡ readable_before f bs
@@ -73,8 +71,8 @@ is_unreadable TimedOut = false
 
 pub data FaultNamed : Stage → Type 0 where
   goes_on : {st : Stage} → is_over st ≡ false → FaultNamed st
-  finished : FaultNamed (Over Finished)
-  failed : {f : Failure} → is_good f.fault ≡ not (is_unreadable f.cause) → FaultNamed (Over (Failed f))
+  finished : FaultNamed (Over (Ok tt))
+  failed : {f : Failure} → is_good f.fault ≡ not (is_unreadable f.cause) → FaultNamed (Over (Err f))
 
 -- However a job goes.
 abbrev pub FailureNamesFault : Type 0

@@ -1,9 +1,10 @@
 -- Document 01, "Refusal numbers", "Order .. for the dock: 1, 5, 6, 7, 9, 4, 8": calls with two faults at once, and the number that each is refused with.
-use Rattle.std.specs.Prelude.{Bool, false, not, List, [], ◌++◌, ◌∷◌, ℕ, eqb, replicate}
+use Rattle.std.specs.Prelude.{Bool, false, not, List, [], ◌++◌, ◌∷◌, ℕ, eqb, replicate, Err, Ok, Result}
 use Rattle.claims_dock.specs.Examples.{RefusalRow, job_with, say}
 use Rattle.dock.specs.Calls.{ask_of, begin_of, hear_of}
+use Rattle.dock.specs.declared.Report.TheVariants.{Due, Ended, Put}
+use Rattle.part.specs.declared.refusal.Refusal.{Refusal}
 use Rattle.dock.specs.declared.Report.{Report}
-use Rattle.dock.specs.declared.Report.TheVariants.{Due, Ended, Put, Refused}
 use Rattle.dock_flow.specs.Flow.{Heard, silence}
 use Rattle.dock_job.specs.declared.Dock.{Dock}
 use Rattle.dock_job.specs.declared.Job.{Job}
@@ -32,11 +33,11 @@ abbrev pub room_of : List ℕ → List ℕ
 room_of faults = replicate (if has 4 faults then 259 otherwise 260) 0x00
 
 -- The number that a report refuses with; 0 where it does not.
-unfoldable pub refused_by : Report → ℕ
-refused_by Due = 0
-refused_by (Put n) = 0
-refused_by (Ended a) = 0
-refused_by (Refused r) = number r
+unfoldable pub refused_by : Result Report Refusal → ℕ
+refused_by (Ok Due) = 0
+refused_by (Ok (Put n)) = 0
+refused_by (Ok (Ended a)) = 0
+refused_by (Err r) = number r
 
 -- The four calls with such faults. 8: a frame asked while an answer is awaited, an answer or a timeout told while none is.
 abbrev pub start_with : List ℕ → ℕ

@@ -1,9 +1,10 @@
 -- The dock stepped over a history: for each answer or timeout a frame is asked for and then what was heard is told, over the definitions of the calls.
-use Rattle.std.specs.Prelude.{false, List, [], ◌++◌, ◌∷◌, ◌≡◌, ◌*◌, ◌+◌, ℕ, length, take}
+use Rattle.std.specs.Prelude.{false, List, [], ◌++◌, ◌∷◌, ◌≡◌, ◌*◌, ◌+◌, ℕ, length, take, Err, Ok, Result}
 use Rattle.dock.specs.Calls.{ask_of, hear_of}
 use Rattle.dock.specs.declared.Account.{Account}
+use Rattle.dock.specs.declared.Report.TheVariants.{Due, Ended, Put}
+use Rattle.part.specs.declared.refusal.Refusal.{Refusal}
 use Rattle.dock.specs.declared.Report.{Report}
-use Rattle.dock.specs.declared.Report.TheVariants.{Due, Ended, Put, Refused}
 use Rattle.dock_flow.specs.Flow.{Flow, Heard}
 use Rattle.dock_job.specs.Job.{blocks_of}
 use Rattle.dock_job.specs.declared.Dock.{Dock}
@@ -14,15 +15,15 @@ use Rattle.dock_job.specs.declared.Stage.TheVariants.{InBlock, Over, SetUp}
 -- The frames handed out, in order; what was reported to each thing told; and the dock after the last call.
 pub record Course : Type 0 where
   pub sent : List (List ℕ)
-  pub reports : List Report
+  pub reports : List (Result Report Refusal)
   pub dock : Dock
 
 -- The frame that asking put at the start of the room, if it did.
-unfoldable pub handed_out : Report → List ℕ → List (List ℕ)
-handed_out Due room = []
-handed_out (Put n) room = take n room ∷ []
-handed_out (Ended a) room = []
-handed_out (Refused r) room = []
+unfoldable pub handed_out : Result Report Refusal → List ℕ → List (List ℕ)
+handed_out (Ok Due) room = []
+handed_out (Ok (Put n)) room = take n room ∷ []
+handed_out (Ok (Ended a)) room = []
+handed_out (Err r) room = []
 
 -- One frame asked for, and one thing told.
 unfoldable pub stepping : Job → List ℕ → List ℕ → Dock → List Heard → Course
@@ -38,17 +39,17 @@ abbrev pub as_flow : Flow → Dock
 as_flow f = record { stage = f.place; awaited = false; retries = f.spent; frames = length f.sent }
 
 -- What is noted of the reports, of each in turn; and the results among them: "Frames and retries used are numbers in the result".
-unfoldable pub noted : {A : Type 0} → (Report → List A) → List Report → List A
+unfoldable pub noted : {A : Type 0} → ((Result Report Refusal) → List A) → List (Result Report Refusal) → List A
 noted note [] = []
 noted note (r ∷ rs) = note r ++ noted note rs
 
-unfoldable pub result_of : Report → List Account
-result_of Due = []
-result_of (Put n) = []
-result_of (Ended a) = a ∷ []
-result_of (Refused r) = []
+unfoldable pub result_of : Result Report Refusal → List Account
+result_of (Ok Due) = []
+result_of (Ok (Put n)) = []
+result_of (Ok (Ended a)) = a ∷ []
+result_of (Err r) = []
 
-abbrev pub results_in : List Report → List Account
+abbrev pub results_in : List (Result Report Refusal) → List Account
 results_in rs = noted result_of rs
 
 -- The result that the flow has: none while the job goes on, and one where it is over, with as many frames as it sent and as many retries as it spent.

@@ -13,12 +13,11 @@ use Rattle.claims_door.proofs.Back.{together, together-is}
 use Rattle.claims_door.specs.Described.{HeldJob, InBytes, job_bytes, part_bytes}
 use Rattle.dock_job.specs.declared.Job.{Job}
 use Rattle.dock_layout.specs.Job.{job_in}
-use Rattle.numbers.proofs.Laws.{low-number}
-use Rattle.numbers.specs.Numbers.{low_first, number_at}
+use Rattle.numbers.proofs.Laws.{bytes-are, low-number}
+use Rattle.numbers.specs.Numbers.{bytes_at, low_first, number_at}
 use Rattle.part.specs.Part.{Arrays, described}
 use Rattle.part.specs.declared.Part.{Part}
-use Rattle.part_layout.proofs.Laws.{bytes-are}
-use Rattle.part_layout.specs.Layout.{bytes_at, part_in, part_size}
+use Rattle.part_layout.specs.Layout.{part_in, part_size}
 use Rattle.words.proofs.Laws.{and_left, and_right}
 use Rattle.words.specs.Words.{◌from◌to◌}
 

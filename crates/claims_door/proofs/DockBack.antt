@@ -12,10 +12,8 @@ use Rattle.dock_layout.specs.declared.Flat.{Flat}
 use Rattle.dock_job.specs.declared.Cause.{Cause}
 use Rattle.dock_job.specs.declared.Cause.TheVariants.{Mismatch, TimedOut, UnexpectedStatus, Unreadable}
 use Rattle.dock_job.specs.declared.Dock.{Dock}
-use Rattle.dock_job.specs.declared.Ending.TheVariants.{Failed, Finished}
+use Rattle.std.specs.Prelude.{Err, None, Ok, Option, Some}
 use Rattle.dock_job.specs.declared.Failure.{Failure}
-use Rattle.dock_job.specs.declared.Named.{Named}
-use Rattle.dock_job.specs.declared.Named.TheVariants.{It, Unnamed}
 use Rattle.dock_job.specs.declared.Setup.TheVariants.{BaudRate, ResetChip, SiliconSignature}
 use Rattle.dock_job.specs.declared.Stage.{Stage}
 use Rattle.dock_job.specs.declared.Stage.TheVariants.{InBlock, Over, SetUp}
@@ -29,18 +27,18 @@ use Rattle.numbers.specs.Numbers.{bit, low_first, number_at}
 use Rattle.lent.proofs.Laws.{same-is, same_self}
 use Rattle.words.specs.Words.{if◌then◌otherwise◌}
 
-named_back : (b : Named) → named b < 256 ^ 4 → named_in (is_named b) (together 4 (named b)) ≡ b
+named_back : (b : Option ℕ) → named b < 256 ^ 4 → named_in (is_named b) (together 4 (named b)) ≡ b
 unfolding named_in is_named named if◌then◌otherwise◌
-named_back (It n) h = ap It (together-is 4 n h)
-named_back Unnamed h = refl
+named_back (Some n) h = ap Some (together-is 4 n h)
+named_back None h = refl
 
 flat_back : (f : Flat) (awaited retries frames : ℕ) → named f.block < 256 ^ 4 → named f.page < 256 ^ 4 → f.fault.place < 256 ^ 2
     → flat_in (bytes_with f awaited retries frames) ≡ f
 unfolding flat_in fault_at bytes_with low_first number_at together
 flat_back f awaited retries frames h i j =
     let at : Fault = fault f.fault.number (together 2 f.fault.place) in
-    ap (λ (b : Named). flat f.stage b (named_in (is_named f.page) (together 4 (named f.page))) f.cause f.command f.status at) (named_back f.block h)
-    ∙ ap (λ (p : Named). flat f.stage f.block p f.cause f.command f.status at) (named_back f.page i)
+    ap (λ (b : Option ℕ). flat f.stage b (named_in (is_named f.page) (together 4 (named f.page))) f.cause f.command f.status at) (named_back f.block h)
+    ∙ ap (λ (p : Option ℕ). flat f.stage f.block p f.cause f.command f.status at) (named_back f.page i)
     ∙ ap (λ (n : ℕ). flat f.stage f.block f.page f.cause f.command f.status (fault f.fault.number n)) (together-is 2 f.fault.place j)
 
 cause-back : (c : Cause) → cause_in (cause_number c) ≡ c
@@ -59,7 +57,7 @@ judgement-back UnfitLength = refl
 judgement-back WrongFirst = refl
 
 abbrev failed : Cause → Judgement → Failure → Stage
-failed c j f = Over (Failed (record { cause = c; command = f.command; page = f.page; status = f.status; block = f.block; fault = j }))
+failed c j f = Over (Err (record { cause = c; command = f.command; page = f.page; status = f.status; block = f.block; fault = j }))
 
 stage-back : (s : Stage) → stage_in (flat_of s) ≡ s
 unfolding stage_in flat_of flat_work flat_ending ending_in setup_in work_in named if◌then◌otherwise◌
@@ -72,8 +70,8 @@ stage-back (InBlock k Program) = refl
 stage-back (InBlock k (ProgramPage p)) = refl
 stage-back (InBlock k VerifyBlock) = refl
 stage-back (InBlock k (VerifyPage p)) = refl
-stage-back (Over Finished) = refl
-stage-back (Over (Failed f)) =
+stage-back (Over (Ok _)) = refl
+stage-back (Over (Err f)) =
     ap (λ (c : Cause). failed c (judgement_in (fault_of f.fault).number (fault_of f.fault).place) f) (cause-back f.cause)
     ∙ ap (λ (j : Judgement). failed f.cause j f) (judgement-back f.fault)
 

@@ -11,19 +11,18 @@ use Rattle.claims_dock.specs.Counted.{restarts_over}
 use Rattle.claims_dock.specs.Stepping.{as_flow, noted, stepping}
 use Rattle.claims_door.specs.Ended.{end_at, end_told, ended_as}
 use Rattle.dock.specs.Calls.{begin_of, standing}
+use Rattle.dock_job.specs.declared.Failure.{Failure}
 use Rattle.dock.specs.declared.Report.TheVariants.{Ended}
+use Rattle.std.specs.Prelude.{Err, Ok, Result}
 use Rattle.dock_door.specs.Calls.{ending_number, figures_of}
 use Rattle.dock_door.specs.declared.Figures.{Figures}
 use Rattle.dock_flow.specs.Flow.{Heard, flow}
 use Rattle.dock_job.specs.Refusals.{call_verdict}
 use Rattle.dock_job.specs.declared.Dock.{Dock}
-use Rattle.dock_job.specs.declared.Ending.{Ending}
-use Rattle.dock_job.specs.declared.Ending.TheVariants.{Failed, Finished}
 use Rattle.dock_job.specs.declared.Job.{Job}
 use Rattle.dock_job.specs.declared.Stage.{Stage}
 use Rattle.dock_job.specs.declared.Stage.TheVariants.{InBlock, Over, SetUp}
 use Rattle.dock_job.specs.declared.refusals.Call.TheVariants.{Begins}
-use Rattle.part.specs.declared.refusal.Verdict.TheVariants.{Accepted}
 use Rattle.words.specs.Words.{if◌then◌otherwise◌}
 
 ends-quiet : Quiet Figures end_told
@@ -31,10 +30,10 @@ unfolding end_told figures_of if◌then◌otherwise◌
 ends-quiet = record { going = refl; refused = λ r. refl }
 
 -- An ending has a number, which is not 0, and it is the one told.
-told-as : (e : Ending) (frames retries : ℕ) → end_told (Ended (record { ending = e; frames = frames; retries = retries })) ≡ end_at (Over e) frames retries
+told-as : (e : Result Unit Failure) (frames retries : ℕ) → end_told (Ok (Ended (record { ending = e; frames = frames; retries = retries }))) ≡ end_at (Over e) frames retries
 unfolding end_told figures_of end_at ending_number ended_as if◌then◌otherwise◌
-told-as Finished frames retries = refl
-told-as (Failed f) frames retries = refl
+told-as (Ok _) frames retries = refl
+told-as (Err f) frames retries = refl
 
 end_is : (st : Stage) (d : Dock) → end_told (standing st d) ≡ end_at st d.frames d.retries
 unfolding end_told figures_of standing end_at if◌then◌otherwise◌
@@ -42,7 +41,7 @@ end_is (SetUp s) d = refl
 end_is (InBlock k w) d = refl
 end_is (Over e) d = told-as e d.frames d.retries
 
-pub end-told : (j : Job) (image room : List ℕ) (hs : List Heard) → call_verdict j (length image) Begins ≡ Accepted → 260 ≤ length room
+pub end-told : (j : Job) (image room : List ℕ) (hs : List Heard) → call_verdict j (length image) Begins ≡ Ok tt → 260 ≤ length room
     → noted end_told (stepping j image room (begin_of j image).dock hs).reports
     ≡ end_at (flow j image hs).place (length (flow j image hs).sent) (restarts_over j hs)
 end-told j image room hs v r =

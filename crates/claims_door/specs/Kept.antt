@@ -1,7 +1,7 @@
 -- What a refused call of the door leaves, and that an answer is a reply.
-use Rattle.std.specs.Prelude.{Bool, false, true, List, ◌≡◌, ℕ}
-use Rattle.chip.specs.declared.Answer.{Answer}
-use Rattle.chip.specs.declared.Answer.TheVariants.{Refused, Replied}
+use Rattle.std.specs.Prelude.{Bool, false, true, List, ◌≡◌, ℕ, Err, Ok, Result}
+use Rattle.part.specs.declared.refusal.Refusal.{Refusal}
+use Rattle.chip_reply.specs.declared.Sent.{Sent}
 use Rattle.chip_door.specs.Calls.{StepTold}
 use Rattle.chip_core.specs.Effect.{Memory}
 
@@ -12,6 +12,6 @@ pub record StepKept (t : StepTold) (told state : List ℕ) (m : Memory) (room : 
   pub memory_stays : t.memory ≡ m
   pub room_stays : t.room ≡ room
 
-unfoldable pub replies : Answer → Bool
-replies (Replied bytes frames) = true
-replies (Refused r) = false
+unfoldable pub replies : Result Sent Refusal → Bool
+replies (Ok sent) = true
+replies (Err r) = false

@@ -1,14 +1,12 @@
 -- A chip's state as it lies in its 294 bytes, place by place, as include/door.h has it: reading and writing back hold for any order of the fields, and this is the order.
 -- And which bytes are no state by the last one (document 02, §2). A dock's in its 26 bytes, and which are no state by their last three (document 02, §4).
-use Rattle.std.specs.Prelude.{false, true, List, [], ◌++◌, ◌∷◌, ◌≡◌, ℕ, get_or, replicate, set}
+use Rattle.std.specs.Prelude.{false, true, List, [], ◌++◌, ◌∷◌, ◌≡◌, ℕ, get_or, replicate, set, Err, Some}
 use Rattle.chip_core.specs.declared.Phase.{Phase}
 use Rattle.chip_core.specs.declared.Phase.TheVariants.{Awaiting, ModeByte, Ready, Setup}
 use Rattle.chip_layout.specs.Layout.{chip_bytes, is_state}
 use Rattle.chip_state.specs.declared.Chip.{Chip}
 use Rattle.dock_job.specs.declared.Cause.TheVariants.{Unreadable}
 use Rattle.dock_job.specs.declared.Dock.{Dock}
-use Rattle.dock_job.specs.declared.Ending.TheVariants.{Failed}
-use Rattle.dock_job.specs.declared.Named.TheVariants.{It}
 use Rattle.dock_job.specs.declared.Setup.TheVariants.{BaudRate}
 use Rattle.dock_job.specs.declared.Stage.TheVariants.{Over, SetUp}
 use Rattle.dock_layout.specs.Layout.{dock_bytes, is_dock}
@@ -56,7 +54,7 @@ pub record LastByte : Type 0 where
 abbrev pub failed_dock : Dock
 failed_dock =
     record {
-      stage = Over (Failed (record { cause = Unreadable; command = 0x40; page = It 3; status = 0x00; block = It 0x0102; fault = WrongFooter 259 }));
+      stage = Over (Err (record { cause = Unreadable; command = 0x40; page = Some 3; status = 0x00; block = Some 0x0102; fault = WrongFooter 259 }));
       awaited = false;
       retries = 5;
       frames = 0x0A0B;

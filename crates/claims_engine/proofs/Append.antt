@@ -21,7 +21,8 @@ use Rattle.claims_fed.proofs.Frames.{bytes-proper}
 use Rattle.claims_good.proofs.Stays.{run-stands}
 use Rattle.claims_good.specs.Good.{Utterance, utterances}
 use Rattle.engine.specs.Engine.{EngineLeft, engine_of}
-use Rattle.engine.specs.declared.EngineAnswer.TheVariants as EngineAnswer
+use Rattle.chip_reply.specs.Reply.{sent_as}
+use Rattle.std.specs.Prelude.{Ok}
 use Rattle.frame.proofs.Laws.Sum.{below-append}
 use Rattle.frame.specs.Collector.{heard}
 use Rattle.part.specs.declared.Part.{Part}
@@ -29,7 +30,7 @@ use Rattle.part.specs.declared.Part.{Part}
 -- What the engine told, by the utterances to the bytes fed.
 record Told (e : EngineLeft) (us : List Utterance) : Type 0 where
   said : replies_in e ≡ said_by us
-  answer : e.answer ≡ EngineAnswer.Replied (length (said_by us)) (frames_by us)
+  answer : e.answer ≡ Ok (sent_as (length (said_by us)) (frames_by us))
   bytes : reply_bytes e.answer ≡ length (said_by us)
   frames : reply_frames e.answer ≡ frames_by us
   faults : e.faults ≡ length (faults_by us)

@@ -1,5 +1,5 @@
 -- Worked stretches for the plain engine, on the part of document 01's examples (document 02, §7): what each gives.
-use Rattle.std.specs.Prelude.{List, [], ◌++◌, ◌∷◌, ℕ, drop, replicate, set, take}
+use Rattle.std.specs.Prelude.{List, [], ◌++◌, ◌∷◌, ℕ, drop, replicate, set, take, Err, Ok, Result}
 use Rattle.chip.specs.Step.{fresh_chip}
 use Rattle.chip_core.specs.Effect.{Memory, memory}
 use Rattle.chip_state.specs.declared.Chip.{Chip}
@@ -7,18 +7,20 @@ use Rattle.claims_engine.specs.Claims.{replies_in}
 use Rattle.claims_noise.specs.Examples.{erase_frame, reset}
 use Rattle.claims_stars.specs.Table.{Example, acknowledged, example, fresh_memory, fresh_sums, ready_chip, the_part}
 use Rattle.engine.specs.Engine.{EngineLeft, engine_of}
-use Rattle.engine.specs.declared.EngineAnswer.{EngineAnswer}
-use Rattle.engine.specs.declared.EngineAnswer.TheVariants.{NoRoom, Refused, Replied}
+use Rattle.engine.specs.declared.EngineRefusal.TheVariants as EngineRefusal
+use Rattle.engine.specs.declared.EngineRefusal.TheVariants.{NoRoom}
+use Rattle.engine.specs.declared.EngineRefusal.{EngineRefusal}
+use Rattle.chip_reply.specs.declared.Sent.{Sent}
 use Rattle.frame.specs.Collector.{heard}
 use Rattle.frame.specs.Judgement.{fault_of}
 use Rattle.part.specs.Refusal.{number}
 use Rattle.part.specs.declared.Part.{Part}
 
 -- The refusal's number, 0 for none; then bytes and frames told.
-abbrev pub answers_with : EngineAnswer → List ℕ
-answers_with (Replied n f) = 0 ∷ n ∷ f ∷ []
-answers_with (Refused r) = number r ∷ 0 ∷ 0 ∷ []
-answers_with NoRoom = 12 ∷ 0 ∷ 0 ∷ []
+abbrev pub answers_with : Result Sent EngineRefusal → List ℕ
+answers_with (Ok sent) = 0 ∷ sent.bytes ∷ sent.frames ∷ []
+answers_with (Err (EngineRefusal.Refused r)) = number r ∷ 0 ∷ 0 ∷ []
+answers_with (Err NoRoom) = 12 ∷ 0 ∷ 0 ∷ []
 
 -- The number of faults, and number and place of the first.
 abbrev pub blamed : EngineLeft → List ℕ

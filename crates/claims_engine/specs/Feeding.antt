@@ -1,18 +1,18 @@
 -- What feeding bytes one by one says in all: document 02, §7, "equal to feeding the bytes one by one". The reply bytes are `heard_back` (chip, specs/Run); here are
 -- the number of reply frames, and the faults of §4.
-use Rattle.std.specs.Prelude.{List, [], ◌++◌, ◌∷◌, ◌+◌, ℕ}
+use Rattle.std.specs.Prelude.{List, [], ◌++◌, ◌∷◌, ◌+◌, ℕ, Err, Ok, Result}
 use Rattle.chip.specs.Run.{Spoken}
-use Rattle.chip.specs.declared.Answer.{Answer}
-use Rattle.chip.specs.declared.Answer.TheVariants.{Refused, Replied}
+use Rattle.part.specs.declared.refusal.Refusal.{Refusal}
+use Rattle.chip_reply.specs.declared.Sent.{Sent}
 use Rattle.frame.specs.Judgement.{is_good}
 use Rattle.frame.specs.declared.judgement.Judgement.{Judgement}
 use Rattle.frame.specs.declared.judgement.Judgement.TheVariants.{Good}
 use Rattle.words.specs.Words.{if◌then◌otherwise◌}
 
 -- The reply frames of an answer, and of all answers together.
-abbrev pub frame_count : Answer → ℕ
-frame_count (Replied n f) = f
-frame_count (Refused r) = 0
+abbrev pub frame_count : Result Sent Refusal → ℕ
+frame_count (Ok sent) = sent.frames
+frame_count (Err r) = 0
 
 unfoldable pub frames_back : List Spoken → ℕ
 frames_back [] = 0

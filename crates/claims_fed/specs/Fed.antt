@@ -1,9 +1,9 @@
 -- What a frame does that is fed to the chip byte by byte, and what one does that is not good: demand 2's judgement, as noise, recordings and a whole cable need it.
-use Rattle.std.specs.Prelude.{List, [], ◌++◌, ◌∷◌, map, ◌≡◌, ◌-◌, ℕ, eqb, length, replicate}
+use Rattle.std.specs.Prelude.{List, [], ◌++◌, ◌∷◌, map, ◌≡◌, ◌-◌, ℕ, eqb, length, replicate, Ok}
 use Rattle.chip.specs.Run.{run, spoken_in}
 use Rattle.chip.specs.Step.{Outcome, reaction}
 use Rattle.chip_frame.specs.Does.{frame_does}
-use Rattle.chip.specs.declared.Answer.TheVariants.{Replied}
+use Rattle.chip_reply.specs.Reply.{sent_as}
 use Rattle.chip.specs.declared.Event.TheVariants.{Byte}
 use Rattle.chip_core.specs.Hearing.{hearing}
 use Rattle.chip_core.specs.Effect.{Effect, Memory}
@@ -31,7 +31,7 @@ does_in p f k m = does k.phase p k m f
 
 -- A byte that is only heard is answered by nothing.
 abbrev pub silence : Utterance
-silence = record { answer = Replied 0 0; fault = Good; bytes = [] }
+silence = record { answer = Ok (sent_as 0 0); fault = Good; bytes = [] }
 
 -- A frame fed is the frame done: nothing is said before its last byte, and to that what the frame's work says; that work is done, and nothing is collected.
 pub record FedIsDone (p : Part) (u : Outcome) (bs f : List ℕ) : Type 0 where
@@ -44,7 +44,7 @@ pub record FedIsDone (p : Part) (u : Outcome) (bs f : List ℕ) : Type 0 where
 
 -- One reply frame is said to a frame of this judgement; and to one with no fault.
 abbrev pub says_to : Judgement → List ℕ → Utterance
-says_to j ds = record { answer = Replied (length (data_frame ds Last)) 1; fault = j; bytes = data_frame ds Last }
+says_to j ds = record { answer = Ok (sent_as (length (data_frame ds Last)) 1); fault = j; bytes = data_frame ds Last }
 
 abbrev pub says_frame : List ℕ → Utterance
 says_frame ds = says_to Good ds

@@ -6,9 +6,9 @@ use Prim.Native.Nat.{◌+◌, ℕ}
 use native.Mathlib.Omega.{arith}
 use borrow.Author.Tests.{eqb-true}
 use Rattle.claims_flow.specs.Blank.{BeforePage, BeforeWriting, BeginsBefore, PagesInOrder, SaysYes, WritesWhereBlank, first_page, later_page, was_blank, was_erased}
-use Rattle.dock_answer.specs.Answer.{read_answer}
-use Rattle.dock_answer.specs.declared.Decoded.{Decoded}
-use Rattle.dock_answer.specs.declared.Decoded.TheVariants.{Garbled, Said}
+use Rattle.dock_answer.specs.Answer.{read_answer, said_as}
+use Rattle.dock_answer.specs.declared.Said.{Said}
+use Rattle.std.specs.Prelude.{None, Option, Some}
 use Rattle.dock_flow.specs.Flow.{Heard, after_answer, after_heard, after_setup, after_status, after_work, answered, block_from, in_block, next, retried, setup_from, silence}
 use Rattle.dock_flow.specs.Frames.{query_at}
 use Rattle.dock_flow.specs.declared.Turned.{Turned}
@@ -91,12 +91,12 @@ leads-to j used st (answered bs) = go (read_answer j.part j.supply (query_at j s
     at : Turned → Type 0
     at t = Leads j st (answered bs) t.stage
 
-    go : (d : Decoded) → (read_answer j.part j.supply (query_at j st).form bs).decoded ≡ d → Leads j st (answered bs) (after_answer j used st d f).stage
-    go Garbled e = elsewhere refl
-    go (Said s m) e =
+    go : (d : Option Said) → (read_answer j.part j.supply (query_at j st).form bs).decoded ≡ d → Leads j st (answered bs) (after_answer j used st d f).stage
+    go None e = elsewhere refl
+    go (Some said) e =
         if-all at _
         (λ t. if-all at _
-        (λ u. goes_on (record { bytes = bs; matches = m; came = refl; says = e ∙ ap (λ (n : ℕ). Said n m) (eqb-true s 0x06 t) }) refl) (λ u. elsewhere refl))
+        (λ u. goes_on (record { bytes = bs; matches = said.matches; came = refl; says = e ∙ ap (λ (n : ℕ). (Some (said_as n said.matches))) (eqb-true said.status 0x06 t) }) refl) (λ u. elsewhere refl))
         (λ t. if-all at _ (λ u. elsewhere (restarts Erase refl st))
         (λ u. if-all at _ (λ x. if-all at _ (λ y. elsewhere (restarts Blank refl st)) (λ y. elsewhere refl)) (λ x. elsewhere refl)))
 

@@ -15,14 +15,13 @@ use Rattle.claims_flow.specs.Undisturbed.{Undisturbed, UndisturbedDock, all_answ
 use Rattle.claims_flow.specs.Undisturbed.{block_frames, command_frame, erase_count, erase_frames, four_pages, from_to, frames_from, page_answers}
 use Rattle.claims_frame.proofs.RoundTrip.{ReadBack, read_back}
 use Rattle.commands.specs.Commands.{com_of, information_of, payload_of}
-use Rattle.dock_answer.specs.Answer.{deciding, judge_answer, judge_frames, matching, rate_matches, read_answer, shape, signature_matches, statuses}
-use Rattle.dock_answer.specs.declared.Decoded.TheVariants.{Said}
+use Rattle.dock_answer.specs.Answer.{deciding, judge_answer, judge_frames, matching, rate_matches, read_answer, shape, signature_matches, statuses, said_as}
+use Rattle.std.specs.Prelude.{Ok, Some}
 use Rattle.dock_answer.specs.declared.Form.{Form}
 use Rattle.dock_answer.specs.declared.Form.TheVariants.{OfLastPage, OfPage, OneStatus, WithRate, WithSignature}
 use Rattle.dock_flow.specs.Flow.{Flow, Heard, after_answer, after_heard, after_setup, after_status, after_work, answered, block_from, exchanges, flow, frames_in, in_block, leads, next, place_after, says_not_blank, setup_from, spent_in}
 use Rattle.dock_flow.specs.Frames.{first_of_block, frame_at, last_of_block, last_page, page_footer, query_at, query_with, stored_form, work_frame}
 use Rattle.dock_job.specs.Job.{blocks_of, is_over, setup}
-use Rattle.dock_job.specs.declared.Ending.TheVariants.{Finished}
 use Rattle.dock_job.specs.declared.Job.{Job}
 use Rattle.dock_job.specs.declared.Setup.TheVariants.{BaudRate, ResetChip, SiliconSignature}
 use Rattle.dock_job.specs.declared.Stage.{Stage}
@@ -48,7 +47,7 @@ use Rattle.words.specs.Words.{◌and◌, ◌or◌, if◌then◌otherwise◌}
 record Runs (j : Job) (image : List ℕ) (st : Stage) (hs : List Heard) (fs : List (List ℕ)) : Type 0 where
   sent : frames_in (exchanges j image 0 st hs) ≡ fs
   spent : spent_in (exchanges j image 0 st hs) ≡ 0
-  place : place_after j 0 st hs ≡ Over Finished
+  place : place_after j 0 st hs ≡ Over (Ok tt)
 
 -- One exchange before it.
 step : (j : Job) (image : List ℕ) (st after : Stage) (h : Heard) (hs : List Heard) (fs : List (List ℕ)) → is_over st ≡ false → after_heard j 0 st h ≡ leads after 0
@@ -62,14 +61,14 @@ step j image st after h hs fs o e r =
     }
 
 -- An answer that is read as 06h and matches leads to what follows.
-well : (j : Job) (st : Stage) (bs : List ℕ) → (read_answer j.part j.supply (query_at j st).form bs).decoded ≡ Said 0x06 true
+well : (j : Job) (st : Stage) (bs : List ℕ) → (read_answer j.part j.supply (query_at j st).form bs).decoded ≡ Some (said_as 0x06 true)
     → after_heard j 0 st (answered bs) ≡ leads (next j st) 0
 unfolding after_heard after_answer after_status if◌then◌otherwise◌
 well j st bs e = rw e
 
 -- The good answers are read so.
 rate-read : (p : Part) (supply : ℕ)
-    → (read_answer p supply WithRate (data_frame (0x06 ∷ p.clock ∷ (if leb 27 supply then 0x00 otherwise 0x01) ∷ []) Last)).decoded ≡ Said 0x06 true
+    → (read_answer p supply WithRate (data_frame (0x06 ∷ p.clock ∷ (if leb 27 supply then 0x00 otherwise 0x01) ∷ []) Last)).decoded ≡ Some (said_as 0x06 true)
 unfolding read_answer judge_answer judge_frames shape statuses deciding matching rate_matches mode_of framed ◌and◌ if◌then◌otherwise◌
 rate-read p supply =
     let m : ℕ = if leb 27 supply then 0x00 otherwise 0x01 in
@@ -101,7 +100,7 @@ module _ (sig : List ℕ) (l : length sig ≡ 22) where
       let first = read_back (0x06 ∷ []) (data_frame sig Last) (omega arith) (omega arith) in
       rw (first.read false refl, first.follows, ap (λ (n : ℕ). judge_reply n true (data_frame sig Last)) (sym l) ∙ second.read true refl)
 
-signature-read : (p : Part) (supply : ℕ) → Arrays p → (read_answer p supply WithSignature (data_frame (0x06 ∷ []) Last ++ data_frame (signature p) Last)).decoded ≡ Said 0x06 true
+signature-read : (p : Part) (supply : ℕ) → Arrays p → (read_answer p supply WithSignature (data_frame (0x06 ∷ []) Last ++ data_frame (signature p) Last)).decoded ≡ Some (said_as 0x06 true)
 unfolding read_answer judge_answer shape statuses deciding matching signature_matches if◌then◌otherwise◌
 signature-read p supply a =
     let l = signature-long p a.device_long a.name_long a.version_long in
@@ -109,23 +108,23 @@ signature-read p supply a =
     rw (says-06 sig l, two-frames sig l, carried-signature sig l, same_self sig)
 
 -- The other answers are the same in every job, and are read by computation.
-one-read : (p : Part) (supply : ℕ) → (read_answer p supply OneStatus (data_frame (0x06 ∷ []) Last)).decoded ≡ Said 0x06 true
+one-read : (p : Part) (supply : ℕ) → (read_answer p supply OneStatus (data_frame (0x06 ∷ []) Last)).decoded ≡ Some (said_as 0x06 true)
 unfolding read_answer judge_answer judge_frames shape statuses deciding matching framed judge_reply unfit_reply counted is_frame judge_of summed less less_all sum_of ◌and◌
     ◌or◌ if◌then◌otherwise◌
 one-read p supply = refl
 
-not-blank-read : (p : Part) (supply : ℕ) → (read_answer p supply OneStatus (data_frame (0x1B ∷ []) Last)).decoded ≡ Said 0x1B true
+not-blank-read : (p : Part) (supply : ℕ) → (read_answer p supply OneStatus (data_frame (0x1B ∷ []) Last)).decoded ≡ Some (said_as 0x1B true)
 unfolding read_answer judge_answer judge_frames shape statuses deciding matching framed judge_reply unfit_reply counted is_frame judge_of summed less less_all sum_of ◌and◌
     ◌or◌ if◌then◌otherwise◌
 not-blank-read p supply = refl
 
-page-read : (p : Part) (supply : ℕ) → (read_answer p supply OfPage (data_frame (0x06 ∷ 0x06 ∷ []) Last)).decoded ≡ Said 0x06 true
+page-read : (p : Part) (supply : ℕ) → (read_answer p supply OfPage (data_frame (0x06 ∷ 0x06 ∷ []) Last)).decoded ≡ Some (said_as 0x06 true)
 unfolding read_answer judge_answer judge_frames shape statuses deciding matching framed judge_reply unfit_reply counted is_frame judge_of summed less less_all sum_of ◌and◌
     ◌or◌ if◌then◌otherwise◌
 page-read p supply = refl
 
 last-page-read : (p : Part) (supply : ℕ)
-    → (read_answer p supply OfLastPage (data_frame (0x06 ∷ 0x06 ∷ []) Last ++ data_frame (0x06 ∷ []) Last)).decoded ≡ Said 0x06 true
+    → (read_answer p supply OfLastPage (data_frame (0x06 ∷ 0x06 ∷ []) Last ++ data_frame (0x06 ∷ []) Last)).decoded ≡ Some (said_as 0x06 true)
 unfolding read_answer judge_answer judge_frames shape statuses deciding matching framed judge_reply unfit_reply counted is_frame judge_of summed less less_all sum_of ◌and◌
     ◌or◌ if◌then◌otherwise◌
 last-page-read p supply = refl
@@ -133,7 +132,7 @@ last-page-read p supply = refl
 module _ (j : Job) (image : List ℕ) where
   -- The frame of a stage, answered well.
   said : (st after : Stage) (f : Form) (bs : List ℕ) (hs : List Heard) (fs : List (List ℕ)) → is_over st ≡ false → (query_at j st).form ≡ f
-      → (read_answer j.part j.supply f bs).decoded ≡ Said 0x06 true → next j st ≡ after → Runs j image after hs fs
+      → (read_answer j.part j.supply f bs).decoded ≡ Some (said_as 0x06 true) → next j st ≡ after → Runs j image after hs fs
       → Runs j image st (answered bs ∷ hs) (frame_at j image st ∷ fs)
   said st after f bs hs fs o q e n r = step j image st after (answered bs) hs fs o (well j st bs (rw q e) ∙ ap (λ (x : Stage). leads x 0) n) r
 
@@ -227,5 +226,5 @@ undisturbed-dock j image room bs v r a e =
     let c = dock-is-flow j image room (all_answers j bs) v r in
     record {
       frames = c.same_frames ∙ ap (λ (x : Flow). x.sent) f;
-      result = c.same_results ∙ ap (λ (x : Flow). results_of x) f ∙ ap (λ (n : ℕ). result_at (Over Finished) n 0) (all-long j image bs);
+      result = c.same_results ∙ ap (λ (x : Flow). results_of x) f ∙ ap (λ (n : ℕ). result_at (Over (Ok tt)) n 0) (all-long j image bs);
     }

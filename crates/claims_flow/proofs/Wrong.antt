@@ -37,7 +37,7 @@ use Rattle.frame.specs.Wire.{judge_reply, unfit_reply}
 use Rattle.part.specs.Part.{block_of, block_size, described, ends_block, lies_in, range_of, starts_block, stretch, whole_blocks}
 use Rattle.part.specs.Rate.{accepts_rate}
 use Rattle.part.specs.Refusal.{first_of}
-use Rattle.part.specs.declared.refusal.Verdict.TheVariants.{Accepted}
+use Rattle.std.specs.Prelude.{Ok}
 use Rattle.words.specs.Words.{◌and◌, ◌from◌to◌, ◌or◌, if◌then◌otherwise◌}
 
 -- The proved dock is the flow, in every room of 260 bytes; a dock that differs on an input is not.
@@ -122,7 +122,7 @@ unfolding com_of deciding judge_answer judge_frames matching read_answer shape s
     ◌or◌ if◌then◌otherwise◌
 one-ending = record { first = refl; second = refl }
 
-may-begin : call_verdict two_block_job (length two_block_image) Begins ≡ Accepted
+may-begin : call_verdict two_block_job (length two_block_image) Begins ≡ Ok tt
 unfolding area_in blocks_in bad_job bad_state call_verdict is_bad out_of_turn short_room block_of block_size described ends_block lies_in range_of starts_block stretch
     whole_blocks accepts_rate first_of ◌and◌ ◌from◌to◌ ◌or◌ if◌then◌otherwise◌
 may-begin = refl

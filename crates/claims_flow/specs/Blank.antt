@@ -1,8 +1,7 @@
 -- The dock writes only where the chip has just said that all is FFh: document 01, "The dock's flow", "32h with 00h; 22h if that said 1Bh; 40h and four pages", of every
 -- history of answers, retries among them. So it never writes over bytes, where a page could come to be mixed (document 02, §6).
-use Rattle.std.specs.Prelude.{Bool, List, ◌≢◌, ◌≡◌, ◌+◌, ℕ}
-use Rattle.dock_answer.specs.Answer.{read_answer}
-use Rattle.dock_answer.specs.declared.Decoded.TheVariants.{Said}
+use Rattle.std.specs.Prelude.{Bool, List, ◌≢◌, ◌≡◌, ◌+◌, ℕ, Some}
+use Rattle.dock_answer.specs.Answer.{read_answer, said_as}
 use Rattle.dock_flow.specs.Flow.{Heard, after_heard, answered, first_stage}
 use Rattle.dock_flow.specs.Frames.{query_at}
 use Rattle.dock_job.specs.declared.Job.{Job}
@@ -15,7 +14,7 @@ pub record SaysYes (j : Job) (st : Stage) (h : Heard) : Type 0 where
   pub bytes : List ℕ
   pub matches : Bool
   pub came : h ≡ answered bytes
-  pub says : (read_answer j.part j.supply (query_at j st).form bytes).decoded ≡ Said 0x06 matches
+  pub says : (read_answer j.part j.supply (query_at j st).form bytes).decoded ≡ Some (said_as 0x06 matches)
 
 -- 40h for block k comes directly after 32h for it that said 06h, which is that all of it is FFh, or after 22h for it that said 06h.
 pub data BeforeWriting (j : Job) (k : ℕ) (st : Stage) (h : Heard) : Type 0 where

@@ -1,13 +1,12 @@
 -- The undisturbed flow of a job, written out: document 01, "The dock's flow". "Frames: 9Ah .., 00h, C0h .. Then per block, ascending: 32h with 00h; 22h if
 -- that said 1Bh; 40h and four pages; 13h and four pages." Of each block a boolean says whether it was blank.
-use Rattle.std.specs.Prelude.{Bool, false, true, List, [], ◌++◌, ◌∷◌, ◌≡◌, ◌*◌, ◌+◌, ◌≤◌, ℕ, leb, drop, length, take}
+use Rattle.std.specs.Prelude.{Bool, false, true, List, [], ◌++◌, ◌∷◌, ◌≡◌, ◌*◌, ◌+◌, ◌≤◌, ℕ, leb, drop, length, take, Ok}
 use Rattle.claims_dock.specs.Examples.{both, rate_said, say, signed_as, third}
 use Rattle.claims_dock.specs.Stepping.{Course, results_in, stepping}
 use Rattle.dock.specs.Calls.{begin_of}
 use Rattle.dock_flow.specs.Flow.{Heard, flow}
 use Rattle.dock_job.specs.Job.{blocks_of}
 use Rattle.dock_job.specs.Refusals.{call_verdict}
-use Rattle.dock_job.specs.declared.Ending.TheVariants.{Finished}
 use Rattle.dock_job.specs.declared.Job.{Job}
 use Rattle.dock_job.specs.declared.Stage.TheVariants.{Over}
 use Rattle.dock_job.specs.declared.refusals.Call.TheVariants.{Begins}
@@ -18,7 +17,6 @@ use Rattle.frame.specs.declared.Header.TheVariants.{Command}
 use Rattle.numbers.specs.Numbers.{low_first}
 use Rattle.part.specs.Part.{Arrays}
 use Rattle.part.specs.Signature.{signature}
-use Rattle.part.specs.declared.refusal.Verdict.TheVariants.{Accepted}
 use Rattle.words.specs.Words.{if◌then◌otherwise◌}
 
 -- A command's frame by COM and information.
@@ -90,7 +88,7 @@ all_answers j blank = setup_answers j ++ answers_of blank
 abbrev pub Undisturbed : Type 0
 Undisturbed =
     (j : Job) (image : List ℕ) (blank : List Bool) → Arrays j.part → length blank ≡ blocks_of j
-    → flow j image (all_answers j blank) ≡ record { sent = all_frames j image blank; spent = 0; place = Over Finished }
+    → flow j image (all_answers j blank) ≡ record { sent = all_frames j image blank; spent = 0; place = Over (Ok tt) }
 
 -- How many frames these are: three, and for each block eleven, and one more where it was not blank.
 unfoldable pub erase_count : Bool → ℕ
@@ -104,9 +102,9 @@ block_count (b ∷ bs) = 11 + erase_count b + block_count bs
 -- So of the dock, stepped in any room of 260 bytes: it hands out these frames, and reports one result, finished with that many frames and no retry.
 pub record HandsOut (c : Course) (j : Job) (image : List ℕ) (blank : List Bool) : Type 0 where
   pub frames : c.sent ≡ all_frames j image blank
-  pub result : results_in c.reports ≡ record { ending = Finished; frames = 3 + block_count blank; retries = 0 } ∷ []
+  pub result : results_in c.reports ≡ record { ending = Ok tt; frames = 3 + block_count blank; retries = 0 } ∷ []
 
 abbrev pub UndisturbedDock : Type 0
 UndisturbedDock =
-    (j : Job) (image room : List ℕ) (blank : List Bool) → call_verdict j (length image) Begins ≡ Accepted → 260 ≤ length room → Arrays j.part
+    (j : Job) (image room : List ℕ) (blank : List Bool) → call_verdict j (length image) Begins ≡ Ok tt → 260 ≤ length room → Arrays j.part
     → length blank ≡ blocks_of j → HandsOut (stepping j image room (begin_of j image).dock (all_answers j blank)) j image blank

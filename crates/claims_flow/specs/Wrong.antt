@@ -1,6 +1,6 @@
 -- Wrong docks: document 01, "How tightly things are promised". "Demand 2 shuts out .. a dock that reports invented frame or retry counts." The statements speak of
 -- any dock M, that is, of what one hands out and reports over a history.
-use Rattle.std.specs.Prelude.{Bool, List, [], ◌++◌, ◌∷◌, map, ◌≢◌, ◌≡◌, ◌+◌, ◌<◌, ℕ, length}
+use Rattle.std.specs.Prelude.{Bool, List, [], ◌++◌, ◌∷◌, map, ◌≢◌, ◌≡◌, ◌+◌, ◌<◌, ℕ, length, Err, None, Ok}
 use Rattle.claims_dock.specs.Counted.{restarts_over}
 use Rattle.claims_dock.specs.Examples.{say, two_block_image, two_block_job}
 use Rattle.claims_dock.specs.Stepping.{most_frames, results_in, results_of, stepping}
@@ -11,13 +11,10 @@ use Rattle.dock_flow.specs.Flow.{Heard, flow, silence}
 use Rattle.dock_job.specs.Job.{blocks_of}
 use Rattle.dock_job.specs.Refusals.{call_verdict}
 use Rattle.dock_job.specs.declared.Cause.TheVariants.{TimedOut}
-use Rattle.dock_job.specs.declared.Ending.TheVariants.{Failed}
 use Rattle.dock_job.specs.declared.Job.{Job}
-use Rattle.dock_job.specs.declared.Named.TheVariants.{Unnamed}
 use Rattle.dock_job.specs.declared.refusals.Call.TheVariants.{Begins}
 use Rattle.frame.specs.declared.judgement.Judgement.TheVariants.{Good}
 use Rattle.part.specs.Part.{Arrays}
-use Rattle.part.specs.declared.refusal.Verdict.TheVariants.{Accepted}
 
 -- The frames that a dock hands out, in order, and the results that it reports.
 pub record Seen : Type 0 where
@@ -40,11 +37,11 @@ by_calls room j image hs = let c = stepping j image room (begin_of j image).dock
 
 -- A dock meets demand 2 where it is the flow, for every job that may begin.
 abbrev pub IsFlow : AnyDock → Type 0
-IsFlow M = (j : Job) (image : List ℕ) (hs : List Heard) → call_verdict j (length image) Begins ≡ Accepted → M j image hs ≡ by_flow j image hs
+IsFlow M = (j : Job) (image : List ℕ) (hs : List Heard) → call_verdict j (length image) Begins ≡ Ok tt → M j image hs ≡ by_flow j image hs
 
 -- An input on which it differs from the flow.
 pub record DiffersOn (M : AnyDock) (j : Job) (image : List ℕ) (hs : List Heard) : Type 0 where
-  pub begins : call_verdict j (length image) Begins ≡ Accepted
+  pub begins : call_verdict j (length image) Begins ≡ Ok tt
   pub apart : M j image hs ≢ by_flow j image hs
 
 -- Invented counts: of any result that it reports, the frames are not as many as it handed out, or the retries not the restarts in what it heard.
@@ -55,7 +52,7 @@ pub data Invents (M : AnyDock) (j : Job) (image : List ℕ) (hs : List Heard) : 
 -- Any dock that invents counts differs from the flow where it does.
 abbrev pub InventsDiffers : Type 0
 InventsDiffers =
-    (M : AnyDock) (j : Job) (image : List ℕ) (hs : List Heard) → call_verdict j (length image) Begins ≡ Accepted → Invents M j image hs → DiffersOn M j image hs
+    (M : AnyDock) (j : Job) (image : List ℕ) (hs : List Heard) → call_verdict j (length image) Begins ≡ Ok tt → Invents M j image hs → DiffersOn M j image hs
 
 -- Two histories with one ending, a timeout at 9Ah: at once, and after 9Ah was asked for again. The frames are 1 and 2, the retries 0 and 1.
 abbrev pub at_once : List Heard
@@ -67,7 +64,7 @@ after_again = say 0x15 ∷ silence ∷ []
 abbrev pub timed_out : ℕ → ℕ → List Account
 timed_out frames retries =
     record {
-      ending = Failed (record { cause = TimedOut; command = 0x9A; page = Unnamed; status = 0x00; block = Unnamed; fault = Good });
+      ending = Err (record { cause = TimedOut; command = 0x9A; page = None; status = 0x00; block = None; fault = Good });
       frames = frames;
       retries = retries;
     }
@@ -96,7 +93,7 @@ pub data SendsMore (M : AnyDock) (j : Job) (image : List ℕ) (hs : List Heard) 
 -- Any dock that sends a frame too many differs from the flow where it does.
 abbrev pub MoreDiffers : Type 0
 MoreDiffers =
-    (M : AnyDock) (j : Job) (image : List ℕ) (hs : List Heard) → call_verdict j (length image) Begins ≡ Accepted → SendsMore M j image hs → DiffersOn M j image hs
+    (M : AnyDock) (j : Job) (image : List ℕ) (hs : List Heard) → call_verdict j (length image) Begins ≡ Ok tt → SendsMore M j image hs → DiffersOn M j image hs
 
 -- Docks of both kinds: the flow with its account changed, however that is done, and the flow with a frame more, whichever it is.
 abbrev pub reporting : (Account → Account) → AnyDock
@@ -108,7 +105,7 @@ sending_more f j image hs = seen ((flow j image hs).sent ++ f ∷ []) (results_o
 -- Whatever is changed in an account that the flow reports, the dock differs there; and whichever frame is added, it sends a frame too many in every job.
 abbrev pub ReportingDiffers : Type 0
 ReportingDiffers =
-    (change : Account → Account) (j : Job) (image : List ℕ) (hs : List Heard) (a : Account) → call_verdict j (length image) Begins ≡ Accepted
+    (change : Account → Account) (j : Job) (image : List ℕ) (hs : List Heard) (a : Account) → call_verdict j (length image) Begins ≡ Ok tt
     → results_of (flow j image hs) ≡ a ∷ [] → change a ≢ a → DiffersOn (reporting change) j image hs
 
 abbrev pub AddingSendsMore : Type 0

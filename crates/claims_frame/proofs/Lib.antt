@@ -3,3 +3,4 @@ pub mod Framing
 pub mod OneByte
 pub mod RoundTrip
 pub mod Faults
+pub mod Sums

@@ -11,13 +11,12 @@ use Rattle.chip_pages.proofs.Laws.{not_last}
 use Rattle.chip_pages.specs.Pages.{is_last_page, page_after}
 use Rattle.chip_core.specs.declared.Awaited.{Awaited}
 use Rattle.part.proofs.Laws.{LiesIn, Spot, block-page, in_order, lies-place, place-lies, range-good, stretch-whole}
-use Rattle.part.specs.Part.{block_size, described, first, page_size, place_in, place_of, range_of}
+use Rattle.part.specs.Part.{block_size, described, first, page_size, place_in, place_of, range_of, range_at}
 use Rattle.part.specs.declared.Area.{Area}
 use Rattle.part.specs.declared.Area.TheVariants.{CodeFlash, DataFlash}
 use Rattle.part.specs.declared.Part.{Part}
 use Rattle.part.specs.declared.Place.{Place}
-use Rattle.part.specs.declared.Place.TheVariants.{In, Outside}
-use Rattle.part.specs.declared.Range.TheVariants.{Blocks}
+use Rattle.std.specs.Prelude.{None, Option, Some}
 use Rattle.words.proofs.Laws.{and_both, and_left, and_right, or_left, or_right}
 use Rattle.words.specs.Words.{◌and◌, ◌or◌}
 
@@ -71,19 +70,22 @@ both-walk p w a x i g b y j h e s t o q r =
     let n : y ≡ w.last - first b = spot-offset t in
     record { here = spot-lies u; there = spot-lies t; order = o; page = rw m at q; end = rw n at r }
 
-places-walk : (p : Part) (w : Awaited) (x y : Place) → paged w ≡ true → w.next ≤ w.last → place_of p w.next ≡ x → place_of p w.last ≡ y
+places-walk : (p : Part) (w : Awaited) (x y : Option Place) → paged w ≡ true → w.next ≤ w.last → place_of p w.next ≡ x → place_of p w.last ≡ y
     → good_places p x y ≡ true → Pages p w
 unfolding good_places
-places-walk p w Outside Outside c o e f t = absurd (false≢true t)
-places-walk p w Outside (In a x i g) c o e f t = absurd (false≢true t)
-places-walk p w (In a x i g) Outside c o e f t = absurd (false≢true t)
-places-walk p w (In a x i g) (In b y j h) c o e f t =
-    let r = and_right (same_area a b) _ t in
+places-walk p w None None c o e f t = absurd (false≢true t)
+places-walk p w None (Some place) c o e f t = absurd (false≢true t)
+places-walk p w (Some place) None c o e f t = absurd (false≢true t)
+places-walk p w (Some place) (Some other) c o e f t =
+    let r = and_right (same_area place.area other.area) _ t in
+    let s = same_area_lem place.area other.area (and_left (same_area place.area other.area) _ t) in
+    let u = place-lies p w.next place.area place.offset place.block place.page e in
+    let v = place-lies p w.last other.area other.offset other.block other.page f in
     record {
-      area = b;
+      area = other.area;
       walk =
-          both-walk p w a x i g b y j h (same_area_lem a b (and_left (same_area a b) _ t)) (place-lies p w.next a x i g e) (place-lies p w.last b y j h f) o
-          (eqb-true _ _ (and_left _ _ r)) (eqb-true _ _ (and_right (eqb (x % page_size) 0) _ r));
+          both-walk p w place.area place.offset place.block place.page other.area other.offset other.block other.page s u v o
+          (eqb-true _ _ (and_left _ _ r)) (eqb-true _ _ (and_right (eqb (place.offset % page_size) 0) _ r));
       command = c;
     }
 
@@ -100,7 +102,7 @@ abbrev pub pages_of : ℕ → ℕ → ℕ → Awaited
 pages_of cmd start end = record { command = cmd; next = start; last = end; differed = false }
 
 pub range-awaited : (p : Part) (cmd start end : ℕ) (a : Area) (block count : ℕ) → described p ≡ true → paged (pages_of cmd start end) ≡ true
-    → range_of p start end ≡ Blocks a block count → good_awaited p (pages_of cmd start end) ≡ true
+    → range_of p start end ≡ Some (range_at a block count) → good_awaited p (pages_of cmd start end) ≡ true
 range-awaited p cmd start end a block count d c e =
     let s = range-good p start end a block count e in
     let w = stretch-whole s in

@@ -20,8 +20,11 @@ use Rattle.chip_sums.specs.Sums.{resummed}
 use Rattle.chip_pages.specs.Pages.{bad_data, compared, data_does, good_data, next_page, page_in, page_stored, page_written, program_page, security_data, verify_page}
 use Rattle.commands.specs.declared.Command.{Command}
 use Rattle.commands.specs.declared.Command.TheVariants.{BlankCheck, BlockErase, Checksum, Programming, RateSet, Reset, SecurityGet, SecurityRelease, SecuritySet, SignatureGet, Verify}
-use Rattle.commands.specs.declared.Reading.{Reading}
-use Rattle.commands.specs.declared.Reading.TheVariants.{Meant, UnfitLen, Unknown}
+use Rattle.part.specs.declared.Range.{Range}
+use Rattle.part.specs.declared.Place.{Place}
+use Rattle.commands.specs.declared.Misread.TheVariants.{UnfitLen, Unknown}
+use Rattle.commands.specs.declared.Misread.{Misread}
+use Rattle.std.specs.Prelude.{Err, None, Ok, Option, Result, Some}
 use Rattle.chip_core.specs.declared.Awaited.{Awaited}
 use Rattle.chip_core.specs.declared.Core.{Core}
 use Rattle.chip_core.specs.declared.Done.{Done}
@@ -31,15 +34,11 @@ use Rattle.frame.specs.declared.judgement.Judgement.{Judgement}
 use Rattle.lent.proofs.Laws.{put-long}
 use Rattle.lent.specs.Lent.{same}
 use Rattle.chip_options.proofs.Laws.{released-good}
-use Rattle.part.specs.Part.{block_size, described, range_of}
+use Rattle.part.specs.Part.{block_size, described, range_of, place_at}
 use Rattle.part.specs.Rate.{accepts_rate}
 use Rattle.part.specs.declared.Area.{Area}
 use Rattle.part.specs.declared.Area.TheVariants.{CodeFlash, DataFlash}
 use Rattle.part.specs.declared.Part.{Part}
-use Rattle.part.specs.declared.Place.{Place}
-use Rattle.part.specs.declared.Place.TheVariants.{In, Outside}
-use Rattle.part.specs.declared.Range.{Range}
-use Rattle.part.specs.declared.Range.TheVariants.{Bad, Blocks}
 use Rattle.words.proofs.Laws.{and_left, if-all}
 use Rattle.words.specs.Words.{◌or◌}
 
@@ -66,7 +65,7 @@ with-bytes : {p : Part} {d : Done} (a : Area) (m : Memory) (l : List ℕ) → Go
 with-bytes CodeFlash m l g e = record { good = g; code = e; extra = refl }
 with-bytes DataFlash m l g e = record { good = g; code = refl; extra = e }
 
-sum-keeps : {p : Part} {m n : Memory} {d : Done} (at : Place) → Keeps p m (effect d n) → Keeps p m (effect d (resummed p at n))
+sum-keeps : {p : Part} {m n : Memory} {d : Done} (at : Option Place) → Keeps p m (effect d n) → Keeps p m (effect d (resummed p at n))
 sum-keeps {p} {m} {n} at g = record { good = g.good; code = rw (resummed-flash p at n) g.code; extra = rw (resummed-flash p at n) g.extra }
 
 module _ (p : Part) (k : Core) (part : described p ≡ true) (good : GoodCore p k) where
@@ -76,39 +75,39 @@ module _ (p : Part) (k : Core) (part : described p ≡ true) (good : GoodCore p 
       if-all (GoodDone p) _ (λ t. done-so good)
       (λ t. done-so (record { rate = leb-true _ _ (and_left _ _ (not-false _ t)); options = good.options; phase = refl }))
 
-  erase : (at : Place) (m : Memory) → Keeps p m (block_erase p k at m)
+  erase : (at : Option Place) (m : Memory) → Keeps p m (block_erase p k at m)
   unfolding block_erase erased_in
-  erase Outside m = stays-so m good
-  erase (In a offset block page) m =
+  erase None m = stays-so m good
+  erase (Some place) m =
       if-all (Keeps p m) _ (λ t. stays-so m good)
       (λ t. if-all (Keeps p m) _ (λ u. stays-so m good)
-      (λ u. sum-keeps (In a offset block page) (with-bytes a m _ good (erase-of-long (bytes_in a m.flash) offset (block_size p a)))))
+      (λ u. sum-keeps (Some (place_at place.area place.offset place.block place.page)) (with-bytes place.area m _ good (erase-of-long (bytes_in place.area m.flash) place.offset (block_size p place.area)))))
 
-  check : (r : Range) (d01 : ℕ) (m : Flash) → GoodDone p (blank_check p k r d01 m)
+  check : (r : Option Range) (d01 : ℕ) (m : Flash) → GoodDone p (blank_check p k r d01 m)
   unfolding blank_check
-  check Bad d01 m = done-so good
-  check (Blocks a block count) d01 m =
+  check None d01 m = done-so good
+  check (Some range) d01 m =
       if-all (GoodDone p) _ (λ t. done-so good) (λ t. if-all (GoodDone p) _ (λ u. done-so good) (λ u. if-all (GoodDone p) _ (λ v. done-so good) (λ v. done-so good)))
 
   awaits : (w : Awaited) → good_awaited p w ≡ true → GoodCore p (entered k (Awaiting w))
   unfolding good_phase
   awaits w g = enters (Awaiting w) good g
 
-  program : (r : Range) (start end : ℕ) → range_of p start end ≡ r → GoodDone p (programming p k r start end)
+  program : (r : Option Range) (start end : ℕ) → range_of p start end ≡ r → GoodDone p (programming p k r start end)
   unfolding programming ◌or◌
-  program Bad start end e = done-so good
-  program (Blocks a block count) start end e =
-      if-all (GoodDone p) _ (λ t. done-so good) (λ t. done-so (awaits (pages_of 0x40 start end) (range-awaited p 0x40 start end a block count part refl e)))
+  program None start end e = done-so good
+  program (Some range) start end e =
+      if-all (GoodDone p) _ (λ t. done-so good) (λ t. done-so (awaits (pages_of 0x40 start end) (range-awaited p 0x40 start end range.area range.block range.count part refl e)))
 
-  verifies : (r : Range) (start end : ℕ) → range_of p start end ≡ r → GoodDone p (verify k r start end)
+  verifies : (r : Option Range) (start end : ℕ) → range_of p start end ≡ r → GoodDone p (verify k r start end)
   unfolding verify ◌or◌
-  verifies Bad start end e = done-so good
-  verifies (Blocks a block count) start end e = done-so (awaits (pages_of 0x13 start end) (range-awaited p 0x13 start end a block count part refl e))
+  verifies None start end e = done-so good
+  verifies (Some range) start end e = done-so (awaits (pages_of 0x13 start end) (range-awaited p 0x13 start end range.area range.block range.count part refl e))
 
-  sums : (r : Range) (m : Memory) → GoodDone p (checksum p k r m)
+  sums : (r : Option Range) (m : Memory) → GoodDone p (checksum p k r m)
   unfolding checksum
-  sums Bad m = done-so good
-  sums (Blocks a block count) m = if-all (GoodDone p) _ (λ t. done-so good) (λ t. done-so good)
+  sums None m = done-so good
+  sums (Some range) m = if-all (GoodDone p) _ (λ t. done-so good) (λ t. done-so good)
 
   releases : (m : Flash) → GoodDone p (security_release p k m)
   unfolding security_release
@@ -131,11 +130,11 @@ module _ (p : Part) (k : Core) (part : described p ≡ true) (good : GoodCore p 
   works SecuritySet m = stays-so m (awaits (pages_of 0xA0 0 0) (security-awaited p))
   works SecurityRelease m = done-keeps m (releases m.flash)
 
-  reading-keeps : (r : Reading) (m : Memory) → Keeps p m (reading_does r p k m)
+  reading-keeps : (r : Result Command Misread) (m : Memory) → Keeps p m (reading_does r p k m)
   unfolding reading_does
-  reading-keeps Unknown m = stays-so m good
-  reading-keeps UnfitLen m = stays-so m good
-  reading-keeps (Meant c) m = works c m
+  reading-keeps (Err Unknown) m = stays-so m good
+  reading-keeps (Err UnfitLen) m = stays-so m good
+  reading-keeps (Ok c) m = works c m
 
   pub command-keeps : (f : List ℕ) (m : Memory) → Keeps p m (command_does p k f m)
   unfolding command_does
@@ -147,12 +146,12 @@ module _ (p : Part) (k : Core) (part : described p ≡ true) (good : GoodCore p 
   goes_on w g n = if-all (GoodCore p) _ (λ t. made-ready good) (λ t. awaits _ (next-awaited p w part g n t))
 
   module _ (w : Awaited) (awaited : good_awaited p w ≡ true) where
-    put-page : (at : Place) (ds : List ℕ) (m : Memory) {d : Done} → GoodCore p d.core → Keeps p m (effect d (with_flash m (page_stored at ds m.flash)))
+    put-page : (at : Option Place) (ds : List ℕ) (m : Memory) {d : Done} → GoodCore p d.core → Keeps p m (effect d (with_flash m (page_stored at ds m.flash)))
     unfolding page_stored
-    put-page Outside ds m g = record { good = g; code = refl; extra = refl }
-    put-page (In a offset block page) ds m g = with-bytes a m _ g (put-long (bytes_in a m.flash) offset ds refl)
+    put-page None ds m g = record { good = g; code = refl; extra = refl }
+    put-page (Some place) ds m g = with-bytes place.area m _ g (put-long (bytes_in place.area m.flash) place.offset ds refl)
 
-    programs : eqb w.command 0xA0 ≡ false → (at : Place) (ds : List ℕ) (m : Memory) → Keeps p m (program_page p k w at ds m)
+    programs : eqb w.command 0xA0 ≡ false → (at : Option Place) (ds : List ℕ) (m : Memory) → Keeps p m (program_page p k w at ds m)
     unfolding program_page page_written
     programs n at ds m =
         let old = page_in at m.flash in
@@ -160,7 +159,7 @@ module _ (p : Part) (k : Core) (part : described p ≡ true) (good : GoodCore p 
         (put-page at (programmed old ds) m
         (told-either (λ (d : Awaited → Core → Done). GoodCore p (d w k).core) old ds (λ t. goes_on w awaited n) (λ t. made-ready good)))
 
-    compares : eqb w.command 0xA0 ≡ false → (at : Place) (ds : List ℕ) (m : Flash) → GoodDone p (verify_page k w at ds m)
+    compares : eqb w.command 0xA0 ≡ false → (at : Option Place) (ds : List ℕ) (m : Flash) → GoodDone p (verify_page k w at ds m)
     unfolding verify_page compared good_awaited
     compares n at ds m = done-so (goes_on (compared w (same (page_in at m) ds)) awaited n)
 

@@ -7,7 +7,7 @@ use lib.ListN.{drop, length}
 use lib.Seq.{take-append_seam}
 use Rattle.chip.specs.Run.{answers, bytes_said, onward, spoken_in}
 use Rattle.chip.specs.Step.{Outcome, Reaction, react_to, replied, settled}
-use Rattle.chip.specs.declared.Answer.TheVariants.{Replied}
+use Rattle.std.specs.Prelude.{Ok}
 use Rattle.chip_state.specs.declared.Chip.{Chip}
 use Rattle.chip.specs.declared.Event.{Event}
 use Rattle.claims_good.proofs.Stays.{onward-is, stays}
@@ -19,24 +19,23 @@ use Rattle.frame.proofs.Laws.Collector.{heard-holding}
 use Rattle.frame.specs.Collector.{heard, holding}
 use Rattle.frame.specs.Framing.{frames}
 use Rattle.part.specs.declared.Part.{Part}
-use Rattle.part.specs.declared.refusal.Verdict.TheVariants.{Accepted}
 use Rattle.chip_reply.proofs.Laws.{reply-long, said-lands}
-use Rattle.chip_reply.specs.Reply.{Said, fault_in, frames_of, payloads, said}
+use Rattle.chip_reply.specs.Reply.{Said, fault_in, frames_of, payloads, said, sent_as}
 
 -- What a reaction says.
 unfoldable pub utterance_of : Part → Reaction → Utterance
 utterance_of p x =
     let rs = payloads p x.does.core.options x.does.reply in
-    record { answer = Replied (length (frames_of rs)) (length rs); fault = fault_in x.does.reply; bytes = frames_of rs }
+    record { answer = Ok (sent_as (length (frames_of rs)) (length rs)); fault = fault_in x.does.reply; bytes = frames_of rs }
 
 settled-utters : (p : Part) (x : Reaction) (c : Chip) (m : Memory) (room : List ℕ) → 32 ≤ length room
-    → uttered (spoken_in (settled Accepted p x c m room)) ≡ utterance_of p x
+    → uttered (spoken_in (settled (Ok tt) p x c m room)) ≡ utterance_of p x
 unfolding settled utterance_of
 settled-utters p x c m room h =
     let rs = payloads p x.does.core.options x.does.reply in
     let j = fault_in x.does.reply in
     ap {B = Utterance} (λ (z : Said). record { answer = replied z.sent; fault = j; bytes = bytes_said (replied z.sent) z.room }) (said-lands rs room)
-    ∙ ap {B = Utterance} (λ (l : List ℕ). record { answer = Replied (length (frames_of rs)) (length rs); fault = j; bytes = l })
+    ∙ ap {B = Utterance} (λ (l : List ℕ). record { answer = Ok (sent_as (length (frames_of rs)) (length rs)); fault = j; bytes = l })
     (take-append_seam (frames_of rs) (drop (length (frames_of rs)) room))
 
 roomy : {p : Part} {o : Outcome} → Stands p o → 32 ≤ length o.room
@@ -59,7 +58,7 @@ pub record Leaves (p : Part) (o : Outcome) (v : Event) : Type 0 where
   pub count : (onward p o v).chip.collector.len ≡ length (reaction_of p o v).hears
 
 settled-leaves : (p : Part) (x : Reaction) (c : Chip) (m : Memory) (r : List ℕ)
-    → let u = settled Accepted p x c m r in
+    → let u = settled (Ok tt) p x c m r in
     (u.chip.core ≡ x.does.core) × (u.memory ≡ x.does.memory) × (heard u.chip.collector ≡ x.hears) × (u.chip.collector.len ≡ length x.hears)
 unfolding settled holding
 settled-leaves p x c m r = (refl, refl, heard-holding c.collector x.hears, refl)
@@ -97,7 +96,7 @@ never-refused p (v ∷ vs) o s (and_event h q) = and_answer (answered p o v s) (
 react-same : {k l : Core} {hs is : List ℕ} {m n : Memory} (v : Event) (p : Part) → k ≡ l → hs ≡ is → m ≡ n → react_to v p k hs m ≡ react_to v p l is n
 react-same v p e f g = rw (e, f, g)
 
-settled-alike : (p : Part) (x : Reaction) (c d : Chip) (m n : Memory) (r s : List ℕ) → Alike (settled Accepted p x c m r) (settled Accepted p x d n s)
+settled-alike : (p : Part) (x : Reaction) (c d : Chip) (m n : Memory) (r s : List ℕ) → Alike (settled (Ok tt) p x c m r) (settled (Ok tt) p x d n s)
 unfolding settled holding
 settled-alike p x c d m n r s =
     record { core = refl; count = refl; hears = heard-holding c.collector x.hears ∙ sym (heard-holding d.collector x.hears); memory = refl }
@@ -136,7 +135,7 @@ stands-anywhere p o u s e r =
     }
 
 settled_same : (p : Part) (x y : Reaction) (c d : Chip) (m n : Memory) (r s : List ℕ) → c ≡ d → x ≡ y
-    → SameChip (settled Accepted p x c m r) (settled Accepted p y d n s)
+    → SameChip (settled (Ok tt) p x c m r) (settled (Ok tt) p y d n s)
 unfolding settled
 settled_same p x y c d m n r s e f = record { chip = rw (e, f); memory = rw f }
 

@@ -32,8 +32,8 @@ use Rattle.frame.specs.declared.Header.TheVariants.{Command, Data}
 use Rattle.frame.specs.declared.collector.Collector.{Collector}
 use Rattle.part.specs.Part.{described}
 use Rattle.part.specs.declared.Part.{Part}
-use Rattle.part.specs.declared.refusal.Verdict.{Verdict}
-use Rattle.part.specs.declared.refusal.Verdict.TheVariants.{Accepted}
+use Rattle.part.specs.declared.refusal.Refusal.{Refusal}
+use Rattle.std.specs.Prelude.{Ok, Result}
 use Rattle.chip_reply.proofs.Laws.{reply-long, said-keeps}
 use Rattle.chip_reply.specs.Reply.{payloads, said_of}
 use Rattle.words.proofs.Laws.{and_both, and_left, and_right, if-all}
@@ -100,14 +100,14 @@ module _ (p : Part) (c : Collector) (m : Memory) (k : Core) (places : length c.b
   reacts PowerOn a_power_on = forgets _ (stays-so m (record { rate = omega arith; options = good.options; phase = refl }))
 
 -- An accepted call is settled by what the event does.
-pub onward-is : (p : Part) (o : Outcome) (v : Event) → verdict_in p o ≡ Accepted
-    → onward p o v ≡ settled Accepted p (react_to v p o.chip.core (heard o.chip.collector) o.memory) o.chip o.memory o.room
+pub onward-is : (p : Part) (o : Outcome) (v : Event) → verdict_in p o ≡ Ok tt
+    → onward p o v ≡ settled (Ok tt) p (react_to v p o.chip.core (heard o.chip.collector) o.memory) o.chip o.memory o.room
 unfolding step_of
 onward-is p o v e =
-    ap (λ (w : Verdict). settled w p (react_to v p o.chip.core (heard o.chip.collector) o.memory) o.chip o.memory o.room) e
+    ap (λ (w : Result Unit Refusal). settled w p (react_to v p o.chip.core (heard o.chip.collector) o.memory) o.chip o.memory o.room) e
 
 settled-stands : (p : Part) (o : Outcome) (x : Reaction) → Stands p o → Reacts p o.chip.collector o.memory x
-    → Stands p (settled Accepted p x o.chip o.memory o.room)
+    → Stands p (settled (Ok tt) p x o.chip o.memory o.room)
 unfolding settled good_state
 settled-stands p o x s r =
     let a = accepts s.accepted in

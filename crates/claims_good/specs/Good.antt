@@ -1,28 +1,27 @@
 -- A chip that stands: what makes the next call accepted. Document 01, "Refusal numbers"; and what a run says, without the room that was lent for it.
-use Rattle.std.specs.Prelude.{List, [], ◌∷◌, map, ◌≡◌, ◌<◌, ◌≤◌, ℕ, length}
+use Rattle.std.specs.Prelude.{List, [], ◌∷◌, map, ◌≡◌, ◌<◌, ◌≤◌, ℕ, length, None, Ok, Result}
 use Rattle.part.specs.Part.{Arrays}
 use Rattle.chip.specs.Run.{Spoken, answers, bytes_said, spoken_in}
 use Rattle.chip.specs.Step.{Outcome}
 use Rattle.chip_state.specs.Refusals.{verdict_on}
-use Rattle.chip.specs.declared.Answer.{Answer}
-use Rattle.chip.specs.declared.Answer.TheVariants.{Replied}
+use Rattle.chip_reply.specs.Reply.{sent_as}
+use Rattle.part.specs.declared.refusal.Refusal.{Refusal}
+use Rattle.chip_reply.specs.declared.Sent.{Sent}
 use Rattle.chip.specs.declared.Event.{Event}
 use Rattle.chip.specs.declared.Event.TheVariants.{Byte, Gap, PowerOn}
 use Rattle.frame.proofs.Laws.Sum.{Below}
 use Rattle.frame.specs.Collector.{heard}
 use Rattle.frame.specs.declared.judgement.Judgement.{Judgement}
 use Rattle.part.specs.declared.Part.{Part}
-use Rattle.part.specs.declared.refusal.Verdict.{Verdict}
-use Rattle.part.specs.declared.refusal.Verdict.TheVariants.{Accepted}
 
 -- The verdict on a call with what an outcome left: its chip, its flash and its room.
-abbrev pub verdict_in : Part → Outcome → Verdict
+abbrev pub verdict_in : Part → Outcome → Result Unit Refusal
 verdict_in p o = verdict_on p o.chip (length o.memory.flash.code_flash) (length o.memory.flash.data_flash) (length o.room)
 
 -- None of the refusals 1, 2, 3, 9 and 4 is given. The rest holds of all that the language can hand in: the collector's array has 260 places, each a
 -- byte, and the description's arrays have their lengths.
 pub record Stands (p : Part) (o : Outcome) : Type 0 where
-  pub accepted : verdict_in p o ≡ Accepted
+  pub accepted : verdict_in p o ≡ Ok tt
   pub places : length o.chip.collector.bytes ≡ 260
   pub bytes : Below 256 o.chip.collector.bytes
   pub arrays : Arrays p
@@ -41,7 +40,7 @@ pub data AllProper : List Event → Type 0 where
 pub record Answered (s : Spoken) : Type 0 where
   pub count : ℕ
   pub frames : ℕ
-  pub replied : s.answer ≡ Replied count frames
+  pub replied : s.answer ≡ Ok (sent_as count frames)
   pub short : count ≤ 31
 
 pub data AllAnswered : List Spoken → Type 0 where
@@ -50,7 +49,7 @@ pub data AllAnswered : List Spoken → Type 0 where
 
 -- What is said: the answer, its fault, and the bytes of the room that the answer counts; not the room past them.
 pub record Utterance : Type 0 where
-  pub answer : Answer
+  pub answer : Result Sent Refusal
   pub fault : Judgement
   pub bytes : List ℕ
 

@@ -10,7 +10,8 @@ use lib.ListN.{length, length-replicate, replicate}
 use borrow.Author.Tests.{eq-eqb, lt-ltb}
 use Rattle.chip.specs.Run.{Spoken, answers, onward, run, spoken_in}
 use Rattle.chip.specs.Step.{Outcome, Reaction, react_to, settled, step_of}
-use Rattle.chip.specs.declared.Answer.TheVariants.{Refused}
+use Rattle.part.specs.declared.refusal.Refusal.{Refusal}
+use Rattle.std.specs.Prelude.{Err, Ok, Result}
 use Rattle.chip.specs.declared.Event.{Event}
 use Rattle.chip_core.specs.Effect.{Memory}
 use Rattle.chip_core.specs.declared.Core.{Core}
@@ -27,9 +28,6 @@ use Rattle.part.proofs.Laws.{first-here, first_on}
 use Rattle.frame.specs.declared.judgement.Judgement.TheVariants.{Good}
 use Rattle.part.specs.declared.Part.{Part}
 use Rattle.part.specs.declared.refusal.Refusal.TheVariants.{ShortRoom}
-use Rattle.part.specs.declared.refusal.Verdict.{Verdict}
-use Rattle.part.specs.declared.refusal.Verdict.TheVariants.{Accepted}
-use Rattle.part.specs.declared.refusal.Verdict.TheVariants as Verdict
 
 -- The definition's runs are runs.
 pub run-by : (p : Part) (vs : List Event) (o : Outcome) → run_by step_of p vs o ≡ run p vs o
@@ -48,7 +46,7 @@ lent o room = record { answer = o.answer; fault = o.fault; chip = o.chip; memory
 
 -- What is accepted with its room is refused with a short one, and for no other reason.
 short_row : (p : Part) (k : Core) (h : Handed) (n : ℕ) → Accepts p k h → n < 32
-    → verdict_of p k (record { count = h.count; head = h.head; len = h.len; code = h.code; «data» = h.«data»; room = n }) ≡ Verdict.Refused ShortRoom
+    → verdict_of p k (record { count = h.count; head = h.head; len = h.len; code = h.code; «data» = h.«data»; room = n }) ≡ Err ShortRoom
 unfolding verdict_of
 short_row p k h n a l =
     first_on _ _ _ (ap not a.part)
@@ -57,13 +55,13 @@ short_row p k h n a l =
     ∙ first_on _ _ _ (ap not a.state)
     ∙ first-here _ _ _ (lt-ltb n 32 l)
 
-short-verdict : (p : Part) (o : Outcome) (room : List ℕ) → Stands p o → length room < 32 → verdict_in p (lent o room) ≡ Verdict.Refused ShortRoom
+short-verdict : (p : Part) (o : Outcome) (room : List ℕ) → Stands p o → length room < 32 → verdict_in p (lent o room) ≡ Err ShortRoom
 short-verdict p o room s h = short_row p o.chip.core _ (length room) (accepts s.accepted) h
 
 pub short-refused : ShortRefused step_of
 unfolding step_of settled
 short-refused p o v room s h =
-    ap (λ (w : Verdict). settled w p (react_to v p o.chip.core (heard o.chip.collector) o.memory) o.chip o.memory room) (short-verdict p o room s h)
+    ap (λ (w : Result Unit Refusal). settled w p (react_to v p o.chip.core (heard o.chip.collector) o.memory) o.chip o.memory room) (short-verdict p o room s h)
 
 -- A chip that stands but for the room: with the least that is accepted it does.
 Lives : Part → Outcome → Type 0
@@ -78,7 +76,7 @@ lives p o u s c m = with-room p o u s c m (replicate 32 0) (omega (arith, length
 
 -- The answer and the room are those of the reaction, whatever chip it was.
 settled-spoken : (p : Part) (x y : Reaction) (c d : Chip) (m n : Memory) (room : List ℕ) → x ≡ y
-    → spoken_in (settled Accepted p x c m room) ≡ spoken_in (settled Accepted p y d n room)
+    → spoken_in (settled (Ok tt) p x c m room) ≡ spoken_in (settled (Ok tt) p y d n room)
 unfolding settled
 settled-spoken p x y c d m n room e = rw e
 
@@ -109,7 +107,7 @@ module _ (p : Part) (o u : Outcome) (v : Event) (room : List ℕ) (so : Lives p 
       }
 
   refusal : Outcome → Outcome
-  refusal q = record { answer = Refused ShortRoom; fault = Good; chip = q.chip; memory = q.memory; room = room }
+  refusal q = record { answer = Err ShortRoom; fault = Good; chip = q.chip; memory = q.memory; room = room }
 
   short-call : length room < 32 → Called p (onward p (lent o room) v) (onward p (lent u room) v)
   unfolding Lives refusal

@@ -1,11 +1,10 @@
 -- The statements of demand 3, each proved in proofs/ under its own name. They speak of any chip M, that is, of what a chip does with an event; the one
 -- that they are proved of is `step_of`, the definition of demand 2.
-use Rattle.std.specs.Prelude.{false, true, List, [], ◌++◌, ◌∷◌, map, ◌≢◌, ◌≡◌, ◌-◌, ◌<◌, ◌≤◌, ℕ, get_or, length, replicate, set}
+use Rattle.std.specs.Prelude.{false, true, List, [], ◌++◌, ◌∷◌, map, ◌≢◌, ◌≡◌, ◌-◌, ◌<◌, ◌≤◌, ℕ, get_or, length, replicate, set, Err}
 use Rattle.claims_frame.specs.OneByte.{fault_changed}
 use Rattle.claims_fed.specs.Fed.{blames, silence}
 use Rattle.chip.specs.Run.{Spoken, spoken_in}
 use Rattle.chip.specs.Step.{Outcome}
-use Rattle.chip.specs.declared.Answer.TheVariants.{Refused}
 use Rattle.chip_state.specs.declared.Chip.{Chip}
 use Rattle.chip.specs.declared.Event.{Event}
 use Rattle.chip.specs.declared.Event.TheVariants.{Byte, Gap, PowerOn}
@@ -74,7 +73,7 @@ pub record AsIf (M : Machine) (p : Part) (o u : Outcome) : Type 0 where
 abbrev pub ShortRefused : Machine → Type 0
 ShortRefused M =
     (p : Part) (o : Outcome) (v : Event) (room : List ℕ) → Stands p o → length room < 32
-    → M p o.chip v o.memory room ≡ record { answer = Refused ShortRoom; fault = Good; chip = o.chip; memory = o.memory; room = room }
+    → M p o.chip v o.memory room ≡ record { answer = Err ShortRoom; fault = Good; chip = o.chip; memory = o.memory; room = room }
 
 -- The runs below go with one room. It has no part in them: any rooms that are accepted, one for each event, are as good as that one.
 pub data Roomy : List ChipCall → Type 0 where

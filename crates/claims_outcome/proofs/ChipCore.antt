@@ -6,6 +6,8 @@ use Rattle.chip_core.proofs.Phase.hearing.Reads as Phase-hearing
 use Rattle.chip_core.proofs.Phase.hearing.Kinds as Phase-hearing-kinds
 use Rattle.chip_core.proofs.Core.entered.Reads as Core-entered
 use Rattle.chip_core.proofs.Core.entered.Kinds as Core-entered-kinds
+use Rattle.chip_core.proofs.area_bytes.Reads as area-bytes
+use Rattle.chip_core.proofs.area_bytes.Kinds as area-bytes-kinds
 use Rattle.chip_core.proofs.says.Reads as says
 use Rattle.chip_core.proofs.says.Kinds as says-kinds
 use Rattle.chip_core.proofs.awaiting.Reads as awaiting
@@ -22,3 +24,6 @@ says-once κs a r s x y p q = p ∙ sym q
 
 pub awaiting-once : Once awaiting-kinds.ps awaiting-kinds.r awaiting.Post (λ κs r x. r)
 awaiting-once κs a r s x y p q = p ∙ sym q
+
+pub area-bytes-once : Once area-bytes-kinds.ps area-bytes-kinds.r area-bytes.Post (λ κs r x. r.now)
+area-bytes-once κs a r s x y p q = p ∙ sym q

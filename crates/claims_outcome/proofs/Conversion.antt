@@ -9,12 +9,12 @@ use Rattle.conversion.proofs.first_not.Reads as first-not
 use Rattle.conversion.proofs.first_not.Kinds as first-not-kinds
 use Rattle.conversion.proofs.convert.Reads as convert
 use Rattle.conversion.proofs.convert.Kinds as convert-kinds
-use Rattle.conversion.proofs.Converted.number.Reads as number
-use Rattle.conversion.proofs.Converted.number.Kinds as number-kinds
-use Rattle.conversion.proofs.Converted.record_named.Reads as record-named
-use Rattle.conversion.proofs.Converted.record_named.Kinds as record-named-kinds
-use Rattle.conversion.proofs.Converted.bytes_written.Reads as bytes-written
-use Rattle.conversion.proofs.Converted.bytes_written.Kinds as bytes-written-kinds
+use Rattle.conversion.proofs.number.Reads as number
+use Rattle.conversion.proofs.number.Kinds as number-kinds
+use Rattle.conversion.proofs.record_named.Reads as record-named
+use Rattle.conversion.proofs.record_named.Kinds as record-named-kinds
+use Rattle.conversion.proofs.bytes_written.Reads as bytes-written
+use Rattle.conversion.proofs.bytes_written.Kinds as bytes-written-kinds
 
 pub other-once : Once other-kinds.ps other-kinds.r other.Post (λ κs r x. r)
 other-once κs a r s x y p q = p ∙ sym q

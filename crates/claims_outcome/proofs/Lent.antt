@@ -5,8 +5,6 @@ use Rattle.lent.specs.Lent.{left}
 use Rattle.claims_outcome.proofs.Outcome.{Once}
 use Rattle.lent.proofs.put.Reads as put
 use Rattle.lent.proofs.put.Kinds as put-kinds
-use Rattle.lent.proofs.keep.Reads as keep
-use Rattle.lent.proofs.keep.Kinds as keep-kinds
 use Rattle.lent.proofs.are_all.Reads as are_all
 use Rattle.lent.proofs.are_all.Kinds as are-all-kinds
 use Rattle.lent.proofs.is_same.Reads as is_same
@@ -20,9 +18,6 @@ use Rattle.lent.proofs.span.Kinds as span-kinds
 
 pub put-once : Once put-kinds.ps put-kinds.r put.Post (λ κs r x. left r x.0.now)
 put-once κs a r s x y p q = p ∙ sym q
-
-pub keep-once : Once keep-kinds.ps keep-kinds.r keep.Post (λ κs r x. r)
-keep-once κs a r s x y p q = p ∙ sym q
 
 pub are-all-once : Once are-all-kinds.ps are-all-kinds.r are_all.Post (λ κs r x. r)
 are-all-once κs a r s x y p q = p ∙ sym q

@@ -2,15 +2,10 @@
 -- Assumes nothing.
 use mathlib.Core.Path.{◌∙◌, sym}
 use Rattle.claims_outcome.proofs.Outcome.{Once}
-use Rattle.part_layout.proofs.wide.Reads as wide
-use Rattle.part_layout.proofs.wide.Kinds as wide-kinds
 use Rattle.part_layout.proofs.part_in.Reads as part_in
 use Rattle.part_layout.proofs.part_in.Kinds as part-in-kinds
 use Rattle.part_layout.proofs.bare_in.Reads as bare-in
 use Rattle.part_layout.proofs.bare_in.Kinds as bare-in-kinds
-
-pub wide-once : Once wide-kinds.ps wide-kinds.r wide.Post (λ κs r x. r)
-wide-once κs a r s x y p q = p ∙ sym q
 
 pub part-in-once : Once part-in-kinds.ps part-in-kinds.r part_in.Post (λ κs r x. r)
 part-in-once κs a r s x y p q = p ∙ sym q

@@ -50,18 +50,18 @@ use Rattle.commands.proofs.Laws.{com-read}
 use Rattle.commands.specs.Commands.{com_of, read_command}
 use Rattle.commands.specs.declared.Command.{Command}
 use Rattle.commands.specs.declared.Command.TheVariants.{BlankCheck, BlockErase, Checksum, Programming, RateSet, Reset, SecurityGet, SecurityRelease, SecuritySet, SignatureGet, Verify}
-use Rattle.commands.specs.declared.Reading.{Reading}
-use Rattle.commands.specs.declared.Reading.TheVariants.{Meant, UnfitLen, Unknown}
+use Rattle.part.specs.declared.Place.{Place}
+use Rattle.commands.specs.declared.Misread.TheVariants.{UnfitLen, Unknown}
+use Rattle.commands.specs.declared.Misread.{Misread}
+use Rattle.std.specs.Prelude.{Err, None, Ok, Option, Result, Some}
 use Rattle.frame.specs.Frame.{payload}
 use Rattle.frame.specs.Judgement.{fitting, is_good, judge_of}
 use Rattle.frame.specs.declared.Footer.TheVariants.{Last}
 use Rattle.part.proofs.Laws.{place-lies}
-use Rattle.part.specs.Part.{block_size, place_of, size}
+use Rattle.part.specs.Part.{block_size, place_of, size, place_at}
 use Rattle.part.specs.declared.Area.{Area}
 use Rattle.part.specs.declared.Area.TheVariants.{CodeFlash, DataFlash}
 use Rattle.part.specs.declared.Part.{Part}
-use Rattle.part.specs.declared.Place.{Place}
-use Rattle.part.specs.declared.Place.TheVariants.{In, Outside}
 use Rattle.words.proofs.Laws.{if-all}
 
 -- Of byte i of an area no bit rises from the flash m to the flash n.
@@ -138,30 +138,30 @@ stays-so m e = record { falls = falls-equal (rw e) }
 
 module _ (p : Part) (k : Core) (m : Memory) (long : (b : Area) → length (bytes_in b m.flash) ≡ size p b) (a : Area) (i : ℕ) where
   -- 22h, unless it names the block of the byte.
-  erase-falls : (at : ℕ) (x : Place) → place_of p at ≡ x
-      → ((offset block page : ℕ) → x ≡ In a offset block page → offset ≤ i → i < offset + block_size p a → ⊥) → FallsSo a i m (block_erase p k x m)
+  erase-falls : (at : ℕ) (x : Option Place) → place_of p at ≡ x
+      → ((offset block page : ℕ) → x ≡ Some (place_at a offset block page) → offset ≤ i → i < offset + block_size p a → ⊥) → FallsSo a i m (block_erase p k x m)
   unfolding block_erase erased_in erase_of
-  erase-falls at Outside e n = stays-so m refl
-  erase-falls at (In b offset block page) e n =
+  erase-falls at None e n = stays-so m refl
+  erase-falls at (Some place) e n =
       if-all (FallsSo a i m) _ (λ t. stays-so m refl)
       (λ t. if-all (FallsSo a i m) _ (λ u. stays-so m refl)
       (λ u.
-      let z : offset % block_size p b ≡ 0 = eqb-true _ _ (not-false _ t) in
-      let l : length (replicate (block_size p b) erased) ≡ block_size p b = length-replicate {A = ℕ} (block_size p b) erased in
-      let h = block_inside p at b offset block page (place-lies p at b offset block page e) z in
+      let z : place.offset % block_size p place.area ≡ 0 = eqb-true _ _ (not-false _ t) in
+      let l : length (replicate (block_size p place.area) erased) ≡ block_size p place.area = length-replicate {A = ℕ} (block_size p place.area) erased in
+      let h = block_inside p at place.area place.offset place.block place.page (place-lies p at place.area place.offset place.block place.page e) z in
       record {
         falls =
             rw (resummed-flash p)
-            (erased-falls l (where-is a b offset i _ m.flash _ (put-becomes b offset (replicate (block_size p b) erased) m.flash (omega (arith, long b)))));
+            (erased-falls l (where-is a place.area place.offset i _ m.flash _ (put-becomes place.area place.offset (replicate (block_size p place.area) erased) m.flash (omega (arith, long place.area)))));
       }))
     where
-      erased-falls : {f : Flash} → length (replicate (block_size p b) erased) ≡ block_size p b → Among a b offset (length (replicate (block_size p b) erased)) i m.flash f
+      erased-falls : {f : Flash} → length (replicate (block_size p place.area) erased) ≡ block_size p place.area → Among a place.area place.offset (length (replicate (block_size p place.area) erased)) i m.flash f
           → Falls a i m.flash f
       erased-falls l (beside q) = falls-equal q
-      erased-falls l (among q h j) = absurd (n offset block page (rw q) h (rw (← q) (omega arith)))
+      erased-falls l (among q h j) = absurd (n place.offset place.block place.page (rw q) h (rw (← q) (omega arith)))
 
   NoErase : Command → Type 0
-  NoErase c = (start offset block page : ℕ) → c ≡ BlockErase start → place_of p start ≡ In a offset block page → offset ≤ i → i < offset + block_size p a → ⊥
+  NoErase c = (start offset block page : ℕ) → c ≡ BlockErase start → place_of p start ≡ Some (place_at a offset block page) → offset ≤ i → i < offset + block_size p a → ⊥
 
   works : (c : Command) → NoErase c → FallsSo a i m (work c p k m)
   unfolding work NoErase
@@ -177,14 +177,14 @@ module _ (p : Part) (k : Core) (m : Memory) (long : (b : Area) → length (bytes
   works SecuritySet n = stays-so m refl
   works SecurityRelease n = stays-so m refl
 
-  reading-falls : (r : Reading) → ((c : Command) → r ≡ Meant c → NoErase c) → FallsSo a i m (reading_does r p k m)
+  reading-falls : (r : Result Command Misread) → ((c : Command) → r ≡ Ok c → NoErase c) → FallsSo a i m (reading_does r p k m)
   unfolding reading_does NoErase
-  reading-falls Unknown n = stays-so m refl
-  reading-falls UnfitLen n = stays-so m refl
-  reading-falls (Meant c) n = works c (n c refl)
+  reading-falls (Err Unknown) n = stays-so m refl
+  reading-falls (Err UnfitLen) n = stays-so m refl
+  reading-falls (Ok c) n = works c (n c refl)
 
   command-falls : (f : List ℕ)
-      → (is_good (judge_of Last f) ≡ true → allowed_in k.phase (get_or (payload f) 0 0) ≡ true → (c : Command) → read_command (payload f) ≡ Meant c → NoErase c)
+      → (is_good (judge_of Last f) ≡ true → allowed_in k.phase (get_or (payload f) 0 0) ≡ true → (c : Command) → read_command (payload f) ≡ Ok c → NoErase c)
       → FallsSo a i m (command_does p k f m)
   unfolding command_does NoErase
   command-falls f n =
@@ -217,9 +217,9 @@ one-falls p o v a i s n = go (went p o v)
     left x e f = rw ((leaves p o v s).memory, e) f
 
     asks : (f : List ℕ) → taken_by o v ≡ f ∷ [] → is_good (judge_of Last f) ≡ true → allowed_in k.phase (get_or (payload f) 0 0) ≡ true
-        → (c : Command) → read_command (payload f) ≡ Meant c → NoErase p k m (stands-long o s) a i c
+        → (c : Command) → read_command (payload f) ≡ Ok c → NoErase p k m (stands-long o s) a i c
     asks f t g l c r start offset block page e x h j =
-        let b : read_command (payload f) ≡ Meant (BlockErase start) = r ∙ ap Meant e in
+        let b : read_command (payload f) ≡ Ok (BlockErase start) = r ∙ ap Ok e in
         n
         (record {
           frame = f;

@@ -48,11 +48,11 @@ use Rattle.claims_verify.proofs.Told.{two_said}
 use Rattle.frame.specs.Frame.{framed, payload}
 use Rattle.frame.specs.Judgement.{fitting, is_good, judge_of}
 use Rattle.part.proofs.Laws.{lies-place, place-lies}
-use Rattle.part.specs.Part.{blocks, described, first, page_size, place_in, place_of}
+use Rattle.part.specs.Part.{blocks, described, first, page_size, place_in, place_of, place_at}
 use Rattle.part.specs.declared.Area.{Area}
 use Rattle.part.specs.declared.Part.{Part}
 use Rattle.part.specs.declared.Place.{Place}
-use Rattle.part.specs.declared.Place.TheVariants.{In}
+use Rattle.std.specs.Prelude.{Option, Some}
 use Rattle.words.proofs.Laws.{and_right}
 use Rattle.words.specs.Words.{if◌then◌otherwise◌}
 
@@ -135,7 +135,7 @@ record Spotted (p : Part) (o : Outcome) (w : Awaited) : Type 0 where
   offset : ℕ
   block : ℕ
   page : ℕ
-  place : place_of p w.next ≡ In area offset block page
+  place : place_of p w.next ≡ Some (place_at area offset block page)
   has : block < blocks p area
   inside : offset + 256 ≤ length (bytes_in area o.memory.flash)
 
@@ -172,7 +172,7 @@ module _ (p : Part) (w : Awaited) (ds : List ℕ) (o : Outcome) (t : Spotted p o
   made : page_written p (place_of p w.next) ds o.memory ≡ record { flash = stored; sums = put_sum p t.area t.block stored o.memory.sums }
   unfolding page_written stored
   made =
-      ap (λ (x : Place). resummed p x (with_flash o.memory stored)) t.place
+      ap (λ (x : Option Place). resummed p x (with_flash o.memory stored)) t.place
       ∙ resummed-is p t.area t.offset t.block t.page (with_flash o.memory stored) t.has
 
   written-there : described p ≡ true → length o.memory.sums ≡ slots → WrittenThere p w ds o.memory (page_written p (place_of p w.next) ds o.memory)

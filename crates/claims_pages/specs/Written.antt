@@ -1,9 +1,9 @@
 -- What a page of 40h does to a chip, whatever stood where it goes: document 02, §6. What is said, the record, every byte of flash and every kept sum; and that
 -- "Pages answered 1Ch also stand in demand 3".
-use Rattle.std.specs.Prelude.{List, [], ◌++◌, ◌∷◌, ◌≢◌, ◌≡◌, ◌<◌, ℕ, get_or, length}
+use Rattle.std.specs.Prelude.{List, [], ◌++◌, ◌∷◌, ◌≢◌, ◌≡◌, ◌<◌, ℕ, get_or, length, Ok, Some}
 use Rattle.chip.specs.Run.{onward, spoken_in}
 use Rattle.chip.specs.Step.{Outcome, step_of}
-use Rattle.chip.specs.declared.Answer.TheVariants.{Replied}
+use Rattle.chip_reply.specs.Reply.{sent_as}
 use Rattle.chip.specs.declared.Event.{Event}
 use Rattle.chip_core.specs.Effect.{Memory, entered}
 use Rattle.chip_core.specs.declared.Awaited.{Awaited}
@@ -22,10 +22,9 @@ use Rattle.frame.specs.Frame.{data_frame}
 use Rattle.frame.specs.Framing.{Sound}
 use Rattle.frame.specs.declared.Footer.TheVariants.{Last}
 use Rattle.frame.specs.declared.judgement.Judgement.TheVariants.{Good}
-use Rattle.part.specs.Part.{blocks, place_of}
+use Rattle.part.specs.Part.{blocks, place_of, place_at}
 use Rattle.part.specs.declared.Area.{Area}
 use Rattle.part.specs.declared.Part.{Part}
-use Rattle.part.specs.declared.Place.TheVariants.{In}
 use Rattle.words.specs.Words.{if◌then◌otherwise◌}
 
 -- Flash and sums, whatever the status: the page is old AND new, every other byte is as it was; its block's sum is worked out afresh, every other slot is as it was.
@@ -34,7 +33,7 @@ pub record WrittenThere (p : Part) (w : Awaited) (ds : List ℕ) (m n : Memory) 
   pub offset : ℕ
   pub block : ℕ
   pub page : ℕ
-  pub place : place_of p w.next ≡ In area offset block page
+  pub place : place_of p w.next ≡ Some (place_at area offset block page)
   pub becomes : Becomes area offset (programmed (page_in (place_of p w.next) m.flash) ds) m.flash n.flash
   pub has : block < blocks p area
   pub renewed : kept n.sums area block ≡ block_sum p area block n.flash
@@ -50,7 +49,7 @@ PageWrites =
 unfoldable pub says_stored : Awaited → Utterance
 says_stored w =
     if is_last_page w
-    then record { answer = Replied 11 2; fault = Good; bytes = data_frame (0x06 ∷ 0x06 ∷ []) Last ++ data_frame (0x06 ∷ []) Last }
+    then record { answer = Ok (sent_as 11 2); fault = Good; bytes = data_frame (0x06 ∷ 0x06 ∷ []) Last ++ data_frame (0x06 ∷ []) Last }
     otherwise says_frame (0x06 ∷ 0x06 ∷ [])
 
 pub record PageTold (u : Outcome) (says : Utterance) (core : Core) : Type 0 where

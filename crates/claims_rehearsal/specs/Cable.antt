@@ -1,13 +1,14 @@
 -- The two ends of an undamaged cable: document 01, "The dock's flow". "a gap precedes every frame"; the frame's bytes come one by one, and the replies
 -- to them, one after the other, are the whole answer.
-use Rattle.std.specs.Prelude.{List, [], ◌++◌, ◌∷◌, map, suc, zero, ℕ, take}
+use Rattle.std.specs.Prelude.{List, [], ◌++◌, ◌∷◌, map, suc, zero, ℕ, take, Err, Ok, Result}
 use Rattle.chip.specs.Run.{bytes_said, onward}
 use Rattle.chip.specs.Step.{Outcome}
 use Rattle.chip.specs.declared.Event.{Event}
 use Rattle.chip.specs.declared.Event.TheVariants.{Byte, Gap}
 use Rattle.dock.specs.Calls.{ask_of, hear_of}
+use Rattle.dock.specs.declared.Report.TheVariants.{Due, Ended, Put}
+use Rattle.part.specs.declared.refusal.Refusal.{Refusal}
 use Rattle.dock.specs.declared.Report.{Report}
-use Rattle.dock.specs.declared.Report.TheVariants.{Due, Ended, Put, Refused}
 use Rattle.dock_flow.specs.Flow.{answered}
 use Rattle.dock_job.specs.Job.{is_over}
 use Rattle.dock_job.specs.declared.Dock.{Dock}
@@ -32,11 +33,11 @@ speaks p (v ∷ vs) o =
     record { said = bytes_said n.answer n.room ++ r.said; chip = r.chip }
 
 -- The frame that asking handed out.
-abbrev pub frame_in : Report → List ℕ → List ℕ
-frame_in Due room = []
-frame_in (Put n) room = take n room
-frame_in (Ended a) room = []
-frame_in (Refused r) room = []
+abbrev pub frame_in : Result Report Refusal → List ℕ → List ℕ
+frame_in (Ok Due) room = []
+frame_in (Ok (Put n)) room = take n room
+frame_in (Ok (Ended a)) room = []
+frame_in (Err r) room = []
 
 -- One frame and its answer, in the dock's room.
 unfoldable pub exchange : Job → List ℕ → List ℕ → Ends → Ends

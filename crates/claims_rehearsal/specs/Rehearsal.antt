@@ -1,5 +1,5 @@
 -- A job of two blocks over flash that is not blank, on a chip that has its mode byte.
-use Rattle.std.specs.Prelude.{Bool, false, true, List, [], ◌++◌, ◌∷◌, ◌≡◌, ◌%◌, ◌*◌, ◌/◌, suc, zero, ℕ, replicate}
+use Rattle.std.specs.Prelude.{Bool, false, true, List, [], ◌++◌, ◌∷◌, ◌≡◌, ◌%◌, ◌*◌, ◌/◌, suc, zero, ℕ, replicate, Ok}
 use Rattle.chip.specs.Run.{before}
 use Rattle.chip.specs.Step.{Outcome}
 use Rattle.claims_rehearsal.specs.Cable.{Ends, cable}
@@ -11,14 +11,12 @@ use Rattle.frame.specs.Collector.{fresh}
 use Rattle.frame.specs.Framing.{frames}
 use Rattle.dock_job.specs.Job.{bound}
 use Rattle.dock_job.specs.declared.Dock.{Dock}
-use Rattle.dock_job.specs.declared.Ending.TheVariants.{Finished}
 use Rattle.dock_job.specs.declared.Job.{Job}
 use Rattle.dock_job.specs.declared.Stage.TheVariants.{Over}
 use Rattle.lent.specs.Lent.{same}
 use Rattle.chip_options.specs.Options.{fresh_options}
 use Rattle.chip_sums.specs.Sums.{all_summed, slots, summing, worked_out}
 use Rattle.part.specs.declared.Part.{Part}
-use Rattle.part.specs.declared.refusal.Verdict.TheVariants.{Accepted}
 use Rattle.words.specs.Words.{◌and◌}
 
 abbrev pub rehearsal_part : Part
@@ -56,7 +54,7 @@ abbrev pub old_sums : List ℕ
 old_sums = replicate 8 0xF800 ++ (replicate 56 0 ++ 0xA400 ∷ replicate 7 0)
 
 abbrev pub OldSums : Type 0
-OldSums = worked_out rehearsal_part (flash old_code old_data) (replicate slots 0) ≡ summing Accepted old_sums
+OldSums = worked_out rehearsal_part (flash old_code old_data) (replicate slots 0) ≡ summing (Ok tt) old_sums
 
 unfoldable pub the_chip : Outcome
 the_chip =
@@ -82,7 +80,7 @@ rehearsed_data = rehearse the_data_job the_data_image
 
 -- A job that is finished after so many frames, with no retry.
 abbrev pub finished_after : ℕ → Dock
-finished_after n = record { stage = Over Finished; awaited = false; retries = 0; frames = n }
+finished_after n = record { stage = Over (Ok tt); awaited = false; retries = 0; frames = n }
 
 -- A chip that is ready at a rate, with its options as they were.
 abbrev pub ready_at : ℕ → Core

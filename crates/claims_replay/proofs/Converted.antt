@@ -21,17 +21,18 @@ use Rattle.claims_replay.specs.Converted.{SameLines}
 use Rattle.claims_replay.specs.Pieces.{fresh_start, while_on}
 use Rattle.claims_replay.specs.Printed.{Upshot, last_line, lines, printed}
 use Rattle.conversion.specs.Conversion.{Converting, convert_of, held_by_old, other, rewritten}
-use Rattle.conversion.specs.declared.Converted.TheVariants.{Wrote}
+use Rattle.replay_capture.specs.declared.Record.TheVariants.{BytesRecord, GapRecord, OtherSeat}
+use Rattle.replay_capture.specs.declared.BadRecord.{BadRecord}
+use Rattle.replay_capture.specs.declared.Record.{Record}
+use Rattle.std.specs.Prelude.{Err, Ok, Result}
 use Rattle.part.specs.declared.Part.{Part}
 use Rattle.replay_capture.specs.Capture.{carried_bytes, good_record, record_of}
 use Rattle.replay_capture.specs.declared.Form.{Form}
-use Rattle.replay_capture.specs.declared.Record.{Record}
-use Rattle.replay_capture.specs.declared.Record.TheVariants.{BadRecord, BytesRecord, GapRecord, OtherSeat}
 use Rattle.replay_play.specs.Play.{events_of}
 use Rattle.replay_records.specs.Records.{replay_part}
 
 -- One record.
-same-events : (from : Form) (r s : List ℕ) (e : Record) → SameRecord from r s → RecordIs from r e → events_of (other from) e s ≡ events_of from e r
+same-events : (from : Form) (r s : List ℕ) (e : Result Record BadRecord) → SameRecord from r s → RecordIs from r e → events_of (other from) e s ≡ events_of from e r
 unfolding events_of
 same-events from r s e x (is_bad g) = refl
 same-events from r s e x (is_other g q) = refl
@@ -43,7 +44,7 @@ same_next : (from : Form) (p : Part) (r : List ℕ) (g : Upshot) → good_record
     → next_upshot (other from) p (rewritten from r) g ≡ next_upshot from p r g
 unfolding next_upshot record_upshot
 same_next from p r g good held =
-    ap (λ (e : Record). record_upshot (other from) e p s g) x.played ∙ go (record_of from r) (same-events from r s (record_of from r) x (record-of-is from r))
+    ap (λ (e : Result Record BadRecord). record_upshot (other from) e p s g) x.played ∙ go (record_of from r) (same-events from r s (record_of from r) x (record-of-is from r))
   where
     s : List ℕ
     s = rewritten from r
@@ -51,11 +52,11 @@ same_next from p r g good held =
     x : SameRecord from r s
     x = rewritten-is-same from r good held
 
-    go : (e : Record) → events_of (other from) e s ≡ events_of from e r → record_upshot (other from) e p s g ≡ record_upshot from e p r g
-    go GapRecord h = ap (λ (vs : List Event). events_upshot p vs g) h
-    go (BytesRecord n) h = ap (λ (vs : List Event). events_upshot p vs g) h
-    go OtherSeat h = ap (λ (vs : List Event). events_upshot p vs g) h
-    go BadRecord h = refl
+    go : (e : Result Record BadRecord) → events_of (other from) e s ≡ events_of from e r → record_upshot (other from) e p s g ≡ record_upshot from e p r g
+    go (Ok GapRecord) h = ap (λ (vs : List Event). events_upshot p vs g) h
+    go (Ok (BytesRecord n)) h = ap (λ (vs : List Event). events_upshot p vs g) h
+    go (Ok OtherSeat) h = ap (λ (vs : List Event). events_upshot p vs g) h
+    go (Err _) h = refl
 
 -- Records one after the other.
 same-upshots : (from : Form) (p : Part) (rs : List (List ℕ)) (g : Upshot) → AllPass (good_record from) rs → AllPass (held_by_old from) rs
@@ -83,7 +84,7 @@ same_lines from capture output n e = go (answer-is from capture output) e
         ∙ same-upshots from replay_part (records_from from capture) fresh_start a b
         ∙ sym (fresh-upshot from capture))
 
-    go : {x : Converting} → Answered from capture output x → x.converted ≡ Wrote n
+    go : {x : Converting} → Answered from capture output x → x.converted ≡ Ok n
         → printed (other from) (take n (convert_of from capture output).output) ≡ printed from capture
     go (bad k y) p = absurd (let z : ◌≡◌ {A = ℕ} 0 1 = cc in omega arith)
     go (not_held k g y) p = absurd (let z : ◌≡◌ {A = ℕ} 0 1 = cc in omega arith)

@@ -10,14 +10,14 @@ use lib.Seq.{drop_at, take_at}
 use borrow.Author.Tests.{eqb-true}
 use Rattle.chip.specs.Run.{bytes_said, onward}
 use Rattle.chip.specs.Step.{Outcome}
-use Rattle.chip.specs.declared.Answer.{Answer}
-use Rattle.chip.specs.declared.Answer.TheVariants.{Replied}
-use Rattle.chip.specs.declared.Answer.TheVariants as Answer
+use Rattle.part.specs.declared.refusal.Refusal.{Refusal}
+use Rattle.chip_reply.specs.declared.Sent.{Sent}
+use Rattle.std.specs.Prelude.{Err, Ok, Result}
 use Rattle.chip.specs.declared.Event.{Event}
 use Rattle.chip_options.proofs.Laws.{security-long}
 use Rattle.chip_options.specs.Options.{security}
 use Rattle.chip_options.specs.declared.Options.{Options}
-use Rattle.chip_reply.specs.Reply.{frames_of, payloads}
+use Rattle.chip_reply.specs.Reply.{frames_of, payloads, sent_as}
 use Rattle.chip_reply.specs.declared.Reply.{Reply}
 use Rattle.chip_reply.specs.declared.Reply.TheVariants.{BadFrame, BadPage, LastStored, Pair, Rate, Security, Signature, Silence, Status, Sum}
 use Rattle.claims_frame.proofs.RoundTrip.{framed-whole}
@@ -124,7 +124,7 @@ played-frames p (v ∷ vs) x s (and_event h q) r =
     o : Outcome
     o = onward p x.left v
 
-    go : (a : Answer) → FramesIn (bytes_said a o.room) → ((y : Playing) → Stands p y.left → FramesIn y.said → FramesIn (played p vs y).said)
+    go : (a : Result Sent Refusal) → FramesIn (bytes_said a o.room) → ((y : Playing) → Stands p y.left → FramesIn y.said → FramesIn (played p vs y).said)
         → FramesIn (goes_on a (played p vs (answering a o x)) (answering a o x)).said
-    go (Replied n k) f rest = rest (answering (Replied n k) o x) (stays p x.left v s h) (frames-append r f)
-    go (Answer.Refused q) f rest = r
+    go (Ok sent) f rest = rest (answering (Ok (sent_as sent.bytes sent.frames)) o x) (stays p x.left v s h) (frames-append r f)
+    go (Err q) f rest = r

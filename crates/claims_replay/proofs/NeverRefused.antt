@@ -10,13 +10,20 @@ use lib.Seq.{length-take-le}
 use borrow.Author.Tests.{le-ltb}
 use Rattle.replay_capture.specs.Capture.{carried_bytes, head_size, record_of, record_size, records_in, records_of}
 use Rattle.replay_capture.specs.declared.Form.{Form}
+use Rattle.chip_reply.specs.Reply.{sent_as}
+use Rattle.replay_play.specs.declared.Unplayed.TheVariants as Unplayed
+use Rattle.replay_play.specs.declared.Unplayed.TheVariants.{NotGood, OutputShort}
+use Rattle.replay_play.specs.declared.Unplayed.{Unplayed}
+use Rattle.replay_records.specs.declared.Halt.TheVariants as Halt
+use Rattle.replay_records.specs.declared.Halt.TheVariants.{OutputFull}
+use Rattle.replay_records.specs.declared.Halt.{Halt}
+use Rattle.chip_reply.specs.declared.Sent.{Sent}
+use Rattle.replay_capture.specs.declared.Record.TheVariants.{BytesRecord, GapRecord, OtherSeat}
+use Rattle.replay_capture.specs.declared.BadRecord.{BadRecord}
 use Rattle.replay_capture.specs.declared.Record.{Record}
-use Rattle.replay_capture.specs.declared.Record.TheVariants.{BadRecord, BytesRecord, GapRecord, OtherSeat}
+use Rattle.std.specs.Prelude.{Err, Ok, Result}
 use Rattle.chip.specs.Run.{answers, before, onward, spoken_in}
 use Rattle.chip.specs.Step.{Outcome}
-use Rattle.chip.specs.declared.Answer.{Answer}
-use Rattle.chip.specs.declared.Answer.TheVariants.{Replied}
-use Rattle.chip.specs.declared.Answer.TheVariants as Answer
 use Rattle.chip_state.specs.declared.Chip.{Chip}
 use Rattle.chip.specs.declared.Event.{Event}
 use Rattle.chip.specs.declared.Event.TheVariants.{Byte, Gap}
@@ -31,12 +38,6 @@ use Rattle.part.specs.declared.refusal.Refusal.{Refusal}
 use Rattle.replay_play.proofs.Laws.{goes-replied, play-fits, play-keeps}
 use Rattle.replay_records.specs.Records.{Replaying, after_record, next_by, replay_of, replayed_from, while_whole}
 use Rattle.replay_play.specs.Play.{Playing, RecordPlaying, events_of, played_into, output_least, played, answering, before_playing, play_by, play_of, play_with, ended_by}
-use Rattle.replay_records.specs.declared.Ended.{Ended}
-use Rattle.replay_records.specs.declared.Ended.TheVariants.{OutputFull, Whole}
-use Rattle.replay_records.specs.declared.Ended.TheVariants as Ended
-use Rattle.replay_play.specs.declared.RecordEnded.{RecordEnded}
-use Rattle.replay_play.specs.declared.RecordEnded.TheVariants.{NotGood, OutputShort, Played}
-use Rattle.replay_play.specs.declared.RecordEnded.TheVariants as RecordEnded
 use Rattle.words.specs.Words.{if◌then◌otherwise◌}
 
 -- An outcome stands whatever its last answer was.
@@ -54,13 +55,13 @@ one-answered p v o s e = go (never-refused p (v ∷ []) o s (and_event e no_even
 pub record Plays (p : Part) (x : Playing) : Type 0 where
   pub bytes : ℕ
   pub frames : ℕ
-  pub replied : x.left.answer ≡ Replied bytes frames
+  pub replied : x.left.answer ≡ Ok (sent_as bytes frames)
   pub stands : Stands p x.left
 
-saying-left : (a : Answer) (o : Outcome) (x : Playing) → (answering a o x).left ≡ o
+saying-left : (a : Result Sent Refusal) (o : Outcome) (x : Playing) → (answering a o x).left ≡ o
 unfolding answering
-saying-left (Replied n k) o x = refl
-saying-left (Answer.Refused r) o x = refl
+saying-left (Ok sent) o x = refl
+saying-left (Err r) o x = refl
 
 pub plays : (p : Part) (vs : List Event) (x : Playing) → Plays p x → AllProper vs → Plays p (played p vs x)
 unfolding played
@@ -85,19 +86,19 @@ all-bytes (b ∷ bs) (more h r) = and_event (a_byte h) (all-bytes bs r)
 
 -- What a record's turn leaves, where its output suffices.
 pub record Turns (p : Part) (t : RecordPlaying) : Type 0 where
-  pub goes : (r : Refusal) → t.ended ≡ RecordEnded.Refused r → ⊥
-  pub fits : t.ended ≡ OutputShort → ⊥
+  pub goes : (r : Refusal) → t.ended ≡ Err (Unplayed.Refused r) → ⊥
+  pub fits : t.ended ≡ Err OutputShort → ⊥
   pub stands : Stands p (before t.chip t.memory t.room)
 
-by-goes : (a : Answer) (n k : ℕ) (x : Playing) → a ≡ Replied n k → (r : Refusal) → ended_by a x ≡ RecordEnded.Refused r → ⊥
+by-goes : (a : Result Sent Refusal) (n k : ℕ) (x : Playing) → a ≡ Ok (sent_as n k) → (r : Refusal) → ended_by a x ≡ Err (Unplayed.Refused r) → ⊥
 unfolding ended_by
-by-goes (Replied i j) n k x e r q = let z : ◌≡◌ {A = ℕ} 0 1 = cc in omega arith
-by-goes (Answer.Refused s) n k x e r q = let z : ◌≡◌ {A = ℕ} 0 1 = cc in omega arith
+by-goes (Ok sent) n k x e r q = let z : ◌≡◌ {A = ℕ} 0 1 = cc in omega arith
+by-goes (Err s) n k x e r q = let z : ◌≡◌ {A = ℕ} 0 1 = cc in omega arith
 
-by_fits : (a : Answer) (x : Playing) → ended_by a x ≡ OutputShort → ⊥
+by_fits : (a : Result Sent Refusal) (x : Playing) → ended_by a x ≡ Err OutputShort → ⊥
 unfolding ended_by
-by_fits (Replied i j) x q = let z : ◌≡◌ {A = ℕ} 0 1 = cc in omega arith
-by_fits (Answer.Refused s) x q = let z : ◌≡◌ {A = ℕ} 0 1 = cc in omega arith
+by_fits (Ok sent) x q = let z : ◌≡◌ {A = ℕ} 0 1 = cc in omega arith
+by_fits (Err s) x q = let z : ◌≡◌ {A = ℕ} 0 1 = cc in omega arith
 
 kept-turns : (p : Part) (x : Playing) (output : List ℕ) → Plays p x → Turns p (played_into x output)
 unfolding played_into
@@ -115,11 +116,11 @@ pub turn-plays : (form : Form) (p : Part) (bs : List ℕ) (c : Chip) (m : Memory
 unfolding play_of play_by events_of
 turn-plays form p bs c m room output s b h = go (record_of form bs)
   where
-    go : (r : Record) → Turns p (play_by form r p bs c m room output)
-    go GapRecord = with-turns form p (Gap ∷ []) c m room output s (and_event a_gap no_event) h
-    go (BytesRecord n) = with-turns form p (map Byte (carried_bytes form n bs)) c m room output s (all-bytes (carried_bytes form n bs) (below-take 256 n (below-drop 256 (head_size form) b))) h
-    go OtherSeat = with-turns form p [] c m room output s no_event h
-    go BadRecord = record { goes = λ r e. let z : ◌≡◌ {A = ℕ} 0 1 = cc in omega arith; fits = λ e. let z : ◌≡◌ {A = ℕ} 0 1 = cc in omega arith; stands = s }
+    go : (r : Result Record BadRecord) → Turns p (play_by form r p bs c m room output)
+    go (Ok GapRecord) = with-turns form p (Gap ∷ []) c m room output s (and_event a_gap no_event) h
+    go (Ok (BytesRecord n)) = with-turns form p (map Byte (carried_bytes form n bs)) c m room output s (all-bytes (carried_bytes form n bs) (below-take 256 n (below-drop 256 (head_size form) b))) h
+    go (Ok OtherSeat) = with-turns form p [] c m room output s no_event h
+    go (Err _) = record { goes = λ r e. let z : ◌≡◌ {A = ℕ} 0 1 = cc in omega arith; fits = λ e. let z : ◌≡◌ {A = ℕ} 0 1 = cc in omega arith; stands = s }
 
 -- A whole capture: with output for every record it is never halted.
 pub data AllBelow : List (List ℕ) → Type 0 where
@@ -128,13 +129,13 @@ pub data AllBelow : List (List ℕ) → Type 0 where
 
 pub record Goes (form : Form) (p : Part) (rs : List (List ℕ)) (x : Replaying) : Type 0 where
   pub stands : Stands p (before x.chip x.memory x.room)
-  pub whole : x.ended ≡ Whole
+  pub whole : x.ended ≡ Ok tt
   pub within : x.bytes ≤ length x.output
   pub enough : output_least form * length rs + x.bytes ≤ length x.output
 
 goes_on : (form : Form) (p : Part) (r : List ℕ) (rs : List (List ℕ)) (x : Replaying) (n k : ℕ) → Goes form p (r ∷ rs) x → Below 256 r
-    → (play_of form p r x.chip x.memory x.room (drop x.bytes x.output)).ended ≡ Played n k
-    → Goes form p rs (after_record Whole 1 n k (play_of form p r x.chip x.memory x.room (drop x.bytes x.output)) x)
+    → (play_of form p r x.chip x.memory x.room (drop x.bytes x.output)).ended ≡ Ok (sent_as n k)
+    → Goes form p rs (after_record (Ok tt) 1 n k (play_of form p r x.chip x.memory x.room (drop x.bytes x.output)) x)
 goes_on form p r rs x n k g b e =
     let l = drop x.bytes x.output in
     let w : length l ≡ length x.output - x.bytes = length-drop x.bytes x.output in
@@ -154,14 +155,14 @@ goes_on form p r rs x n k g b e =
 -- What it leaves: no refusal and no want of output, and a chip that stands.
 pub record Unhalted (p : Part) (x : Replaying) : Type 0 where
   pub stands : Stands p (before x.chip x.memory x.room)
-  pub unrefused : (q : Refusal) → x.ended ≡ Ended.Refused q → ⊥
-  pub unfilled : x.ended ≡ OutputFull → ⊥
+  pub unrefused : (q : Refusal) → x.ended ≡ Err (Halt.Refused q) → ⊥
+  pub unfilled : x.ended ≡ Err OutputFull → ⊥
 
-not-whole : {x : Ended} (q : Refusal) → x ≡ Whole → x ≡ Ended.Refused q → ⊥
-not-whole q e f = let z : ◌≡◌ {A = Ended} Whole (Ended.Refused q) = sym e ∙ f in let y : ◌≡◌ {A = ℕ} 0 1 = cc in omega arith
+not-whole : {x : Result Unit Halt} (q : Refusal) → x ≡ Ok tt → x ≡ Err (Halt.Refused q) → ⊥
+not-whole q e f = let z : ◌≡◌ {A = Result Unit Halt} (Ok tt) (Err (Halt.Refused q)) = sym e ∙ f in let y : ◌≡◌ {A = ℕ} 0 1 = cc in omega arith
 
-not_full : {x : Ended} → x ≡ Whole → x ≡ OutputFull → ⊥
-not_full e f = let z : ◌≡◌ {A = Ended} Whole OutputFull = sym e ∙ f in let y : ◌≡◌ {A = ℕ} 0 1 = cc in omega arith
+not_full : {x : Result Unit Halt} → x ≡ Ok tt → x ≡ Err OutputFull → ⊥
+not_full e f = let z : ◌≡◌ {A = Result Unit Halt} (Ok tt) (Err OutputFull) = sym e ∙ f in let y : ◌≡◌ {A = ℕ} 0 1 = cc in omega arith
 
 pub replayed-unhalted : (form : Form) (p : Part) (rs : List (List ℕ)) (x : Replaying) → AllBelow rs → Goes form p rs x → Unhalted p (replayed_from form p rs x)
 unfolding replayed_from while_whole next_by
@@ -177,12 +178,12 @@ replayed-unhalted form p (r ∷ rs) x (and_record b bs) g = go t.ended refl (λ 
     turns : Turns p t
     turns = turn-plays form p r x.chip x.memory x.room (drop x.bytes x.output) g.stands b room
 
-    go : (a : RecordEnded) → t.ended ≡ a → ((y : Replaying) → Goes form p rs y → Unhalted p (replayed_from form p rs y))
+    go : (a : Result Sent Unplayed) → t.ended ≡ a → ((y : Replaying) → Goes form p rs y → Unhalted p (replayed_from form p rs y))
         → Unhalted p (while_whole (next_by a t x).ended (replayed_from form p rs (next_by a t x)) (next_by a t x))
-    go (Played n k) e rest = rest (after_record Whole 1 n k t x) (goes_on form p r rs x n k g b e)
-    go NotGood e rest = record { stands = turns.stands; unrefused = λ q f. let z : ◌≡◌ {A = ℕ} 0 1 = cc in omega arith; unfilled = λ f. let z : ◌≡◌ {A = ℕ} 0 1 = cc in omega arith }
-    go OutputShort e rest = absurd (turns.fits e)
-    go (RecordEnded.Refused s) e rest = absurd (turns.goes s e)
+    go (Ok sent) e rest = rest (after_record (Ok tt) 1 sent.bytes sent.frames t x) (goes_on form p r rs x sent.bytes sent.frames g b e)
+    go (Err NotGood) e rest = record { stands = turns.stands; unrefused = λ q f. let z : ◌≡◌ {A = ℕ} 0 1 = cc in omega arith; unfilled = λ f. let z : ◌≡◌ {A = ℕ} 0 1 = cc in omega arith }
+    go (Err OutputShort) e rest = absurd (turns.fits e)
+    go (Err (Unplayed.Refused s)) e rest = absurd (turns.goes s e)
 
 pub records-below : (size most : ℕ) (bs : List ℕ) → Below 256 bs → AllBelow (records_in size most bs)
 unfolding records_in
@@ -195,15 +196,15 @@ pub replay-unhalted : (form : Form) (p : Part) (capture : List ℕ) (c : Chip) (
 unfolding replay_of records_of
 replay-unhalted form p capture c m room output s b h =
     replayed-unhalted form p (records_in (record_size form) (length capture) capture)
-    (record { ended = Whole; records = 0; bytes = 0; frames = 0; chip = c; memory = m; room = room; output = output })
+    (record { ended = Ok tt; records = 0; bytes = 0; frames = 0; chip = c; memory = m; room = room; output = output })
     (records-below (record_size form) (length capture) capture b)
     (record { stands = s; whole = refl; within = omega arith; enough = omega (arith, h) })
 
 pub never-halted : (form : Form) (p : Part) (capture : List ℕ) (c : Chip) (m : Memory) (room output : List ℕ) → Stands p (before c m room) → Below 256 capture
-    → output_least form * length (records_of (record_size form) capture) ≤ length output → (q : Refusal) → (replay_of form p capture c m room output).ended ≡ Ended.Refused q → ⊥
+    → output_least form * length (records_of (record_size form) capture) ≤ length output → (q : Refusal) → (replay_of form p capture c m room output).ended ≡ Err (Halt.Refused q) → ⊥
 never-halted form p capture c m room output s b h q e = (replay-unhalted form p capture c m room output s b h).unrefused q e
 
 -- And never for want of output.
 pub never-filled : (form : Form) (p : Part) (capture : List ℕ) (c : Chip) (m : Memory) (room output : List ℕ) → Stands p (before c m room) → Below 256 capture
-    → output_least form * length (records_of (record_size form) capture) ≤ length output → (replay_of form p capture c m room output).ended ≡ OutputFull → ⊥
+    → output_least form * length (records_of (record_size form) capture) ≤ length output → (replay_of form p capture c m room output).ended ≡ Err OutputFull → ⊥
 never-filled form p capture c m room output s b h e = (replay-unhalted form p capture c m room output s b h).unfilled e

@@ -12,13 +12,21 @@ use Rattle.replay_capture.specs.Capture.{carried_bytes, head_size, record_of, re
 use Rattle.replay_capture.specs.declared.Form.{Form}
 use Rattle.replay_capture.specs.declared.Form.TheVariants.{New, Old}
 use Rattle.claims_capture.proofs.Records.{records-append}
+use Rattle.chip_reply.specs.Reply.{sent_as}
+use Rattle.replay_play.specs.declared.Unplayed.TheVariants as Unplayed
+use Rattle.replay_play.specs.declared.Unplayed.TheVariants.{NotGood, OutputShort}
+use Rattle.replay_play.specs.declared.Unplayed.{Unplayed}
+use Rattle.replay_records.specs.declared.Halt.TheVariants as Halt
+use Rattle.replay_records.specs.declared.Halt.TheVariants.{AtBadRecord, OutputFull}
+use Rattle.replay_records.specs.declared.Halt.{Halt}
+use Rattle.part.specs.declared.refusal.Refusal.{Refusal}
+use Rattle.chip_reply.specs.declared.Sent.{Sent}
+use Rattle.replay_capture.specs.declared.Record.TheVariants.{BytesRecord, GapRecord, OtherSeat}
+use Rattle.replay_capture.specs.declared.BadRecord.{BadRecord}
 use Rattle.replay_capture.specs.declared.Record.{Record}
-use Rattle.replay_capture.specs.declared.Record.TheVariants.{BadRecord, BytesRecord, GapRecord, OtherSeat}
+use Rattle.std.specs.Prelude.{Err, Ok, Result}
 use Rattle.chip.specs.Run.{before}
 use Rattle.chip.specs.Step.{fresh_chip}
-use Rattle.chip.specs.declared.Answer.{Answer}
-use Rattle.chip.specs.declared.Answer.TheVariants.{Replied}
-use Rattle.chip.specs.declared.Answer.TheVariants as Answer
 use Rattle.chip.specs.declared.Event.{Event}
 use Rattle.chip.specs.declared.Event.TheVariants.{Byte, Gap}
 use Rattle.chip_state.specs.declared.Chip.{Chip}
@@ -38,19 +46,13 @@ use Rattle.part.specs.declared.Part.{Part}
 use Rattle.replay_play.proofs.Laws.{play-fits, play-keeps}
 use Rattle.replay_records.specs.Records.{Replaying, after_record, next_by, next_of, replay_of, replay_part, replayed_from, while_whole}
 use Rattle.replay_play.specs.Play.{Playing, RecordPlaying, before_playing, ended_by, events_of, output_least, play_by, play_of, play_with, played, played_into}
-use Rattle.replay_records.specs.declared.Ended.{Ended}
-use Rattle.replay_records.specs.declared.Ended.TheVariants.{AtBadRecord, OutputFull, Whole}
-use Rattle.replay_records.specs.declared.Ended.TheVariants as Ended
-use Rattle.replay_play.specs.declared.RecordEnded.{RecordEnded}
-use Rattle.replay_play.specs.declared.RecordEnded.TheVariants.{NotGood, OutputShort, Played}
-use Rattle.replay_play.specs.declared.RecordEnded.TheVariants as RecordEnded
 use Rattle.words.specs.Words.{if◌then◌otherwise◌}
 
 -- The upshot of one more record.
-unfoldable pub played_upshot : Answer → Playing → Upshot → Upshot
-played_upshot (Replied n k) y g =
+unfoldable pub played_upshot : Result Sent Refusal → Playing → Upshot → Upshot
+played_upshot (Ok sent) y g =
     record {
-      ended = Whole;
+      ended = Ok tt;
       records = g.records + 1;
       frames = g.frames + y.frames;
       said = g.said ++ y.said;
@@ -58,9 +60,9 @@ played_upshot (Replied n k) y g =
       memory = y.left.memory;
       room = y.left.room;
     }
-played_upshot (Answer.Refused r) y g =
+played_upshot (Err r) y g =
     record {
-      ended = Ended.Refused r;
+      ended = Err (Halt.Refused r);
       records = g.records + 0;
       frames = g.frames + 0;
       said = g.said;
@@ -72,13 +74,13 @@ played_upshot (Answer.Refused r) y g =
 unfoldable pub events_upshot : Part → List Event → Upshot → Upshot
 events_upshot p vs g = let y = played p vs (before_playing g.chip g.memory g.room) in played_upshot y.left.answer y g
 
-unfoldable pub record_upshot : Form → Record → Part → List ℕ → Upshot → Upshot
-record_upshot form GapRecord p bs g = events_upshot p (events_of form GapRecord bs) g
-record_upshot form (BytesRecord n) p bs g = events_upshot p (events_of form (BytesRecord n) bs) g
-record_upshot form OtherSeat p bs g = events_upshot p (events_of form OtherSeat bs) g
-record_upshot form BadRecord p bs g =
+unfoldable pub record_upshot : Form → Result Record BadRecord → Part → List ℕ → Upshot → Upshot
+record_upshot form (Ok GapRecord) p bs g = events_upshot p (events_of form (Ok GapRecord) bs) g
+record_upshot form (Ok (BytesRecord n)) p bs g = events_upshot p (events_of form (Ok (BytesRecord n)) bs) g
+record_upshot form (Ok OtherSeat) p bs g = events_upshot p (events_of form (Ok OtherSeat) bs) g
+record_upshot form (Err _) p bs g =
     record {
-      ended = AtBadRecord;
+      ended = Err AtBadRecord;
       records = g.records + 0;
       frames = g.frames + 0;
       said = g.said;
@@ -95,7 +97,7 @@ upshot_from form p [] g = g
 upshot_from form p (r ∷ rs) g = while_on (next_upshot form p r g).ended (upshot_from form p rs (next_upshot form p r g)) (next_upshot form p r g)
 
 -- Two upshots that agree in what they count and say.
-pub same-upshot : (e : Ended) (c : Chip) (m : Memory) (room : List ℕ) {i j k l : ℕ} {s t : List ℕ} → i ≡ j → k ≡ l → s ≡ t
+pub same-upshot : (e : Result Unit Halt) (c : Chip) (m : Memory) (room : List ℕ) {i j k l : ℕ} {s t : List ℕ} → i ≡ j → k ≡ l → s ≡ t
     → ◌≡◌ {A = Upshot} (record { ended = e; records = i; frames = k; said = s; chip = c; memory = m; room = room })
     (record { ended = e; records = j; frames = l; said = t; chip = c; memory = m; room = room })
 same-upshot e c m room p q r = rw (p, q, r)
@@ -112,13 +114,13 @@ module _ (form : Form) (p : Part) (r : List ℕ) (x : Replaying) (within : x.byt
   rest : List ℕ
   rest = drop x.bytes x.output
 
-  played-upshot : (a : Answer) (y : Playing) → upshot_of (next_by (ended_by a y) (played_into y rest) x) ≡ played_upshot a y (upshot_of x)
+  played-upshot : (a : Result Sent Refusal) (y : Playing) → upshot_of (next_by (ended_by a y) (played_into y rest) x) ≡ played_upshot a y (upshot_of x)
   unfolding next_by ended_by played_into played_upshot
-  played-upshot (Replied n k) y =
-      same-upshot Whole _ _ _ refl refl
+  played-upshot (Ok sent) y =
+      same-upshot (Ok tt) _ _ _ refl refl
       (grown x.output (y.said ++ drop (length y.said) rest) x.bytes (length y.said) within
       ∙ ap (λ (s : List ℕ). take x.bytes x.output ++ s) (take-append_seam y.said (drop (length y.said) rest)))
-  played-upshot (Answer.Refused q) y = same-upshot (Ended.Refused q) _ _ _ refl refl (grown-none x.output _ x.bytes within)
+  played-upshot (Err q) y = same-upshot (Err (Halt.Refused q)) _ _ _ refl refl (grown-none x.output _ x.bytes within)
 
   events-upshot : (vs : List Event) → let t = play_with form vs p x.chip x.memory x.room rest in upshot_of (next_by t.ended t x) ≡ events_upshot p vs (upshot_of x)
   unfolding rest play_with played_into events_upshot if◌then◌otherwise◌
@@ -126,12 +128,12 @@ module _ (form : Form) (p : Part) (r : List ℕ) (x : Replaying) (within : x.byt
       let y = played p vs (before_playing x.chip x.memory x.room) in
       rw (le-ltb (length (drop x.bytes x.output)) (output_least form) roomy) (played-upshot y.left.answer y)
 
-  record-upshot : (k : Record) → let t = play_by form k p r x.chip x.memory x.room rest in upshot_of (next_by t.ended t x) ≡ record_upshot form k p r (upshot_of x)
+  record-upshot : (k : Result Record BadRecord) → let t = play_by form k p r x.chip x.memory x.room rest in upshot_of (next_by t.ended t x) ≡ record_upshot form k p r (upshot_of x)
   unfolding play_by record_upshot next_by
-  record-upshot GapRecord = events-upshot (events_of form GapRecord r)
-  record-upshot (BytesRecord n) = events-upshot (events_of form (BytesRecord n) r)
-  record-upshot OtherSeat = events-upshot (events_of form OtherSeat r)
-  record-upshot BadRecord = same-upshot AtBadRecord _ _ _ refl refl (grown-none x.output rest x.bytes within)
+  record-upshot (Ok GapRecord) = events-upshot (events_of form (Ok GapRecord) r)
+  record-upshot (Ok (BytesRecord n)) = events-upshot (events_of form (Ok (BytesRecord n)) r)
+  record-upshot (Ok OtherSeat) = events-upshot (events_of form (Ok OtherSeat) r)
+  record-upshot (Err _) = same-upshot (Err AtBadRecord) _ _ _ refl refl (grown-none x.output rest x.bytes within)
 
   next-upshot : upshot_of (next_of form p r x) ≡ next_upshot form p r (upshot_of x)
   unfolding rest play_of next_upshot
@@ -146,8 +148,8 @@ room-left : (form : Form) (r : List ℕ) (rs : List (List ℕ)) (x : Replaying) 
 room-left form r rs x g = omega (arith, length-drop x.bytes x.output, g.enough)
 
 enough-next : (form : Form) (p : Part) (r : List ℕ) (rs : List (List ℕ)) (x : Replaying) (n k : ℕ) → Arrays p → Enough form (r ∷ rs) x
-    → (play_of form p r x.chip x.memory x.room (drop x.bytes x.output)).ended ≡ Played n k
-    → Enough form rs (after_record Whole 1 n k (play_of form p r x.chip x.memory x.room (drop x.bytes x.output)) x)
+    → (play_of form p r x.chip x.memory x.room (drop x.bytes x.output)).ended ≡ Ok (sent_as n k)
+    → Enough form rs (after_record (Ok tt) 1 n k (play_of form p r x.chip x.memory x.room (drop x.bytes x.output)) x)
 enough-next form p r rs x n k a g e =
     let l = drop x.bytes x.output in
     let w : length l ≡ length x.output - x.bytes = length-drop x.bytes x.output in
@@ -172,40 +174,40 @@ replayed-upshot form p (r ∷ rs) x a g =
     t : RecordPlaying
     t = play_of form p r x.chip x.memory x.room (drop x.bytes x.output)
 
-    go : (b : RecordEnded) → t.ended ≡ b → ((y : Replaying) → Enough form rs y → upshot_of (replayed_from form p rs y) ≡ upshot_from form p rs (upshot_of y))
+    go : (b : Result Sent Unplayed) → t.ended ≡ b → ((y : Replaying) → Enough form rs y → upshot_of (replayed_from form p rs y) ≡ upshot_from form p rs (upshot_of y))
         → upshot_of (while_whole (next_by b t x).ended (replayed_from form p rs (next_by b t x)) (next_by b t x)) ≡ then_upshot form p rs (upshot_of (next_by b t x))
-    go (Played n k) e rest = rest (after_record Whole 1 n k t x) (enough-next form p r rs x n k a g e)
-    go NotGood e rest = refl
-    go OutputShort e rest = refl
-    go (RecordEnded.Refused s) e rest = refl
+    go (Ok sent) e rest = rest (after_record (Ok tt) 1 sent.bytes sent.frames t x) (enough-next form p r rs x sent.bytes sent.frames a g e)
+    go (Err NotGood) e rest = refl
+    go (Err OutputShort) e rest = refl
+    go (Err (Unplayed.Refused s)) e rest = refl
 
 replay-upshot : (form : Form) (p : Part) (capture : List ℕ) (c : Chip) (m : Memory) (room output : List ℕ) → Arrays p → output_least form * length (records_of (record_size form) capture) ≤ length output
     → upshot_of (replay_of form p capture c m room output) ≡ upshot_from form p (records_of (record_size form) capture) (beginning c m room)
 unfolding replay_of
 replay-upshot form p capture c m room output a h =
     replayed-upshot form p (records_of (record_size form) capture)
-    (record { ended = Whole; records = 0; bytes = 0; frames = 0; chip = c; memory = m; room = room; output = output }) a
+    (record { ended = Ok tt; records = 0; bytes = 0; frames = 0; chip = c; memory = m; room = room; output = output }) a
     (record { within = omega arith; enough = omega (arith, h) })
 
 -- Upshots add up: what came before a record has no part in what it adds.
-played-adds : (a : Answer) (y : Playing) (g h : Upshot) → played_upshot a y (and_then g h) ≡ and_then g (played_upshot a y h)
+played-adds : (a : Result Sent Refusal) (y : Playing) (g h : Upshot) → played_upshot a y (and_then g h) ≡ and_then g (played_upshot a y h)
 unfolding played_upshot
-played-adds (Replied n k) y g h = same-upshot Whole _ _ _ (omega arith) (omega arith) (append_assoc g.said h.said y.said)
-played-adds (Answer.Refused r) y g h = same-upshot (Ended.Refused r) _ _ _ (omega arith) (omega arith) refl
+played-adds (Ok sent) y g h = same-upshot (Ok tt) _ _ _ (omega arith) (omega arith) (append_assoc g.said h.said y.said)
+played-adds (Err r) y g h = same-upshot (Err (Halt.Refused r)) _ _ _ (omega arith) (omega arith) refl
 
-record-adds : (form : Form) (k : Record) (p : Part) (r : List ℕ) (g h : Upshot) → record_upshot form k p r (and_then g h) ≡ and_then g (record_upshot form k p r h)
+record-adds : (form : Form) (k : Result Record BadRecord) (p : Part) (r : List ℕ) (g h : Upshot) → record_upshot form k p r (and_then g h) ≡ and_then g (record_upshot form k p r h)
 unfolding record_upshot events_upshot
-record-adds form GapRecord p r g h = played-adds _ _ g h
-record-adds form (BytesRecord n) p r g h = played-adds _ _ g h
-record-adds form OtherSeat p r g h = played-adds _ _ g h
-record-adds form BadRecord p r g h = same-upshot AtBadRecord _ _ _ (omega arith) (omega arith) refl
+record-adds form (Ok GapRecord) p r g h = played-adds _ _ g h
+record-adds form (Ok (BytesRecord n)) p r g h = played-adds _ _ g h
+record-adds form (Ok OtherSeat) p r g h = played-adds _ _ g h
+record-adds form (Err _) p r g h = same-upshot (Err AtBadRecord) _ _ _ (omega arith) (omega arith) refl
 
-while-adds : (e : Ended) (g x y : Upshot) → while_on e (and_then g x) (and_then g y) ≡ and_then g (while_on e x y)
+while-adds : (e : Result Unit Halt) (g x y : Upshot) → while_on e (and_then g x) (and_then g y) ≡ and_then g (while_on e x y)
 unfolding while_on
-while-adds Whole g x y = refl
-while-adds AtBadRecord g x y = refl
-while-adds OutputFull g x y = refl
-while-adds (Ended.Refused r) g x y = refl
+while-adds (Ok _) g x y = refl
+while-adds (Err AtBadRecord) g x y = refl
+while-adds (Err OutputFull) g x y = refl
+while-adds (Err (Halt.Refused r)) g x y = refl
 
 next-adds : (form : Form) (p : Part) (r : List ℕ) (g h : Upshot) → next_upshot form p r (and_then g h) ≡ and_then g (next_upshot form p r h)
 unfolding next_upshot
@@ -221,43 +223,43 @@ upshots-add form p (r ∷ rs) g h =
     ∙ while-adds k.ended g (upshot_from form p rs k) k
 
 -- Records and then more records.
-upshots-append : (form : Form) (p : Part) (rs ss : List (List ℕ)) (g : Upshot) → g.ended ≡ Whole → upshot_from form p (rs ++ ss) g ≡ then_upshot form p ss (upshot_from form p rs g)
+upshots-append : (form : Form) (p : Part) (rs ss : List (List ℕ)) (g : Upshot) → g.ended ≡ Ok tt → upshot_from form p (rs ++ ss) g ≡ then_upshot form p ss (upshot_from form p rs g)
 unfolding upshot_from while_on
-upshots-append form p [] ss g e = sym (ap (λ (z : Ended). while_on z (upshot_from form p ss g) g) e)
+upshots-append form p [] ss g e = sym (ap (λ (z : Result Unit Halt). while_on z (upshot_from form p ss g) g) e)
 upshots-append form p (r ∷ rs) ss g e = go k.ended refl (λ q. upshots-append form p rs ss k q)
   where
     k : Upshot
     k = next_upshot form p r g
 
-    go : (z : Ended) → k.ended ≡ z → (k.ended ≡ Whole → upshot_from form p (rs ++ ss) k ≡ then_upshot form p ss (upshot_from form p rs k))
+    go : (z : Result Unit Halt) → k.ended ≡ z → (k.ended ≡ Ok tt → upshot_from form p (rs ++ ss) k ≡ then_upshot form p ss (upshot_from form p rs k))
         → while_on z (upshot_from form p (rs ++ ss) k) k ≡ then_upshot form p ss (while_on z (upshot_from form p rs k) k)
-    go Whole q next = next q
-    go AtBadRecord q next = sym (ap (λ (z : Ended). while_on z (upshot_from form p ss k) k) q)
-    go OutputFull q next = sym (ap (λ (z : Ended). while_on z (upshot_from form p ss k) k) q)
-    go (Ended.Refused x) q next = sym (ap (λ (z : Ended). while_on z (upshot_from form p ss k) k) q)
+    go (Ok _) q next = next q
+    go (Err AtBadRecord) q next = sym (ap (λ (z : Result Unit Halt). while_on z (upshot_from form p ss k) k) q)
+    go (Err OutputFull) q next = sym (ap (λ (z : Result Unit Halt). while_on z (upshot_from form p ss k) k) q)
+    go (Err (Halt.Refused x)) q next = sym (ap (λ (z : Result Unit Halt). while_on z (upshot_from form p ss k) k) q)
 
 -- One more piece is its records.
-and-start : (g : Upshot) → g.ended ≡ Whole → and_then g (beginning g.chip g.memory g.room) ≡ g
+and-start : (g : Upshot) → g.ended ≡ Ok tt → and_then g (beginning g.chip g.memory g.room) ≡ g
 and-start g e =
-    same-upshot Whole g.chip g.memory g.room (omega arith) (omega arith) (append-nil g.said)
+    same-upshot (Ok tt) g.chip g.memory g.room (omega arith) (omega arith) (append-nil g.said)
     ∙ ap {B = Upshot}
-    (λ (z : Ended). record { ended = z; records = g.records; frames = g.frames; said = g.said; chip = g.chip; memory = g.memory; room = g.room }) (sym e)
+    (λ (z : Result Unit Halt). record { ended = z; records = g.records; frames = g.frames; said = g.said; chip = g.chip; memory = g.memory; room = g.room }) (sym e)
 
-piece-upshot : (form : Form) (p : Part) (g : Upshot) (q : Piece) → Arrays p → g.ended ≡ Whole → output_least form * length (records_of (record_size form) q.capture) ≤ length q.output
+piece-upshot : (form : Form) (p : Part) (g : Upshot) (q : Piece) → Arrays p → g.ended ≡ Ok tt → output_least form * length (records_of (record_size form) q.capture) ≤ length q.output
     → with_piece form p g q ≡ upshot_from form p (records_of (record_size form) q.capture) g
 piece-upshot form p g q a e h =
     ap (λ (x : Upshot). and_then g x) (replay-upshot form p q.capture g.chip g.memory g.room q.output a h)
     ∙ sym (upshots-add form p (records_of (record_size form) q.capture) g (beginning g.chip g.memory g.room))
     ∙ ap (upshot_from form p (records_of (record_size form) q.capture)) (and-start g e)
 
-while-same : (e : Ended) (g : Upshot) → while_on e g g ≡ g
+while-same : (e : Result Unit Halt) (g : Upshot) → while_on e g g ≡ g
 unfolding while_on
-while-same Whole g = refl
-while-same AtBadRecord g = refl
-while-same OutputFull g = refl
-while-same (Ended.Refused r) g = refl
+while-same (Ok _) g = refl
+while-same (Err AtBadRecord) g = refl
+while-same (Err OutputFull) g = refl
+while-same (Err (Halt.Refused r)) g = refl
 
-pieces-upshot : (form : Form) (p : Part) (qs : List Piece) (g : Upshot) → Arrays p → Pieces form qs → g.ended ≡ Whole → in_pieces form p qs g ≡ upshot_from form p (records_of (record_size form) (joined qs)) g
+pieces-upshot : (form : Form) (p : Part) (qs : List Piece) (g : Upshot) → Arrays p → Pieces form qs → g.ended ≡ Ok tt → in_pieces form p qs g ≡ upshot_from form p (records_of (record_size form) (joined qs)) g
 unfolding in_pieces joined records_of records_in upshot_from while_on
 pieces-upshot form p [] g a no_piece e = refl
 pieces-upshot form p (q ∷ []) g a (last_piece x h) e =
@@ -273,12 +275,12 @@ pieces-upshot form p (q ∷ qs) g a (and_piece x xs w h r) e =
     k : Upshot
     k = upshot_from form p (records_of (record_size form) q.capture) g
 
-    go : (z : Ended) → k.ended ≡ z → (k.ended ≡ Whole → in_pieces form p qs k ≡ upshot_from form p (records_of (record_size form) (joined qs)) k)
+    go : (z : Result Unit Halt) → k.ended ≡ z → (k.ended ≡ Ok tt → in_pieces form p qs k ≡ upshot_from form p (records_of (record_size form) (joined qs)) k)
         → while_on z (in_pieces form p qs k) k ≡ while_on z (upshot_from form p (records_of (record_size form) (joined qs)) k) k
-    go Whole y next = next y
-    go AtBadRecord y next = refl
-    go OutputFull y next = refl
-    go (Ended.Refused x) y next = refl
+    go (Ok _) y next = next y
+    go (Err AtBadRecord) y next = refl
+    go (Err OutputFull) y next = refl
+    go (Err (Halt.Refused x)) y next = refl
 
 pub in-pieces : InPieces
 in-pieces form p qs c m room output a r h =
@@ -297,10 +299,10 @@ record Kept (p : Part) (g : Upshot) : Type 0 where
   stands : Stands p (before g.chip g.memory g.room)
   frames : FramesIn g.said
 
-played-kept : (p : Part) (a : Answer) (y : Playing) (g : Upshot) → Stands p y.left → FramesIn y.said → Kept p g → Kept p (played_upshot a y g)
+played-kept : (p : Part) (a : Result Sent Refusal) (y : Playing) (g : Upshot) → Stands p y.left → FramesIn y.said → Kept p g → Kept p (played_upshot a y g)
 unfolding played_upshot
-played-kept p (Replied n i) y g s f k = record { stands = again s; frames = frames-append k.frames f }
-played-kept p (Answer.Refused r) y g s f k = record { stands = again s; frames = k.frames }
+played-kept p (Ok sent) y g s f k = record { stands = again s; frames = frames-append k.frames f }
+played-kept p (Err r) y g s f k = record { stands = again s; frames = k.frames }
 
 events-kept : (p : Part) (vs : List Event) (g : Upshot) → AllProper vs → Kept p g → Kept p (events_upshot p vs g)
 unfolding events_upshot
@@ -309,20 +311,20 @@ events-kept p vs g q k =
     let w = plays p vs b (record { bytes = 0; frames = 0; replied = refl; stands = k.stands }) q in
     played-kept p _ (played p vs b) g w.stands (played-frames p vs b k.stands q no_frame) k
 
-record-kept : (form : Form) (e : Record) (p : Part) (r : List ℕ) (g : Upshot) → Below 256 r → Kept p g → Kept p (record_upshot form e p r g)
+record-kept : (form : Form) (e : Result Record BadRecord) (p : Part) (r : List ℕ) (g : Upshot) → Below 256 r → Kept p g → Kept p (record_upshot form e p r g)
 unfolding record_upshot events_of
-record-kept form GapRecord p r g b k = events-kept p (Gap ∷ []) g (and_event a_gap no_event) k
-record-kept form (BytesRecord n) p r g b k =
+record-kept form (Ok GapRecord) p r g b k = events-kept p (Gap ∷ []) g (and_event a_gap no_event) k
+record-kept form (Ok (BytesRecord n)) p r g b k =
     events-kept p (map Byte (carried_bytes form n r)) g (all-bytes (carried_bytes form n r) (below-take 256 n (below-drop 256 (head_size form) b))) k
-record-kept form OtherSeat p r g b k = events-kept p [] g no_event k
-record-kept form BadRecord p r g b k = record { stands = k.stands; frames = k.frames }
+record-kept form (Ok OtherSeat) p r g b k = events-kept p [] g no_event k
+record-kept form (Err _) p r g b k = record { stands = k.stands; frames = k.frames }
 
-while-kept : (p : Part) (e : Ended) (x y : Upshot) → Kept p x → Kept p y → Kept p (while_on e x y)
+while-kept : (p : Part) (e : Result Unit Halt) (x y : Upshot) → Kept p x → Kept p y → Kept p (while_on e x y)
 unfolding while_on
-while-kept p Whole x y k l = k
-while-kept p AtBadRecord x y k l = l
-while-kept p OutputFull x y k l = l
-while-kept p (Ended.Refused r) x y k l = l
+while-kept p (Ok _) x y k l = k
+while-kept p (Err AtBadRecord) x y k l = l
+while-kept p (Err OutputFull) x y k l = l
+while-kept p (Err (Halt.Refused r)) x y k l = l
 
 upshots-kept : (form : Form) (p : Part) (rs : List (List ℕ)) (g : Upshot) → AllBelow rs → Kept p g → Kept p (upshot_from form p rs g)
 unfolding upshot_from next_upshot
@@ -336,9 +338,9 @@ unfolding records_of
 capture-kept form p capture g b k = upshots-kept form p (records_in (record_size form) (length capture) capture) g (records-below (record_size form) (length capture) capture b) k
 
 -- The lines of the pieces.
-module _ (form : Form) (p : Part) (q : Piece) (qs : List Piece) (g : Upshot) (kept : Kept p g) (e : g.ended ≡ Whole)
+module _ (form : Form) (p : Part) (q : Piece) (qs : List Piece) (g : Upshot) (kept : Kept p g) (e : g.ended ≡ Ok tt)
     (h : output_least form * length (records_of (record_size form) q.capture) ≤ length q.output) (b : Below 256 q.capture)
-    (rest : (k : Upshot) → Kept p k → k.ended ≡ Whole → lines k.said ++ lines_in_pieces form p qs k ≡ lines (in_pieces form p qs k).said) where
+    (rest : (k : Upshot) → Kept p k → k.ended ≡ Ok tt → lines k.said ++ lines_in_pieces form p qs k ≡ lines (in_pieces form p qs k).said) where
   piece-kept : Kept p (with_piece form p g q)
   piece-kept = rw (piece-upshot form p g q kept.stands.arrays e h) (capture-kept form p q.capture g b kept)
 
@@ -352,15 +354,15 @@ module _ (form : Form) (p : Part) (q : Piece) (qs : List Piece) (g : Upshot) (ke
       shown : lines k.said ≡ lines g.said ++ lines (of_piece form p g q).said
       shown = lines-append kept.frames (of_piece form p g q).said
 
-      go : (z : Ended) → k.ended ≡ z
+      go : (z : Result Unit Halt) → k.ended ≡ z
           → lines g.said ++ (lines (of_piece form p g q).said ++ only_on z (lines_in_pieces form p qs k)) ≡ lines (while_on z (in_pieces form p qs k) k).said
-      go Whole y =
+      go (Ok _) y =
           sym (append_assoc (lines g.said) (lines (of_piece form p g q).said) (lines_in_pieces form p qs k))
           ∙ ap (λ (t : List ℕ). t ++ lines_in_pieces form p qs k) (sym shown)
           ∙ rest k piece-kept y
-      go AtBadRecord y = ap (λ (t : List ℕ). lines g.said ++ t) (append-nil (lines (of_piece form p g q).said)) ∙ sym shown
-      go OutputFull y = ap (λ (t : List ℕ). lines g.said ++ t) (append-nil (lines (of_piece form p g q).said)) ∙ sym shown
-      go (Ended.Refused r) y = ap (λ (t : List ℕ). lines g.said ++ t) (append-nil (lines (of_piece form p g q).said)) ∙ sym shown
+      go (Err AtBadRecord) y = ap (λ (t : List ℕ). lines g.said ++ t) (append-nil (lines (of_piece form p g q).said)) ∙ sym shown
+      go (Err OutputFull) y = ap (λ (t : List ℕ). lines g.said ++ t) (append-nil (lines (of_piece form p g q).said)) ∙ sym shown
+      go (Err (Halt.Refused r)) y = ap (λ (t : List ℕ). lines g.said ++ t) (append-nil (lines (of_piece form p g q).said)) ∙ sym shown
 
 below-front : (xs ys : List ℕ) → Below 256 (xs ++ ys) → Below 256 xs
 below-front xs ys b = subst (λ (l : List ℕ). Below 256 l) (take-append_seam xs ys) (below-take 256 (length xs) b)
@@ -368,7 +370,7 @@ below-front xs ys b = subst (λ (l : List ℕ). Below 256 l) (take-append_seam x
 below-back : (xs ys : List ℕ) → Below 256 (xs ++ ys) → Below 256 ys
 below-back xs ys b = subst (λ (l : List ℕ). Below 256 l) (drop-append_seam xs ys) (below-drop 256 (length xs) b)
 
-pieces-lines : (form : Form) (p : Part) (qs : List Piece) (g : Upshot) → Pieces form qs → Below 256 (joined qs) → Kept p g → g.ended ≡ Whole
+pieces-lines : (form : Form) (p : Part) (qs : List Piece) (g : Upshot) → Pieces form qs → Below 256 (joined qs) → Kept p g → g.ended ≡ Ok tt
     → lines g.said ++ lines_in_pieces form p qs g ≡ lines (in_pieces form p qs g).said
 unfolding joined lines_in_pieces in_pieces
 pieces-lines form p [] g no_piece b k e = append-nil (lines g.said)

@@ -8,9 +8,15 @@ use Prim.Native.Nat.{◌+◌, suc, zero, ℕ}
 use native.Mathlib.Omega.{arith}
 use lib.Dec.{eqb}
 use borrow.Author.Tests.{eq-eqb}
-use Rattle.chip.specs.declared.Answer.{Answer}
-use Rattle.chip.specs.declared.Answer.TheVariants.{Replied}
-use Rattle.chip.specs.declared.Answer.TheVariants as Answer
+use Rattle.replay_records.specs.declared.Halt.TheVariants as Halt
+use Rattle.replay_records.specs.declared.Halt.TheVariants.{AtBadRecord, OutputFull}
+use Rattle.replay_records.specs.declared.Halt.{Halt}
+use Rattle.replay_capture.specs.declared.Record.TheVariants.{BytesRecord, GapRecord, OtherSeat}
+use Rattle.replay_capture.specs.declared.BadRecord.{BadRecord}
+use Rattle.replay_capture.specs.declared.Record.{Record}
+use Rattle.part.specs.declared.refusal.Refusal.{Refusal}
+use Rattle.chip_reply.specs.declared.Sent.{Sent}
+use Rattle.std.specs.Prelude.{Err, Ok, Result}
 use Rattle.claims_capture.proofs.Laid.{record-of-is}
 use Rattle.claims_capture.proofs.Records.{records-only}
 use Rattle.claims_capture.specs.Answers.{AllPass, records_from}
@@ -23,14 +29,9 @@ use Rattle.part.specs.declared.Part.{Part}
 use Rattle.replay_capture.proofs.Laws.{good-is, size-least}
 use Rattle.replay_capture.specs.Capture.{good_record, record_of, record_size, seat_of}
 use Rattle.replay_capture.specs.declared.Form.{Form}
-use Rattle.replay_capture.specs.declared.Record.{Record}
-use Rattle.replay_capture.specs.declared.Record.TheVariants.{BadRecord, BytesRecord, GapRecord, OtherSeat}
 use Rattle.replay_play.proofs.Quiet.{other-quiet}
 use Rattle.replay_play.specs.Play.{Playing, events_of, played}
 use Rattle.replay_records.specs.Records.{replay_part}
-use Rattle.replay_records.specs.declared.Ended.{Ended}
-use Rattle.replay_records.specs.declared.Ended.TheVariants.{AtBadRecord, OutputFull, Whole}
-use Rattle.replay_records.specs.declared.Ended.TheVariants as Ended
 use Rattle.words.specs.Words.{if◌then◌otherwise◌}
 
 pub other-seat-stays : OtherSeatStays
@@ -59,64 +60,64 @@ uncounted x = record { ended = x.ended; records = 0; frames = x.frames; said = x
 
 -- One record more, and nothing else.
 abbrev one_record : Upshot → Upshot
-one_record g = record { ended = Whole; records = 1; frames = 0; said = []; chip = g.chip; memory = g.memory; room = g.room }
+one_record g = record { ended = Ok tt; records = 1; frames = 0; said = []; chip = g.chip; memory = g.memory; room = g.room }
 
-other-adds : (form : Form) (p : Part) (r : List ℕ) (g : Upshot) → record_of form r ≡ OtherSeat → g.ended ≡ Whole → next_upshot form p r g ≡ and_then (one_record g) g
+other-adds : (form : Form) (p : Part) (r : List ℕ) (g : Upshot) → record_of form r ≡ Ok OtherSeat → g.ended ≡ Ok tt → next_upshot form p r g ≡ and_then (one_record g) g
 unfolding next_upshot record_upshot events_upshot played_upshot events_of played
 other-adds form p r g e w =
-    ap (λ (k : Record). record_upshot form k p r g) e
-    ∙ same-upshot Whole g.chip g.memory g.room (omega arith) (omega arith) (append-nil g.said)
+    ap (λ (k : Result Record BadRecord). record_upshot form k p r g) e
+    ∙ same-upshot (Ok tt) g.chip g.memory g.room (omega arith) (omega arith) (append-nil g.said)
     ∙ ap {B = Upshot}
-    (λ (z : Ended). record { ended = z; records = 1 + g.records; frames = 0 + g.frames; said = g.said; chip = g.chip; memory = g.memory; room = g.room }) (sym w)
+    (λ (z : Result Unit Halt). record { ended = z; records = 1 + g.records; frames = 0 + g.frames; said = g.said; chip = g.chip; memory = g.memory; room = g.room }) (sym w)
 
 uncounted-adds : (g h : Upshot) → uncounted (and_then (one_record g) h) ≡ uncounted h
 uncounted-adds g h = same-upshot h.ended h.chip h.memory h.room refl (omega arith) refl
 
 -- Good records never end as a bad one does.
-played-good : (a : Answer) (y : Playing) (g : Upshot) → (played_upshot a y g).ended ≡ AtBadRecord → ⊥
+played-good : (a : Result Sent Refusal) (y : Playing) (g : Upshot) → (played_upshot a y g).ended ≡ Err AtBadRecord → ⊥
 unfolding played_upshot
-played-good (Replied n k) y g e = let z : ◌≡◌ {A = ℕ} 0 1 = cc in omega arith
-played-good (Answer.Refused r) y g e = let z : ◌≡◌ {A = ℕ} 0 1 = cc in omega arith
+played-good (Ok sent) y g e = let z : ◌≡◌ {A = ℕ} 0 1 = cc in omega arith
+played-good (Err r) y g e = let z : ◌≡◌ {A = ℕ} 0 1 = cc in omega arith
 
-good-next : (form : Form) (p : Part) (r : List ℕ) (g : Upshot) → good_record form r ≡ true → (next_upshot form p r g).ended ≡ AtBadRecord → ⊥
+good-next : (form : Form) (p : Part) (r : List ℕ) (g : Upshot) → good_record form r ≡ true → (next_upshot form p r g).ended ≡ Err AtBadRecord → ⊥
 unfolding next_upshot record_upshot events_upshot
 good-next form p r g h e = go (record_of form r) (record-of-is form r) e
   where
-    go : (k : Record) → RecordIs form r k → (record_upshot form k p r g).ended ≡ AtBadRecord → ⊥
-    go GapRecord x e = played-good _ _ g e
-    go (BytesRecord n) x e = played-good _ _ g e
-    go OtherSeat x e = played-good _ _ g e
-    go BadRecord (is_bad b) e = let z : false ≡ true = sym b ∙ h in let y : ◌≡◌ {A = ℕ} 0 1 = cc in omega arith
+    go : (k : Result Record BadRecord) → RecordIs form r k → (record_upshot form k p r g).ended ≡ Err AtBadRecord → ⊥
+    go (Ok GapRecord) x e = played-good _ _ g e
+    go (Ok (BytesRecord n)) x e = played-good _ _ g e
+    go (Ok OtherSeat) x e = played-good _ _ g e
+    go (Err _) (is_bad b) e = let z : false ≡ true = sym b ∙ h in let y : ◌≡◌ {A = ℕ} 0 1 = cc in omega arith
 
-upshots-good : (form : Form) (p : Part) (rs : List (List ℕ)) (g : Upshot) → AllPass (good_record form) rs → g.ended ≡ Whole → (upshot_from form p rs g).ended ≡ AtBadRecord → ⊥
+upshots-good : (form : Form) (p : Part) (rs : List (List ℕ)) (g : Upshot) → AllPass (good_record form) rs → g.ended ≡ Ok tt → (upshot_from form p rs g).ended ≡ Err AtBadRecord → ⊥
 unfolding upshot_from while_on
-upshots-good form p [] g a w e = let z : ◌≡◌ {A = Ended} Whole AtBadRecord = sym w ∙ e in let y : ◌≡◌ {A = ℕ} 0 1 = cc in omega arith
+upshots-good form p [] g a w e = let z : ◌≡◌ {A = Result Unit Halt} (Ok tt) (Err AtBadRecord) = sym w ∙ e in let y : ◌≡◌ {A = ℕ} 0 1 = cc in omega arith
 upshots-good form p (r ∷ rs) g a w e = go k.ended refl (λ v. upshots-good form p rs k (λ i h. a (suc i) (omega arith)) v) e
   where
     k : Upshot
     k = next_upshot form p r g
 
-    go : (z : Ended) → k.ended ≡ z → (k.ended ≡ Whole → (upshot_from form p rs k).ended ≡ AtBadRecord → ⊥) → (while_on z (upshot_from form p rs k) k).ended ≡ AtBadRecord → ⊥
-    go Whole v rest e = rest v e
-    go AtBadRecord v rest e = good-next form p r g (a 0 (omega arith)) v
-    go OutputFull v rest e = good-next form p r g (a 0 (omega arith)) e
-    go (Ended.Refused q) v rest e = good-next form p r g (a 0 (omega arith)) e
+    go : (z : Result Unit Halt) → k.ended ≡ z → (k.ended ≡ Ok tt → (upshot_from form p rs k).ended ≡ Err AtBadRecord → ⊥) → (while_on z (upshot_from form p rs k) k).ended ≡ Err AtBadRecord → ⊥
+    go (Ok _) v rest e = rest v e
+    go (Err AtBadRecord) v rest e = good-next form p r g (a 0 (omega arith)) v
+    go (Err OutputFull) v rest e = good-next form p r g (a 0 (omega arith)) e
+    go (Err (Halt.Refused q)) v rest e = good-next form p r g (a 0 (omega arith)) e
 
 -- What a record's seat says of it.
-other-of : (form : Form) (r : List ℕ) → good_record form r ≡ true → eqb (seat_of form r) 0 ≡ false → record_of form r ≡ OtherSeat
+other-of : (form : Form) (r : List ℕ) → good_record form r ≡ true → eqb (seat_of form r) 0 ≡ false → record_of form r ≡ Ok OtherSeat
 other-of form r h s = go (record_of form r) (record-of-is form r)
   where
     not-zero : seat_of form r ≡ 0 → ⊥
     not-zero e = let z : true ≡ false = sym (eq-eqb _ _ e) ∙ s in let y : ◌≡◌ {A = ℕ} 0 1 = cc in omega arith
 
-    go : (k : Record) → RecordIs form r k → k ≡ OtherSeat
-    go BadRecord (is_bad b) = absurd (let z : false ≡ true = sym b ∙ h in let y : ◌≡◌ {A = ℕ} 0 1 = cc in omega arith)
-    go OtherSeat (is_other g q) = refl
-    go GapRecord (is_gap g q k) = absurd (not-zero q)
-    go (BytesRecord n) (is_bytes g q k) = absurd (not-zero q)
+    go : (k : Result Record BadRecord) → RecordIs form r k → k ≡ Ok OtherSeat
+    go (Err _) (is_bad b) = absurd (let z : false ≡ true = sym b ∙ h in let y : ◌≡◌ {A = ℕ} 0 1 = cc in omega arith)
+    go (Ok OtherSeat) (is_other g q) = refl
+    go (Ok GapRecord) (is_gap g q k) = absurd (not-zero q)
+    go (Ok (BytesRecord n)) (is_bytes g q k) = absurd (not-zero q)
 
 -- Without the records of seat 1 the upshot is the same, but for their number.
-skipped : (form : Form) (p : Part) (rs : List (List ℕ)) (g : Upshot) → AllPass (good_record form) rs → g.ended ≡ Whole
+skipped : (form : Form) (p : Part) (rs : List (List ℕ)) (g : Upshot) → AllPass (good_record form) rs → g.ended ≡ Ok tt
     → uncounted (upshot_from form p rs g) ≡ uncounted (upshot_from form p (seat_zero form rs) g)
 unfolding upshot_from seat_zero while_on if◌then◌otherwise◌
 skipped form p [] g a w = refl
@@ -125,20 +126,20 @@ skipped form p (r ∷ rs) g a w = go (eqb (seat_of form r) 0) refl (λ v. skippe
     k : Upshot
     k = next_upshot form p r g
 
-    kept : (z : Ended) → k.ended ≡ z → (k.ended ≡ Whole → uncounted (upshot_from form p rs k) ≡ uncounted (upshot_from form p (seat_zero form rs) k))
+    kept : (z : Result Unit Halt) → k.ended ≡ z → (k.ended ≡ Ok tt → uncounted (upshot_from form p rs k) ≡ uncounted (upshot_from form p (seat_zero form rs) k))
         → uncounted (while_on z (upshot_from form p rs k) k) ≡ uncounted (while_on z (upshot_from form p (seat_zero form rs) k) k)
-    kept Whole v rest = rest v
-    kept AtBadRecord v rest = refl
-    kept OutputFull v rest = refl
-    kept (Ended.Refused q) v rest = refl
+    kept (Ok _) v rest = rest v
+    kept (Err AtBadRecord) v rest = refl
+    kept (Err OutputFull) v rest = refl
+    kept (Err (Halt.Refused q)) v rest = refl
 
-    go : (t : Bool) → eqb (seat_of form r) 0 ≡ t → (k.ended ≡ Whole → uncounted (upshot_from form p rs k) ≡ uncounted (upshot_from form p (seat_zero form rs) k))
+    go : (t : Bool) → eqb (seat_of form r) 0 ≡ t → (k.ended ≡ Ok tt → uncounted (upshot_from form p rs k) ≡ uncounted (upshot_from form p (seat_zero form rs) k))
         → uncounted (while_on k.ended (upshot_from form p rs k) k) ≡ uncounted (upshot_from form p (if t then r ∷ seat_zero form rs otherwise seat_zero form rs) g)
     go true s rest = kept k.ended refl rest
     go false s rest =
         let e : k ≡ and_then (one_record g) g = other-adds form p r g (other-of form r (a 0 (omega arith)) s) w in
-        let v : k.ended ≡ Whole = ap (λ (x : Upshot). x.ended) e ∙ w in
-        ap (λ (z : Ended). uncounted (while_on z (upshot_from form p rs k) k)) v
+        let v : k.ended ≡ (Ok tt) = ap (λ (x : Upshot). x.ended) e ∙ w in
+        ap (λ (z : Result Unit Halt). uncounted (while_on z (upshot_from form p rs k) k)) v
         ∙ rest v
         ∙ ap (λ (x : Upshot). uncounted (upshot_from form p (seat_zero form rs) x)) e
         ∙ ap uncounted (upshots-add form p (seat_zero form rs) (one_record g) g)
@@ -148,14 +149,14 @@ skipped form p (r ∷ rs) g a w = go (eqb (seat_of form r) 0) refl (λ v. skippe
 abbrev shown : Upshot → List ℕ
 shown x = lines x.said ++ last_line x x.ended
 
-last-uncounted : (x : Upshot) (e : Ended) → (e ≡ AtBadRecord → ⊥) → last_line x e ≡ last_line (uncounted x) e
+last-uncounted : (x : Upshot) (e : Result Unit Halt) → (e ≡ Err AtBadRecord → ⊥) → last_line x e ≡ last_line (uncounted x) e
 unfolding last_line
-last-uncounted x Whole h = refl
-last-uncounted x AtBadRecord h = absurd (h refl)
-last-uncounted x OutputFull h = refl
-last-uncounted x (Ended.Refused r) h = refl
+last-uncounted x (Ok _) h = refl
+last-uncounted x (Err AtBadRecord) h = absurd (h refl)
+last-uncounted x (Err OutputFull) h = refl
+last-uncounted x (Err (Halt.Refused r)) h = refl
 
-shown-uncounted : (x : Upshot) → (x.ended ≡ AtBadRecord → ⊥) → shown x ≡ shown (uncounted x)
+shown-uncounted : (x : Upshot) → (x.ended ≡ Err AtBadRecord → ⊥) → shown x ≡ shown (uncounted x)
 shown-uncounted x h = ap (λ (l : List ℕ). lines x.said ++ l) (last-uncounted x x.ended h)
 
 zero-good : (form : Form) (rs : List (List ℕ)) → AllPass (good_record form) rs → AllPass (good_record form) (seat_zero form rs)
@@ -172,8 +173,8 @@ pub skips-seat-one : SkipsSeatOne
 unfolding printed
 skips-seat-one form capture a =
     let rs = records_from form capture in
-    let whole : (upshot_from form replay_part rs fresh_start).ended ≡ AtBadRecord → ⊥ = upshots-good form replay_part rs fresh_start a refl in
-    let part : (upshot_from form replay_part (seat_zero form rs) fresh_start).ended ≡ AtBadRecord → ⊥ =
+    let whole : (upshot_from form replay_part rs fresh_start).ended ≡ Err AtBadRecord → ⊥ = upshots-good form replay_part rs fresh_start a refl in
+    let part : (upshot_from form replay_part (seat_zero form rs) fresh_start).ended ≡ Err AtBadRecord → ⊥ =
     upshots-good form replay_part (seat_zero form rs) fresh_start (zero-good form rs a) refl in
     ap shown (fresh-upshot form capture)
     ∙ shown-uncounted (upshot_from form replay_part rs fresh_start) whole

@@ -1,7 +1,7 @@
 -- A capture, of either form, replayed in pieces, as the program reads it: document 01, "Replay", and 02, section 5. Every piece but the last is whole
 -- records; each has output of its own, with whatever bytes in it, and goes to the chip that the pieces before it left. Nothing of the program's own is in it, only
 -- what `replay_records::replay` does.
-use Rattle.std.specs.Prelude.{List, [], ◌++◌, ◌∷◌, ◌≡◌, ◌%◌, ◌*◌, ◌+◌, ◌≤◌, ℕ, length, replicate}
+use Rattle.std.specs.Prelude.{List, [], ◌++◌, ◌∷◌, ◌≡◌, ◌%◌, ◌*◌, ◌+◌, ◌≤◌, ℕ, length, replicate, Err, Ok, Result}
 use Rattle.replay_capture.specs.Capture.{record_size, records_of}
 use Rattle.replay_capture.specs.declared.Form.{Form}
 use Rattle.chip.specs.Run.{before}
@@ -17,11 +17,12 @@ use Rattle.part.specs.declared.Part.{Part}
 use Rattle.part.specs.declared.refusal.Refusal.{Refusal}
 use Rattle.replay_records.specs.Records.{replay_of, replay_part}
 use Rattle.replay_play.specs.Play.{output_least}
-use Rattle.replay_records.specs.declared.Ended.{Ended}
-use Rattle.replay_records.specs.declared.Ended.TheVariants.{AtBadRecord, OutputFull, Refused, Whole}
+use Rattle.replay_records.specs.declared.Halt.TheVariants as Halt
+use Rattle.replay_records.specs.declared.Halt.TheVariants.{AtBadRecord, OutputFull}
+use Rattle.replay_records.specs.declared.Halt.{Halt}
 
 abbrev pub beginning : Chip → Memory → List ℕ → Upshot
-beginning c m room = record { ended = Whole; records = 0; frames = 0; said = []; chip = c; memory = m; room = room }
+beginning c m room = record { ended = Ok tt; records = 0; frames = 0; said = []; chip = c; memory = m; room = room }
 
 -- One upshot after another: the numbers add up, the frames follow each other, and the last one says how it ended and what is left.
 abbrev pub and_then : Upshot → Upshot → Upshot
@@ -48,11 +49,11 @@ abbrev pub with_piece : Form → Part → Upshot → Piece → Upshot
 with_piece form p g q = and_then g (of_piece form p g q)
 
 -- Only a piece that was replayed whole is followed by the next.
-unfoldable pub while_on : Ended → Upshot → Upshot → Upshot
-while_on Whole rest g = rest
-while_on AtBadRecord rest g = g
-while_on OutputFull rest g = g
-while_on (Refused r) rest g = g
+unfoldable pub while_on : Result Unit Halt → Upshot → Upshot → Upshot
+while_on (Ok _) rest g = rest
+while_on (Err AtBadRecord) rest g = g
+while_on (Err OutputFull) rest g = g
+while_on (Err (Halt.Refused r)) rest g = g
 
 unfoldable pub in_pieces : Form → Part → List Piece → Upshot → Upshot
 in_pieces form p [] g = g
@@ -81,7 +82,7 @@ InPieces =
 -- From a chip that stands, no piece is refused, and the chip stands after each.
 pub record Standing (p : Part) (g : Upshot) : Type 0 where
   pub stands : Stands p (before g.chip g.memory g.room)
-  pub unrefused : (r : Refusal) → g.ended ≡ Refused r → ⊥
+  pub unrefused : (r : Refusal) → g.ended ≡ Err (Halt.Refused r) → ⊥
 
 abbrev pub PiecesStand : Type 0
 PiecesStand =
@@ -89,11 +90,11 @@ PiecesStand =
     → Standing p (in_pieces form p qs (beginning c m room))
 
 -- What is printed of the pieces: the lines of each one's reply frames as it is replayed, and the last line, of the numbers added up.
-unfoldable pub only_on : Ended → List ℕ → List ℕ
-only_on Whole text = text
-only_on AtBadRecord text = []
-only_on OutputFull text = []
-only_on (Refused r) text = []
+unfoldable pub only_on : Result Unit Halt → List ℕ → List ℕ
+only_on (Ok _) text = text
+only_on (Err AtBadRecord) text = []
+only_on (Err OutputFull) text = []
+only_on (Err (Halt.Refused r)) text = []
 
 unfoldable pub lines_in_pieces : Form → Part → List Piece → Upshot → List ℕ
 lines_in_pieces form p [] g = []

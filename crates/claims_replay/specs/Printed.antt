@@ -1,5 +1,5 @@
 -- What the replay of a capture, of either form, prints: document 01, "Replay", and 02, section 5, from the capture's bytes to the characters on standard output.
-use Rattle.std.specs.Prelude.{List, [], ◌++◌, ◌∷◌, ◌%◌, ◌*◌, ◌+◌, ◌/◌, suc, zero, ℕ, ltb, drop, get_or, length, replicate, take}
+use Rattle.std.specs.Prelude.{List, [], ◌++◌, ◌∷◌, ◌%◌, ◌*◌, ◌+◌, ◌/◌, suc, zero, ℕ, ltb, drop, get_or, length, replicate, take, Err, Ok, Result}
 use Rattle.chip.specs.Step.{fresh_chip}
 use Rattle.chip_state.specs.declared.Chip.{Chip}
 use Rattle.chip_core.specs.Effect.{Memory}
@@ -9,8 +9,9 @@ use Rattle.replay_capture.specs.declared.Form.{Form}
 use Rattle.replay_hex.specs.Hex.{line_of}
 use Rattle.replay_records.specs.Records.{Replaying, replay_of, replay_part}
 use Rattle.replay_play.specs.Play.{output_least}
-use Rattle.replay_records.specs.declared.Ended.{Ended}
-use Rattle.replay_records.specs.declared.Ended.TheVariants.{AtBadRecord, OutputFull, Refused, Whole}
+use Rattle.replay_records.specs.declared.Halt.TheVariants as Halt
+use Rattle.replay_records.specs.declared.Halt.TheVariants.{AtBadRecord, OutputFull}
+use Rattle.replay_records.specs.declared.Halt.{Halt}
 use Rattle.words.specs.Words.{if◌then◌otherwise◌}
 
 -- "Each reply frame is one line of hex": frames end to end, cut by their LEN bytes. (No frames are more than their bytes.)
@@ -34,7 +35,7 @@ decimal n = digits_in (suc n) n
 
 -- The upshot of a replay: how it ended, how many records were played, the reply frames end to end and their number, and what it leaves.
 pub record Upshot : Type 0 where
-  pub ended : Ended
+  pub ended : Result Unit Halt
   pub records : ℕ
   pub frames : ℕ
   pub said : List ℕ
@@ -55,11 +56,11 @@ upshot_of x =
     }
 
 -- "a bad or short record prints `BAD`, a space and its number from 0, and stops there; else the last line is `END` and the count of reply frames"
-unfoldable pub last_line : Upshot → Ended → List ℕ
-last_line x Whole = 0x45 ∷ 0x4E ∷ 0x44 ∷ 0x20 ∷ decimal x.frames ++ 0x0A ∷ []
-last_line x AtBadRecord = 0x42 ∷ 0x41 ∷ 0x44 ∷ 0x20 ∷ decimal x.records ++ 0x0A ∷ []
-last_line x OutputFull = []
-last_line x (Refused r) = []
+unfoldable pub last_line : Upshot → Result Unit Halt → List ℕ
+last_line x (Ok _) = 0x45 ∷ 0x4E ∷ 0x44 ∷ 0x20 ∷ decimal x.frames ++ 0x0A ∷ []
+last_line x (Err AtBadRecord) = 0x42 ∷ 0x41 ∷ 0x44 ∷ 0x20 ∷ decimal x.records ++ 0x0A ∷ []
+last_line x (Err OutputFull) = []
+last_line x (Err (Halt.Refused r)) = []
 
 -- "The chip has 16 code and 4 data blocks, clock 32, all fresh." Its sums are worked out once, before the first record (`FreshSums`, claims_stars). The output has
 -- room for every record's replies.

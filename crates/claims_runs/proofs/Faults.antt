@@ -32,8 +32,12 @@ use Rattle.claims_runs.specs.Faults.{FaultIsBlamed, FaultOfEvent, FaultOfFrame, 
 use Rattle.claims_runs.specs.Taken.{taken_by}
 use Rattle.commands.specs.declared.Command.{Command}
 use Rattle.commands.specs.declared.Command.TheVariants.{BlankCheck, BlockErase, Checksum, Programming, RateSet, Reset, SecurityGet, SecurityRelease, SecuritySet, SignatureGet, Verify}
-use Rattle.commands.specs.declared.Reading.{Reading}
-use Rattle.commands.specs.declared.Reading.TheVariants.{Meant, UnfitLen, Unknown}
+use Rattle.part.specs.declared.refusal.Refusal.{Refusal}
+use Rattle.part.specs.declared.Range.{Range}
+use Rattle.part.specs.declared.Place.{Place}
+use Rattle.commands.specs.declared.Misread.TheVariants.{UnfitLen, Unknown}
+use Rattle.commands.specs.declared.Misread.{Misread}
+use Rattle.std.specs.Prelude.{Err, None, Ok, Option, Result, Some}
 use Rattle.frame.proofs.Laws.Judgement.{is-good}
 use Rattle.frame.specs.Frame.{payload}
 use Rattle.frame.specs.Judgement.{is_good, judge_of}
@@ -41,12 +45,6 @@ use Rattle.frame.specs.declared.Footer.TheVariants.{Last}
 use Rattle.frame.specs.declared.judgement.Judgement.{Judgement}
 use Rattle.frame.specs.declared.judgement.Judgement.TheVariants.{Good, UnfitLength}
 use Rattle.part.specs.declared.Part.{Part}
-use Rattle.part.specs.declared.Place.{Place}
-use Rattle.part.specs.declared.Place.TheVariants.{In, Outside}
-use Rattle.part.specs.declared.Range.{Range}
-use Rattle.part.specs.declared.Range.TheVariants.{Bad, Blocks}
-use Rattle.part.specs.declared.refusal.Verdict.{Verdict}
-use Rattle.part.specs.declared.refusal.Verdict.TheVariants.{Accepted, Refused}
 use Rattle.words.proofs.Laws.{if-all}
 
 -- A reply that names no fault, as the work of a command and of a good data frame makes it.
@@ -64,33 +62,33 @@ pub rate-plain : (p : Part) (k : Core) (rate supply : ℕ) → Plain (rate_set p
 unfolding rate_set fault_in
 rate-plain p k rate supply = if-all (λ (d : Done). Plain d.reply) _ (λ t. plainly refl) (λ t. plainly refl)
 
-pub erase-plain : (p : Part) (k : Core) (x : Place) (m : Memory) → Plain (block_erase p k x m).reply
+pub erase-plain : (p : Part) (k : Core) (x : Option Place) (m : Memory) → Plain (block_erase p k x m).reply
 unfolding block_erase fault_in
-erase-plain p k Outside m = plainly refl
-erase-plain p k (In a offset block paged) m =
+erase-plain p k None m = plainly refl
+erase-plain p k (Some place) m =
     if-all (λ (x : Effect). Plain x.reply) _ (λ t. plainly refl) (λ t. if-all (λ (x : Effect). Plain x.reply) _ (λ u. plainly refl) (λ u. plainly refl))
 
-pub check-plain : (p : Part) (k : Core) (r : Range) (d01 : ℕ) (m : Flash) → Plain (blank_check p k r d01 m).reply
+pub check-plain : (p : Part) (k : Core) (r : Option Range) (d01 : ℕ) (m : Flash) → Plain (blank_check p k r d01 m).reply
 unfolding blank_check fault_in
-check-plain p k Bad d01 m = plainly refl
-check-plain p k (Blocks a block count) d01 m =
+check-plain p k None d01 m = plainly refl
+check-plain p k (Some range) d01 m =
     if-all (λ (d : Done). Plain d.reply) _ (λ t. plainly refl)
     (λ t. if-all (λ (d : Done). Plain d.reply) _ (λ u. plainly refl) (λ u. if-all (λ (d : Done). Plain d.reply) _ (λ v. plainly refl) (λ v. plainly refl)))
 
-pub program-plain : (p : Part) (k : Core) (r : Range) (start end : ℕ) → Plain (programming p k r start end).reply
+pub program-plain : (p : Part) (k : Core) (r : Option Range) (start end : ℕ) → Plain (programming p k r start end).reply
 unfolding programming fault_in
-program-plain p k Bad start end = plainly refl
-program-plain p k (Blocks a block count) start end = if-all (λ (d : Done). Plain d.reply) _ (λ t. plainly refl) (λ t. plainly refl)
+program-plain p k None start end = plainly refl
+program-plain p k (Some range) start end = if-all (λ (d : Done). Plain d.reply) _ (λ t. plainly refl) (λ t. plainly refl)
 
-pub verify-plain : (k : Core) (r : Range) (start end : ℕ) → Plain (verify k r start end).reply
+pub verify-plain : (k : Core) (r : Option Range) (start end : ℕ) → Plain (verify k r start end).reply
 unfolding verify fault_in
-verify-plain k Bad start end = plainly refl
-verify-plain k (Blocks a block count) start end = plainly refl
+verify-plain k None start end = plainly refl
+verify-plain k (Some range) start end = plainly refl
 
-pub sum-plain : (p : Part) (k : Core) (r : Range) (m : Memory) → Plain (checksum p k r m).reply
+pub sum-plain : (p : Part) (k : Core) (r : Option Range) (m : Memory) → Plain (checksum p k r m).reply
 unfolding checksum fault_in
-sum-plain p k Bad m = plainly refl
-sum-plain p k (Blocks a block count) m = if-all (λ (d : Done). Plain d.reply) _ (λ t. plainly refl) (λ t. plainly refl)
+sum-plain p k None m = plainly refl
+sum-plain p k (Some range) m = if-all (λ (d : Done). Plain d.reply) _ (λ t. plainly refl) (λ t. plainly refl)
 
 pub release-plain : (p : Part) (k : Core) (m : Flash) → Plain (security_release p k m).reply
 unfolding security_release fault_in
@@ -106,11 +104,11 @@ stored-plain : (w : Awaited) → Plain (stored_reply w)
 unfolding stored_reply fault_in
 stored-plain w = if-all Plain _ (λ t. plainly refl) (λ t. plainly refl)
 
-pub page-plain : (p : Part) (k : Core) (w : Awaited) (x : Place) (ds : List ℕ) (m : Memory) → Plain (program_page p k w x ds m).reply
+pub page-plain : (p : Part) (k : Core) (w : Awaited) (x : Option Place) (ds : List ℕ) (m : Memory) → Plain (program_page p k w x ds m).reply
 unfolding program_page fault_in
 page-plain p k w x ds m = told-either (λ (d : Awaited → Core → Done). Plain (d w k).reply) (page_in x m.flash) ds (λ t. stored-plain w) (λ t. plainly refl)
 
-pub compare_plain : (k : Core) (w : Awaited) (x : Place) (ds : List ℕ) (m : Flash) → Plain (verify_page k w x ds m).reply
+pub compare_plain : (k : Core) (w : Awaited) (x : Option Place) (ds : List ℕ) (m : Flash) → Plain (verify_page k w x ds m).reply
 unfolding verify_page fault_in
 compare_plain k w x ds m = plainly refl
 
@@ -142,11 +140,11 @@ record Names (j : Judgement) (x : Effect) : Type 0 where
   named : fault_in x.reply ≡ j
 
 module _ (p : Part) (k : Core) (m : Memory) where
-  reading-names : (r : Reading) → Names (fault_read r) (reading_does r p k m)
+  reading-names : (r : Result Command Misread) → Names (fault_read r) (reading_does r p k m)
   unfolding reading_does fault_read fault_in
-  reading-names Unknown = record { named = refl }
-  reading-names UnfitLen = record { named = refl }
-  reading-names (Meant c) = record { named = (work-plain c p k m).none }
+  reading-names (Err Unknown) = record { named = refl }
+  reading-names (Err UnfitLen) = record { named = refl }
+  reading-names (Ok c) = record { named = (work-plain c p k m).none }
 
   command-names : (f : List ℕ) → Names (command_fault k.phase f) (command_does p k f m)
   unfolding command_does command_fault fault_in
@@ -182,11 +180,11 @@ module _ (ph : Phase) (c : AwaitsCommand ph) (p : Part) (k : Core) (m : Memory) 
   good-so : (x : Effect) → Blamed ph p k m Good x
   good-so x = record { so = λ e. absurd (true≢false e) }
 
-  reading-blamed : (r : Reading) → Blamed ph p k m (fault_read r) (reading_does r p k m)
+  reading-blamed : (r : Result Command Misread) → Blamed ph p k m (fault_read r) (reading_does r p k m)
   unfolding reading_does fault_read
-  reading-blamed Unknown = good-so _
-  reading-blamed UnfitLen = record { so = λ e. command-blamed ph p k m UnfitLength c }
-  reading-blamed (Meant a) = good-so _
+  reading-blamed (Err Unknown) = good-so _
+  reading-blamed (Err UnfitLen) = record { so = λ e. command-blamed ph p k m UnfitLength c }
+  reading-blamed (Ok a) = good-so _
 
   frame-so : (f : List ℕ) → Blamed ph p k m (command_fault k.phase f) (command_does p k f m)
   unfolding command_does command_fault
@@ -209,19 +207,19 @@ unfolding does_in
 fault-is-blamed p k m f a g = frame-blamed k.phase p k m f a refl g
 
 -- The fault told is that of the reply, where the call is accepted.
-settled-fault : (v : Verdict) (p : Part) (x : Reaction) (o : Outcome) (fs : List (List ℕ)) → fault_in x.does.reply ≡ fault_by Accepted o.chip.core.phase fs
+settled-fault : (v : Result Unit Refusal) (p : Part) (x : Reaction) (o : Outcome) (fs : List (List ℕ)) → fault_in x.does.reply ≡ fault_by (Ok tt) o.chip.core.phase fs
     → (settled v p x o.chip o.memory o.room).fault ≡ fault_by v o.chip.core.phase fs
 unfolding settled fault_by
-settled-fault (Refused r) p x o fs e = refl
-settled-fault Accepted p x o fs e = e
+settled-fault (Err r) p x o fs e = refl
+settled-fault (Ok _) p x o fs e = e
 
 pub fault-of-event : FaultOfEvent
 unfolding step_of reaction_of fault_by fault_in
 fault-of-event p o v = settled-fault (verdict_in p o) p (reaction_of p o v) o (taken_by o v) (go (went p o v))
   where
     go : Went (taken_by o v) (λ f. does_in p f o.chip.core o.memory) (silent (quiet_core v o.chip.core) o.memory) (reaction_of p o v)
-        → fault_in (reaction_of p o v).does.reply ≡ fault_by Accepted o.chip.core.phase (taken_by o v)
-    go (only_heard t q) = ap (λ (x : Effect). fault_in x.reply) q ∙ ap (fault_by Accepted o.chip.core.phase) (sym t)
+        → fault_in (reaction_of p o v).does.reply ≡ fault_by (Ok tt) o.chip.core.phase (taken_by o v)
+    go (only_heard t q) = ap (λ (x : Effect). fault_in x.reply) q ∙ ap (fault_by (Ok tt) o.chip.core.phase) (sym t)
     go (frame_done f t q) =
         ap (λ (r : Reaction). fault_in r.does.reply) q ∙ fault-of-frame p o.chip.core o.memory f
-        ∙ ap (fault_by Accepted o.chip.core.phase) (sym t)
+        ∙ ap (fault_by (Ok tt) o.chip.core.phase) (sym t)

@@ -41,15 +41,14 @@ use Rattle.commands.proofs.Laws.{com-read}
 use Rattle.commands.specs.Commands.{com_of, read_command}
 use Rattle.commands.specs.declared.Command.{Command}
 use Rattle.commands.specs.declared.Command.TheVariants.{BlankCheck, BlockErase, Checksum, Programming, RateSet, Reset, SecurityGet, SecurityRelease, SecuritySet, SignatureGet, Verify}
-use Rattle.commands.specs.declared.Reading.{Reading}
-use Rattle.commands.specs.declared.Reading.TheVariants.{Meant, UnfitLen, Unknown}
+use Rattle.part.specs.declared.Range.{Range}
+use Rattle.part.specs.declared.Place.{Place}
+use Rattle.commands.specs.declared.Misread.TheVariants.{UnfitLen, Unknown}
+use Rattle.commands.specs.declared.Misread.{Misread}
+use Rattle.std.specs.Prelude.{Err, None, Ok, Option, Result, Some}
 use Rattle.frame.specs.Frame.{payload}
 use Rattle.part.specs.Part.{place_of}
 use Rattle.part.specs.declared.Part.{Part}
-use Rattle.part.specs.declared.Place.{Place}
-use Rattle.part.specs.declared.Place.TheVariants.{In, Outside}
-use Rattle.part.specs.declared.Range.{Range}
-use Rattle.part.specs.declared.Range.TheVariants.{Bad, Blocks}
 use Rattle.words.proofs.Laws.{if-all}
 use Rattle.words.specs.Words.{◌and◌, ◌or◌}
 
@@ -58,7 +57,7 @@ data Sets (p : Part) (k : Core) (ph : Phase) (f : List ℕ) (x : Effect) : Type 
   leaves-them : x.core.options ≡ k.options → Sets p k ph f x
   stores : (w : Awaited) → ph ≡ Awaiting w → w.command ≡ 0xA0 → x.reply ≡ Status 0x06 → x.core.options ≡ options_in (payload f)
       → raises p k.options.flags x.core.options.flags ≡ false → Sets p k ph f x
-  releases-them : ph ≡ Ready → read_command (payload f) ≡ Meant SecurityRelease → x.reply ≡ Status 0x06 → x.core.options ≡ released p k.options → Sets p k ph f x
+  releases-them : ph ≡ Ready → read_command (payload f) ≡ Ok SecurityRelease → x.reply ≡ Status 0x06 → x.core.options ≡ released p k.options → Sets p k ph f x
 
 module _ (p : Part) (k : Core) (m : Memory) (f : List ℕ) where
   -- Of a command: ph is the phase that allows it.
@@ -66,42 +65,42 @@ module _ (p : Part) (k : Core) (m : Memory) (f : List ℕ) where
   unfolding rate_set
   rate-set ph rate supply = if-all (λ d. Sets p k ph f (effect d m)) _ (λ t. leaves-them refl) (λ t. leaves-them refl)
 
-  erases : (ph : Phase) (x : Place) → Sets p k ph f (block_erase p k x m)
+  erases : (ph : Phase) (x : Option Place) → Sets p k ph f (block_erase p k x m)
   unfolding block_erase
-  erases ph Outside = leaves-them refl
-  erases ph (In a offset block page) =
+  erases ph None = leaves-them refl
+  erases ph (Some place) =
       if-all (Sets p k ph f) _ (λ t. leaves-them refl) (λ t. if-all (Sets p k ph f) _ (λ u. leaves-them refl) (λ u. leaves-them refl))
 
-  checks : (ph : Phase) (r : Range) (d01 : ℕ) → Sets p k ph f (effect (blank_check p k r d01 m.flash) m)
+  checks : (ph : Phase) (r : Option Range) (d01 : ℕ) → Sets p k ph f (effect (blank_check p k r d01 m.flash) m)
   unfolding blank_check
-  checks ph Bad d01 = leaves-them refl
-  checks ph (Blocks a block count) d01 =
+  checks ph None d01 = leaves-them refl
+  checks ph (Some range) d01 =
       if-all (λ d. Sets p k ph f (effect d m)) _ (λ t. leaves-them refl)
       (λ t. if-all (λ d. Sets p k ph f (effect d m)) _ (λ u. leaves-them refl)
       (λ u. if-all (λ d. Sets p k ph f (effect d m)) _ (λ v. leaves-them refl) (λ v. leaves-them refl)))
 
-  programs : (ph : Phase) (r : Range) (start end : ℕ) → Sets p k ph f (effect (programming p k r start end) m)
+  programs : (ph : Phase) (r : Option Range) (start end : ℕ) → Sets p k ph f (effect (programming p k r start end) m)
   unfolding programming
-  programs ph Bad start end = leaves-them refl
-  programs ph (Blocks a block count) start end = if-all (λ d. Sets p k ph f (effect d m)) _ (λ t. leaves-them refl) (λ t. leaves-them refl)
+  programs ph None start end = leaves-them refl
+  programs ph (Some range) start end = if-all (λ d. Sets p k ph f (effect d m)) _ (λ t. leaves-them refl) (λ t. leaves-them refl)
 
-  verifies : (ph : Phase) (r : Range) (start end : ℕ) → Sets p k ph f (effect (verify k r start end) m)
+  verifies : (ph : Phase) (r : Option Range) (start end : ℕ) → Sets p k ph f (effect (verify k r start end) m)
   unfolding verify
-  verifies ph Bad start end = leaves-them refl
-  verifies ph (Blocks a block count) start end = leaves-them refl
+  verifies ph None start end = leaves-them refl
+  verifies ph (Some range) start end = leaves-them refl
 
-  sums : (ph : Phase) (r : Range) → Sets p k ph f (effect (checksum p k r m) m)
+  sums : (ph : Phase) (r : Option Range) → Sets p k ph f (effect (checksum p k r m) m)
   unfolding checksum
-  sums ph Bad = leaves-them refl
-  sums ph (Blocks a block count) = if-all (λ d. Sets p k ph f (effect d m)) _ (λ t. leaves-them refl) (λ t. leaves-them refl)
+  sums ph None = leaves-them refl
+  sums ph (Some range) = if-all (λ d. Sets p k ph f (effect d m)) _ (λ t. leaves-them refl) (λ t. leaves-them refl)
 
-  frees : (ph : Phase) → ph ≡ Ready → read_command (payload f) ≡ Meant SecurityRelease → Sets p k ph f (effect (security_release p k m.flash) m)
+  frees : (ph : Phase) → ph ≡ Ready → read_command (payload f) ≡ Ok SecurityRelease → Sets p k ph f (effect (security_release p k m.flash) m)
   unfolding security_release
   frees ph e r =
       if-all (λ d. Sets p k ph f (effect d m)) _ (λ t. leaves-them refl)
       (λ t. if-all (λ d. Sets p k ph f (effect d m)) _ (λ u. leaves-them refl) (λ u. releases-them e r refl refl))
 
-  works : (ph : Phase) (c : Command) → read_command (payload f) ≡ Meant c → (c ≡ SecurityRelease → ph ≡ Ready) → Sets p k ph f (work c p k m)
+  works : (ph : Phase) (c : Command) → read_command (payload f) ≡ Ok c → (c ≡ SecurityRelease → ph ≡ Ready) → Sets p k ph f (work c p k m)
   unfolding work
   works ph (RateSet rate supply) r e = rate-set ph rate supply
   works ph Reset r e = leaves-them refl
@@ -115,14 +114,14 @@ module _ (p : Part) (k : Core) (m : Memory) (f : List ℕ) where
   works ph SecuritySet r e = leaves-them refl
   works ph SecurityRelease r e = frees ph (e refl) r
 
-  reading-does : (ph : Phase) (r : Reading) → read_command (payload f) ≡ r → (r ≡ Meant SecurityRelease → ph ≡ Ready) → Sets p k ph f (reading_does r p k m)
+  reading-does : (ph : Phase) (r : Result Command Misread) → read_command (payload f) ≡ r → (r ≡ Ok SecurityRelease → ph ≡ Ready) → Sets p k ph f (reading_does r p k m)
   unfolding reading_does
-  reading-does ph Unknown r e = leaves-them refl
-  reading-does ph UnfitLen r e = leaves-them refl
-  reading-does ph (Meant c) r e = works ph c r (λ q. e (ap (λ (c : Command). Meant c) q))
+  reading-does ph (Err Unknown) r e = leaves-them refl
+  reading-does ph (Err UnfitLen) r e = leaves-them refl
+  reading-does ph (Ok c) r e = works ph c r (λ q. e (ap (λ (c : Command). Ok c) q))
 
   -- A2h is allowed in phase 3 alone.
-  allowed : (ph : Phase) → allowed_in ph (get_or (payload f) 0 0) ≡ true → read_command (payload f) ≡ Meant SecurityRelease → ph ≡ Ready
+  allowed : (ph : Phase) → allowed_in ph (get_or (payload f) 0 0) ≡ true → read_command (payload f) ≡ Ok SecurityRelease → ph ≡ Ready
   unfolding allowed_in com_of
   allowed ModeByte t r = absurd (false≢true t)
   allowed Setup t r = absurd (false≢true (ap (λ (c : ℕ). eqb c 0x9A) (sym (com-read (payload f) SecurityRelease r)) ∙ t))

@@ -30,17 +30,16 @@ use Rattle.claims_runs.specs.Refused.{NothingChanged, RefusedChangesNothing, Ref
 use Rattle.claims_runs.specs.Taken.{taken_by}
 use Rattle.commands.specs.declared.Command.{Command}
 use Rattle.commands.specs.declared.Command.TheVariants.{BlankCheck, BlockErase, Checksum, Programming, RateSet, Reset, SecurityGet, SecurityRelease, SecuritySet, SignatureGet, Verify}
-use Rattle.commands.specs.declared.Reading.{Reading}
-use Rattle.commands.specs.declared.Reading.TheVariants.{Meant, UnfitLen, Unknown}
+use Rattle.part.specs.declared.Range.{Range}
+use Rattle.part.specs.declared.Place.{Place}
+use Rattle.commands.specs.declared.Misread.TheVariants.{UnfitLen, Unknown}
+use Rattle.commands.specs.declared.Misread.{Misread}
+use Rattle.std.specs.Prelude.{Err, None, Ok, Option, Result, Some}
 use Rattle.frame.specs.Frame.{framed, payload}
 use Rattle.frame.specs.Judgement.{status_of}
 use Rattle.lent.specs.Lent.{all_are, same}
 use Rattle.part.specs.Part.{place_of}
 use Rattle.part.specs.declared.Part.{Part}
-use Rattle.part.specs.declared.Place.{Place}
-use Rattle.part.specs.declared.Place.TheVariants.{In, Outside}
-use Rattle.part.specs.declared.Range.{Range}
-use Rattle.part.specs.declared.Range.TheVariants.{Bad, Blocks}
 use Rattle.words.proofs.Laws.{if-all}
 use Rattle.words.specs.Words.{◌and◌, if◌then◌otherwise◌}
 
@@ -100,32 +99,32 @@ module _ (p : Part) (k : Core) (m : Memory) where
   unfolding rate_set denies statuses_of refusing all_are same ◌and◌
   rate-set rate supply = if-all (λ d. Same k m (effect d m)) _ (λ t. stays k m _) (λ t. allows refl)
 
-  erases : (x : Place) → Same k m (block_erase p k x m)
+  erases : (x : Option Place) → Same k m (block_erase p k x m)
   unfolding block_erase denies statuses_of refusing all_are same ◌and◌
-  erases Outside = stays k m _
-  erases (In a offset block page) = if-all (Same k m) _ (λ t. stays k m _) (λ t. if-all (Same k m) _ (λ u. stays k m _) (λ u. allows refl))
+  erases None = stays k m _
+  erases (Some place) = if-all (Same k m) _ (λ t. stays k m _) (λ t. if-all (Same k m) _ (λ u. stays k m _) (λ u. allows refl))
 
-  checks : (r : Range) (d01 : ℕ) → Same k m (effect (blank_check p k r d01 m.flash) m)
+  checks : (r : Option Range) (d01 : ℕ) → Same k m (effect (blank_check p k r d01 m.flash) m)
   unfolding blank_check
-  checks Bad d01 = stays k m _
-  checks (Blocks a block count) d01 =
+  checks None d01 = stays k m _
+  checks (Some range) d01 =
       if-all (λ d. Same k m (effect d m)) _ (λ t. stays k m _)
       (λ t. if-all (λ d. Same k m (effect d m)) _ (λ u. stays k m _) (λ u. if-all (λ d. Same k m (effect d m)) _ (λ v. stays k m _) (λ v. stays k m _)))
 
-  programs : (r : Range) (start end : ℕ) → Same k m (effect (programming p k r start end) m)
+  programs : (r : Option Range) (start end : ℕ) → Same k m (effect (programming p k r start end) m)
   unfolding programming denies statuses_of refusing all_are same ◌and◌
-  programs Bad start end = stays k m _
-  programs (Blocks a block count) start end = if-all (λ d. Same k m (effect d m)) _ (λ t. stays k m _) (λ t. allows refl)
+  programs None start end = stays k m _
+  programs (Some range) start end = if-all (λ d. Same k m (effect d m)) _ (λ t. stays k m _) (λ t. allows refl)
 
-  verifies : (r : Range) (start end : ℕ) → Same k m (effect (verify k r start end) m)
+  verifies : (r : Option Range) (start end : ℕ) → Same k m (effect (verify k r start end) m)
   unfolding verify denies statuses_of refusing all_are same ◌and◌
-  verifies Bad start end = stays k m _
-  verifies (Blocks a block count) start end = allows refl
+  verifies None start end = stays k m _
+  verifies (Some range) start end = allows refl
 
-  sums : (r : Range) → Same k m (effect (checksum p k r m) m)
+  sums : (r : Option Range) → Same k m (effect (checksum p k r m) m)
   unfolding checksum
-  sums Bad = stays k m _
-  sums (Blocks a block count) = if-all (λ d. Same k m (effect d m)) _ (λ t. stays k m _) (λ t. stays k m _)
+  sums None = stays k m _
+  sums (Some range) = if-all (λ d. Same k m (effect d m)) _ (λ t. stays k m _) (λ t. stays k m _)
 
   releases : Same k m (effect (security_release p k m.flash) m)
   unfolding security_release denies statuses_of refusing all_are same ◌and◌
@@ -145,11 +144,11 @@ module _ (p : Part) (k : Core) (m : Memory) where
   works SecuritySet = allows refl
   works SecurityRelease = releases
 
-  reading-does : (r : Reading) → Same k m (reading_does r p k m)
+  reading-does : (r : Result Command Misread) → Same k m (reading_does r p k m)
   unfolding reading_does
-  reading-does Unknown = stays k m _
-  reading-does UnfitLen = stays k m _
-  reading-does (Meant c) = works c
+  reading-does (Err Unknown) = stays k m _
+  reading-does (Err UnfitLen) = stays k m _
+  reading-does (Ok c) = works c
 
   command-does : (f : List ℕ) → Same k m (command_does p k f m)
   unfolding command_does
@@ -168,7 +167,7 @@ module _ (p : Part) (k : Core) (m : Memory) where
       go true e = rw e (stays (ready k) m _)
       go false e = rw e (allows refl)
 
-  written : (w : Awaited) (at : Place) (ds : List ℕ) → Same (ready k) m (program_page p k w at ds m)
+  written : (w : Awaited) (at : Option Place) (ds : List ℕ) → Same (ready k) m (program_page p k w at ds m)
   unfolding program_page denies statuses_of refusing all_are same ◌and◌
   written w at ds =
       told-either (λ (d : Awaited → Core → Done). Same (ready k) m (effect (d w k) (page_written p at ds m))) (page_in at m.flash) ds (λ t. allows (stored-allowed w)) (λ t. allows refl)

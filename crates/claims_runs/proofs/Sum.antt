@@ -22,21 +22,21 @@ use Rattle.frame.proofs.Laws.Sum.{Below, below-drop, below-take, more, none, one
 use Rattle.frame.specs.Frame.{framed}
 use Rattle.numbers.specs.Numbers.{low_first}
 use Rattle.part.proofs.Laws.{Stretch, range-good}
-use Rattle.part.specs.Part.{block_size, blocks, range_of}
+use Rattle.part.specs.Part.{block_size, blocks, range_of, range_at}
 use Rattle.part.specs.declared.Area.{Area}
 use Rattle.part.specs.declared.Area.TheVariants.{CodeFlash, DataFlash}
 use Rattle.part.specs.declared.Part.{Part}
 use Rattle.part.specs.declared.Range.{Range}
-use Rattle.part.specs.declared.Range.TheVariants.{Blocks}
+use Rattle.std.specs.Prelude.{Option, Some}
 use Rattle.words.proofs.Laws.{if-all}
 
 -- What is said to B0h is the sum of the range's bytes, where the kept sums are right.
-told-sum : (p : Part) (k : Core) (m : Memory) (start end : ℕ) (a : Area) (block count : ℕ) → range_of p start end ≡ Blocks a block count → Right p m
+told-sum : (p : Part) (k : Core) (m : Memory) (start end : ℕ) (a : Area) (block count : ℕ) → range_of p start end ≡ Some (range_at a block count) → Right p m
     → sum_said p k start end m ≡ frames_of ((0x06 ∷ []) ∷ low_first 2 (sum_of_bytes (range_bytes p a block count m.flash)) ∷ [])
 unfolding work checksum payloads block_sum
 told-sum p k m start end a block count e r =
     let tells : ℕ → List ℕ = λ n. frames_of ((0x06 ∷ []) ∷ low_first 2 n ∷ []) in
-    ap (λ (r : Range). frames_of (payloads p k.options (checksum p k r m).reply)) e
+    ap (λ (r : Option Range). frames_of (payloads p k.options (checksum p k r m).reply)) e
     ∙ if-all (λ (d : Done). frames_of (payloads p k.options d.reply) ≡ tells (sum_of_bytes (range_bytes p a block count m.flash))) _
     (λ t.
     let one : count ≡ 1 = eqb-true _ _ t in

@@ -10,7 +10,11 @@ use borrow.Author.Tests.{eqb-true, not-false}
 use Rattle.chip.specs.Run.{onward, run, spoken_in}
 use Rattle.chip.specs.Step.{Outcome, Reaction, byte_in, heard_byte, react_to, reaction}
 use Rattle.chip_frame.specs.Does.{frame_does, mode_byte, silent}
-use Rattle.chip.specs.declared.Answer.TheVariants.{Replied}
+use Rattle.part.specs.declared.Range.{Range}
+use Rattle.part.specs.declared.Place.{Place}
+use Rattle.commands.specs.declared.Misread.TheVariants.{UnfitLen, Unknown}
+use Rattle.commands.specs.declared.Misread.{Misread}
+use Rattle.std.specs.Prelude.{Err, None, Ok, Option, Result, Some}
 use Rattle.chip.specs.declared.Event.{Event}
 use Rattle.chip.specs.declared.Event.TheVariants.{Byte, Gap, PowerOn}
 use Rattle.chip_commands.specs.Commands.{allowed_in, command_does, reading_does, work}
@@ -27,7 +31,7 @@ use Rattle.chip_options.specs.Options.{is_fresh, released}
 use Rattle.chip_options.specs.declared.Options.{Options}
 use Rattle.chip_pages.proofs.Laws.{told-either}
 use Rattle.chip_pages.specs.Pages.{bad_data, data_does, good_data, next_page, page_in, page_written, program_page, security_data, stored_reply, verify_page}
-use Rattle.chip_reply.specs.Reply.{fault_in, frames_of, payloads}
+use Rattle.chip_reply.specs.Reply.{fault_in, frames_of, payloads, sent_as}
 use Rattle.chip_reply.specs.declared.Reply.{Reply}
 use Rattle.chip_reply.specs.declared.Reply.TheVariants.{BadFrame, BadPage, LastStored, Pair, Rate, Security, Signature, Silence, Status, Sum}
 use Rattle.chip_work.specs.Work.{blank_check, block_erase, checksum, programming, rate_set, security_release, verify}
@@ -42,17 +46,11 @@ use Rattle.commands.proofs.Laws.{com-read}
 use Rattle.commands.specs.Commands.{com_of, read_command}
 use Rattle.commands.specs.declared.Command as Commands
 use Rattle.commands.specs.declared.Command.TheVariants.{BlankCheck, BlockErase, Checksum, Programming, RateSet, Reset, SecurityGet, SecurityRelease, SecuritySet, SignatureGet, Verify}
-use Rattle.commands.specs.declared.Reading.{Reading}
-use Rattle.commands.specs.declared.Reading.TheVariants.{Meant, UnfitLen, Unknown}
 use Rattle.frame.specs.Collector.{hear, heard}
 use Rattle.frame.specs.Frame.{complete, payload}
 use Rattle.frame.specs.declared.Header.TheVariants.{Command, Data}
 use Rattle.part.specs.Part.{place_of}
 use Rattle.part.specs.declared.Part.{Part}
-use Rattle.part.specs.declared.Place.{Place}
-use Rattle.part.specs.declared.Place.TheVariants.{In, Outside}
-use Rattle.part.specs.declared.Range.{Range}
-use Rattle.part.specs.declared.Range.TheVariants.{Bad, Blocks}
 use Rattle.words.proofs.Laws.{if-all}
 use Rattle.words.specs.Words.{◌and◌, if◌then◌otherwise◌}
 
@@ -65,8 +63,8 @@ if-two P false f g = g refl
 
 -- Whether a frame looks at the window, by its payload.
 data Looks (f : List ℕ) : Type 0 where
-  at_report : read_command (payload f) ≡ Meant SecurityGet → Looks f
-  at_fresh : (start end : ℕ) → read_command (payload f) ≡ Meant (BlankCheck start end 0x01) → Looks f
+  at_report : read_command (payload f) ≡ Ok SecurityGet → Looks f
+  at_fresh : (start end : ℕ) → read_command (payload f) ≡ Ok (BlankCheck start end 0x01) → Looks f
 
 -- The same is said, or the window is looked at.
 data Told (L : Type 0) {A : Type 0} (a b : A) : Type 0 where
@@ -75,7 +73,7 @@ data Told (L : Type 0) {A : Type 0} (a b : A) : Type 0 where
 
 -- What a reply says.
 spoken : Part → Options → Reply → Utterance
-spoken p o r = let rs = payloads p o r in record { answer = Replied (length (frames_of rs)) (length rs); fault = fault_in r; bytes = frames_of rs }
+spoken p o r = let rs = payloads p o r in record { answer = Ok (sent_as (length (frames_of rs)) (length rs)); fault = fault_in r; bytes = frames_of rs }
 
 -- What a frame did to two records that differ in the window: x and y.
 record Beside (p : Part) (L : Type 0) (x y : Effect) : Type 0 where
@@ -124,10 +122,10 @@ module _ (p : Part) (L : Type 0) (f : List ℕ) (k : Core) (m : Memory) (s e : �
   unfolding rate_set reads
   rate-set rate supply = if-two (λ x y. Beside p L (effect x m) (effect y m)) _ (λ t. so k _ m refl) (λ t. so _ _ m refl)
 
-  erases : (x : Place) → Beside p L (block_erase p k x m) (block_erase p (with_window s e k) x m)
+  erases : (x : Option Place) → Beside p L (block_erase p k x m) (block_erase p (with_window s e k) x m)
   unfolding block_erase reads
-  erases Outside = so k _ m refl
-  erases (In a offset block page) =
+  erases None = so k _ m refl
+  erases (Some place) =
       if-two (Beside p L) _ (λ t. so k _ m refl) (λ t. if-two (Beside p L) _ (λ u. so k _ m refl) (λ u. so k _ _ refl))
 
   -- Two statuses, each by a test of its own: the frame looks.
@@ -140,37 +138,37 @@ module _ (p : Part) (L : Type 0) (f : List ℕ) (k : Core) (m : Memory) (s e : �
   either false true l = record { start = s; end = e; core = refl; memory = refl; tells = looks l }
   either false false l = record { start = s; end = e; core = refl; memory = refl; tells = looks l }
 
-  fresh : (Looks f → L) → (start end d01 : ℕ) → read_command (payload f) ≡ Meant (BlankCheck start end d01) → (t : Bool) → eqb d01 0x01 ≡ t
+  fresh : (Looks f → L) → (start end d01 : ℕ) → read_command (payload f) ≡ Ok (BlankCheck start end d01) → (t : Bool) → eqb d01 0x01 ≡ t
       → Beside p L (effect (if t and not (is_fresh p k.options) then says not_blank k otherwise says acknowledge k) m)
       (effect (if t and not (is_fresh p (with_window s e k).options) then says not_blank (with_window s e k) otherwise says acknowledge (with_window s e k)) m)
   unfolding ◌and◌ if◌then◌otherwise◌ reads
   fresh look start end d01 c true q =
       either (not (is_fresh p k.options)) (not (is_fresh p (with_window s e k).options))
-      (look (at_fresh start end (c ∙ ap (λ (d : ℕ). Meant (BlankCheck start end d)) (eqb-true _ _ q))))
+      (look (at_fresh start end (c ∙ ap (λ (d : ℕ). Ok (BlankCheck start end d)) (eqb-true _ _ q))))
   fresh look start end d01 c false q = so k _ m refl
 
-  checks : (Looks f → L) → (start end : ℕ) (r : Range) (d01 : ℕ) → read_command (payload f) ≡ Meant (BlankCheck start end d01)
+  checks : (Looks f → L) → (start end : ℕ) (r : Option Range) (d01 : ℕ) → read_command (payload f) ≡ Ok (BlankCheck start end d01)
       → Beside p L (effect (blank_check p k r d01 m.flash) m) (effect (blank_check p (with_window s e k) r d01 m.flash) m)
   unfolding blank_check reads
-  checks look start end Bad d01 c = so k _ m refl
-  checks look start end (Blocks a block count) d01 c =
+  checks look start end None d01 c = so k _ m refl
+  checks look start end (Some range) d01 c =
       if-two (λ x y. Beside p L (effect x m) (effect y m)) _ (λ t. so k _ m refl)
       (λ t. if-two (λ x y. Beside p L (effect x m) (effect y m)) _ (λ u. so k _ m refl) (λ u. fresh look start end d01 c (eqb d01 0x01) refl))
 
-  programs : (r : Range) (start end : ℕ) → Beside p L (effect (programming p k r start end) m) (effect (programming p (with_window s e k) r start end) m)
+  programs : (r : Option Range) (start end : ℕ) → Beside p L (effect (programming p k r start end) m) (effect (programming p (with_window s e k) r start end) m)
   unfolding programming reads
-  programs Bad start end = so k _ m refl
-  programs (Blocks a block count) start end = if-two (λ x y. Beside p L (effect x m) (effect y m)) _ (λ t. so k _ m refl) (λ t. so _ _ m refl)
+  programs None start end = so k _ m refl
+  programs (Some range) start end = if-two (λ x y. Beside p L (effect x m) (effect y m)) _ (λ t. so k _ m refl) (λ t. so _ _ m refl)
 
-  verifies : (r : Range) (start end : ℕ) → Beside p L (effect (verify k r start end) m) (effect (verify (with_window s e k) r start end) m)
+  verifies : (r : Option Range) (start end : ℕ) → Beside p L (effect (verify k r start end) m) (effect (verify (with_window s e k) r start end) m)
   unfolding verify reads
-  verifies Bad start end = so k _ m refl
-  verifies (Blocks a block count) start end = so _ _ m refl
+  verifies None start end = so k _ m refl
+  verifies (Some range) start end = so _ _ m refl
 
-  sums : (r : Range) → Beside p L (effect (checksum p k r m) m) (effect (checksum p (with_window s e k) r m) m)
+  sums : (r : Option Range) → Beside p L (effect (checksum p k r m) m) (effect (checksum p (with_window s e k) r m) m)
   unfolding checksum reads
-  sums Bad = so k _ m refl
-  sums (Blocks a block count) = if-two (λ x y. Beside p L (effect x m) (effect y m)) _ (λ t. so k _ m refl) (λ t. so k _ m refl)
+  sums None = so k _ m refl
+  sums (Some range) = if-two (λ x y. Beside p L (effect x m) (effect y m)) _ (λ t. so k _ m refl) (λ t. so k _ m refl)
 
   releases : Beside p L (effect (security_release p k m.flash) m) (effect (security_release p (with_window s e k) m.flash) m)
   unfolding security_release reads released
@@ -178,7 +176,7 @@ module _ (p : Part) (L : Type 0) (f : List ℕ) (k : Core) (m : Memory) (s e : �
       if-two (λ x y. Beside p L (effect x m) (effect y m)) _ (λ t. so k _ m refl)
       (λ t. if-two (λ x y. Beside p L (effect x m) (effect y m)) _ (λ u. so k _ m refl) (λ u. anew _ _ refl))
 
-  works : (Looks f → L) → (c : Commands.Command) → read_command (payload f) ≡ Meant c → Beside p L (work c p k m) (work c p (with_window s e k) m)
+  works : (Looks f → L) → (c : Commands.Command) → read_command (payload f) ≡ Ok c → Beside p L (work c p k m) (work c p (with_window s e k) m)
   unfolding work reads
   works look (RateSet rate supply) r = rate-set rate supply
   works look Reset r = so k _ m refl
@@ -192,11 +190,11 @@ module _ (p : Part) (L : Type 0) (f : List ℕ) (k : Core) (m : Memory) (s e : �
   works look SecuritySet r = so _ _ m refl
   works look SecurityRelease r = releases
 
-  reading-does : (Looks f → L) → (r : Reading) → read_command (payload f) ≡ r → Beside p L (reading_does r p k m) (reading_does r p (with_window s e k) m)
+  reading-does : (Looks f → L) → (r : Result Commands.Command Misread) → read_command (payload f) ≡ r → Beside p L (reading_does r p k m) (reading_does r p (with_window s e k) m)
   unfolding reading_does reads
-  reading-does look Unknown r = so k _ m refl
-  reading-does look UnfitLen r = so k _ m refl
-  reading-does look (Meant c) r = works look c r
+  reading-does look (Err Unknown) r = so k _ m refl
+  reading-does look (Err UnfitLen) r = so k _ m refl
+  reading-does look (Ok c) r = works look c r
 
   -- Of a data frame.
   next-page : (w : Awaited) (r : Reply) (n : Memory) → reads r ≡ false → Beside p L (effect (told r (next_page w k)) n) (effect (told r (next_page w (with_window s e k))) n)
@@ -207,7 +205,7 @@ module _ (p : Part) (L : Type 0) (f : List ℕ) (k : Core) (m : Memory) (s e : �
   unfolding stored_reply reads
   stored-plain w = if-all (λ r. reads r ≡ false) _ (λ t. refl) (λ t. refl)
 
-  written : (w : Awaited) (at : Place) (ds : List ℕ) → Beside p L (program_page p k w at ds m) (program_page p (with_window s e k) w at ds m)
+  written : (w : Awaited) (at : Option Place) (ds : List ℕ) → Beside p L (program_page p k w at ds m) (program_page p (with_window s e k) w at ds m)
   unfolding program_page reads
   written w at ds =
       told-either (λ (d : Awaited → Core → Done). Beside p L (effect (d w k) (page_written p at ds m)) (effect (d w (with_window s e k)) (page_written p at ds m)))

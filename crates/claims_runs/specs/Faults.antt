@@ -1,5 +1,5 @@
 -- Which fault is told, and when: document 02, §4, in document 01's order of judging a complete frame.
-use Rattle.std.specs.Prelude.{false, not, List, [], ◌∷◌, ◌≡◌, ℕ, get_or}
+use Rattle.std.specs.Prelude.{false, not, List, [], ◌∷◌, ◌≡◌, ℕ, get_or, Err, Ok, Result}
 use Rattle.chip.specs.Run.{onward}
 use Rattle.chip.specs.Step.{Outcome}
 use Rattle.chip.specs.declared.Event.{Event}
@@ -17,23 +17,22 @@ use Rattle.claims_good.specs.Good.{verdict_in}
 use Rattle.claims_runs.specs.Taken.{taken_by}
 use Rattle.commands.specs.Commands.{read_command}
 use Rattle.commands.specs.declared.Command.{Command}
-use Rattle.commands.specs.declared.Reading.{Reading}
-use Rattle.commands.specs.declared.Reading.TheVariants.{Meant, UnfitLen, Unknown}
+use Rattle.part.specs.declared.refusal.Refusal.{Refusal}
+use Rattle.commands.specs.declared.Misread.TheVariants.{UnfitLen, Unknown}
+use Rattle.commands.specs.declared.Misread.{Misread}
 use Rattle.frame.specs.Frame.{payload}
 use Rattle.frame.specs.Judgement.{is_good, judge_of}
 use Rattle.frame.specs.declared.Footer.TheVariants.{Last}
 use Rattle.frame.specs.declared.judgement.Judgement.{Judgement}
 use Rattle.frame.specs.declared.judgement.Judgement.TheVariants.{Good, UnfitLength}
 use Rattle.part.specs.declared.Part.{Part}
-use Rattle.part.specs.declared.refusal.Verdict.{Verdict}
-use Rattle.part.specs.declared.refusal.Verdict.TheVariants.{Accepted, Refused}
 use Rattle.words.specs.Words.{if◌then◌otherwise◌}
 
 -- "command unknown .. 04h; LEN unfit for the command 15h": an unknown command has no LEN to fit, and no fault.
-unfoldable pub fault_read : Reading → Judgement
-fault_read Unknown = Good
-fault_read UnfitLen = UnfitLength
-fault_read (Meant c) = Good
+unfoldable pub fault_read : Result Command Misread → Judgement
+fault_read (Err Unknown) = Good
+fault_read (Err UnfitLen) = UnfitLength
+fault_read (Ok c) = Good
 
 -- A command frame: "wrong footer 15h; wrong SUM 07h; command unknown or not allowed in this phase 04h; LEN unfit for the command 15h; .."; what comes after these
 -- is no fault of the frame.
@@ -67,10 +66,10 @@ pub record WorkNamesNone : Type 0 where
   pub of_data : (p : Part) (k : Core) (w : Awaited) (ds : List ℕ) (m : Memory) → fault_in (good_data p k w ds m).reply ≡ Good
 
 -- Over any event, whatever the part, the chip, what is lent and the event are: none for a refused call, none where no frame is completed, and else that frame's.
-unfoldable pub fault_by : Verdict → Phase → List (List ℕ) → Judgement
-fault_by (Refused r) ph fs = Good
-fault_by Accepted ph [] = Good
-fault_by Accepted ph (f ∷ fs) = fault_for ph f
+unfoldable pub fault_by : Result Unit Refusal → Phase → List (List ℕ) → Judgement
+fault_by (Err r) ph fs = Good
+fault_by (Ok _) ph [] = Good
+fault_by (Ok _) ph (f ∷ fs) = fault_for ph f
 
 abbrev pub FaultOfEvent : Type 0
 FaultOfEvent = (p : Part) (o : Outcome) (v : Event) → (onward p o v).fault ≡ fault_by (verdict_in p o) o.chip.core.phase (taken_by o v)

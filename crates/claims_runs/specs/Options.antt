@@ -1,5 +1,5 @@
 -- How the lasting options change: document 01, "Commands", A0h's data ("else stored, 06h") and A2h ("fresh flags and window"), and by nothing else.
-use Rattle.std.specs.Prelude.{false, List, [], ◌∷◌, ◌≡◌, ℕ}
+use Rattle.std.specs.Prelude.{false, List, [], ◌∷◌, ◌≡◌, ℕ, Ok}
 use Rattle.chip.specs.Run.{onward, run, spoken_in}
 use Rattle.chip.specs.Step.{Outcome}
 use Rattle.chip.specs.declared.Event.{Event}
@@ -12,7 +12,6 @@ use Rattle.claims_good.specs.Good.{AllProper, Stands, uttered}
 use Rattle.claims_runs.specs.Taken.{taken_by}
 use Rattle.commands.specs.Commands.{read_command}
 use Rattle.commands.specs.declared.Command.TheVariants.{SecurityRelease}
-use Rattle.commands.specs.declared.Reading.TheVariants.{Meant}
 use Rattle.frame.specs.Frame.{payload}
 use Rattle.part.specs.declared.Part.{Part}
 
@@ -28,7 +27,7 @@ pub record Acknowledged (p : Part) (o : Outcome) (v : Event) (f : List ℕ) : Ty
 pub record Releases (p : Part) (o : Outcome) (v : Event) : Type 0 where
   pub frame : List ℕ
   pub phase : o.chip.core.phase ≡ Ready
-  pub command : read_command (payload frame) ≡ Meant SecurityRelease
+  pub command : read_command (payload frame) ≡ Ok SecurityRelease
   pub answered : Acknowledged p o v frame
 
 -- It is A0h's data, which is stored, and no 0 flag becomes 1; or it is A2h, and the options are released.

@@ -1,5 +1,5 @@
 -- B0h's sum tells one changed byte: document 01, "The SUM fact is proved once over the modulus and serves 8 and 16 bits."
-use Rattle.std.specs.Prelude.{List, ◌≢◌, ◌≡◌, ◌+◌, ◌<◌, ◌≤◌, ℕ, get_or, length, set}
+use Rattle.std.specs.Prelude.{List, ◌≢◌, ◌≡◌, ◌+◌, ◌<◌, ◌≤◌, ℕ, get_or, length, set, Some}
 use Rattle.chip_commands.specs.Commands.{work}
 use Rattle.chip_core.specs.Effect.{Flash, Memory, bytes_in, with_bytes}
 use Rattle.chip_core.specs.declared.Core.{Core}
@@ -7,10 +7,9 @@ use Rattle.chip_reply.specs.Reply.{frames_of, payloads}
 use Rattle.chip_sums.specs.Sums.{Right}
 use Rattle.commands.specs.declared.Command.TheVariants.{Checksum}
 use Rattle.frame.proofs.Laws.Sum.{Below}
-use Rattle.part.specs.Part.{first, range_of, size}
+use Rattle.part.specs.Part.{first, range_of, size, range_at}
 use Rattle.part.specs.declared.Area.{Area}
 use Rattle.part.specs.declared.Part.{Part}
-use Rattle.part.specs.declared.Range.TheVariants.{Blocks}
 
 -- What is said to B0h over a range.
 abbrev pub sum_said : Part → Core → ℕ → ℕ → Memory → List ℕ
@@ -20,7 +19,7 @@ sum_said p k start end m = frames_of (payloads p k.options (work (Checksum start
 pub record InRange (p : Part) (m : Flash) (start end : ℕ) (a : Area) (i v : ℕ) : Type 0 where
   pub block : ℕ
   pub count : ℕ
-  pub range : range_of p start end ≡ Blocks a block count
+  pub range : range_of p start end ≡ Some (range_at a block count)
   pub long : length (bytes_in a m) ≡ size p a
   pub bytes : Below 256 (bytes_in a m)
   pub from_start : start ≤ first a + i

@@ -1,5 +1,5 @@
 -- "The window is stored and reported but does not restrict serial commands.": document 01, "The two ends of the cable".
-use Rattle.std.specs.Prelude.{List, [], ◌∷◌, ◌≡◌, ℕ}
+use Rattle.std.specs.Prelude.{List, [], ◌∷◌, ◌≡◌, ℕ, Ok}
 use Rattle.chip.specs.Run.{onward, run, spoken_in}
 use Rattle.chip.specs.Step.{Outcome}
 use Rattle.chip.specs.declared.Event.{Event}
@@ -9,7 +9,6 @@ use Rattle.claims_good.specs.Good.{AllProper, Stands, uttered}
 use Rattle.claims_runs.specs.Taken.{taken_by}
 use Rattle.commands.specs.Commands.{read_command}
 use Rattle.commands.specs.declared.Command.TheVariants.{BlankCheck, SecurityGet}
-use Rattle.commands.specs.declared.Reading.TheVariants.{Meant}
 use Rattle.frame.specs.Collector.{heard}
 use Rattle.frame.specs.Frame.{payload}
 use Rattle.part.specs.declared.Part.{Part}
@@ -34,8 +33,8 @@ pub record OtherWindow (o u : Outcome) : Type 0 where
 
 -- The two commands that look at it: A1h reports it, and 32h with D01 01h asks whether it is fresh.
 pub data LooksAtWindow (o : Outcome) (v : Event) : Type 0 where
-  reports : (f : List ℕ) → o.chip.core.phase ≡ Ready → taken_by o v ≡ f ∷ [] → read_command (payload f) ≡ Meant SecurityGet → LooksAtWindow o v
-  asks_fresh : (f : List ℕ) (start end : ℕ) → o.chip.core.phase ≡ Ready → taken_by o v ≡ f ∷ [] → read_command (payload f) ≡ Meant (BlankCheck start end 0x01)
+  reports : (f : List ℕ) → o.chip.core.phase ≡ Ready → taken_by o v ≡ f ∷ [] → read_command (payload f) ≡ Ok SecurityGet → LooksAtWindow o v
+  asks_fresh : (f : List ℕ) (start end : ℕ) → o.chip.core.phase ≡ Ready → taken_by o v ≡ f ∷ [] → read_command (payload f) ≡ Ok (BlankCheck start end 0x01)
       → LooksAtWindow o v
 
 -- The same is said to each event of a run, but to these two.

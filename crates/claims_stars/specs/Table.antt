@@ -1,5 +1,5 @@
 -- The ★ examples of document 01, "Examples, on that part": what the definitions give, and what the document prints, in the document's order.
-use Rattle.std.specs.Prelude.{List, [], ◌++◌, ◌∷◌, map, ◌≡◌, ℕ, replicate}
+use Rattle.std.specs.Prelude.{List, [], ◌++◌, ◌∷◌, map, ◌≡◌, ℕ, replicate, Ok}
 use Rattle.chip.specs.Run.{answers, before, heard_back}
 use Rattle.chip.specs.Step.{Outcome}
 use Rattle.chip.specs.declared.Event.TheVariants.{Byte}
@@ -13,7 +13,6 @@ use Rattle.chip_options.specs.Options.{fresh_options}
 use Rattle.chip_options.specs.declared.Options.{Options}
 use Rattle.chip_sums.specs.Sums.{slots, summing, worked_out}
 use Rattle.part.specs.declared.Part.{Part}
-use Rattle.part.specs.declared.refusal.Verdict.TheVariants.{Accepted}
 use Rattle.replay_records.specs.Records.{replay_part}
 
 -- "Examples, on that part": the part of the replay.
@@ -30,7 +29,7 @@ fresh_memory = memory (replicate 16384 0xFF) (replicate 4096 0xFF) fresh_sums
 
 -- They are what the call that works all sums out gives.
 abbrev pub FreshSums : Type 0
-FreshSums = worked_out the_part fresh_memory.flash (replicate slots 0) ≡ summing Accepted fresh_sums
+FreshSums = worked_out the_part fresh_memory.flash (replicate slots 0) ≡ summing (Ok tt) fresh_sums
 
 -- Ready, flash fresh, nothing collected; the room is the least that is accepted.
 abbrev pub chip_with : Options → Outcome

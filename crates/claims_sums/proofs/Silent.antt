@@ -1,5 +1,7 @@
 -- The proof of `SilentLeaves`.
 -- Assumes nothing.
+use Rattle.part.specs.declared.refusal.Refusal.{Refusal}
+use Rattle.chip_reply.specs.declared.Sent.{Sent}
 use mathlib.Core.List.{List}
 use mathlib.Core.Path.{◌∙◌, ◌≡◌, ap, refl, sym}
 use Prim.Native.Nat.{ℕ}
@@ -7,7 +9,9 @@ use native.Mathlib.Omega.{arith}
 use lib.ListN.{length}
 use Rattle.chip.specs.Step.{Reaction, byte_in, heard_byte, react_to}
 use Rattle.chip_frame.specs.Does.{frame_does}
-use Rattle.chip.specs.declared.Answer.TheVariants.{Replied}
+use Rattle.commands.specs.declared.Misread.TheVariants.{UnfitLen, Unknown}
+use Rattle.commands.specs.declared.Misread.{Misread}
+use Rattle.std.specs.Prelude.{Err, Ok, Result}
 use Rattle.chip.specs.declared.Event.{Event}
 use Rattle.chip.specs.declared.Event.TheVariants.{Byte, Gap, PowerOn}
 use Rattle.chip_commands.specs.Commands.{command_does, reading_does, work}
@@ -20,7 +24,7 @@ use Rattle.chip_core.specs.declared.Hearing.{Hearing}
 use Rattle.chip_core.specs.declared.Hearing.TheVariants.{HearsCommands, HearsData, HearsNothing}
 use Rattle.chip_options.specs.declared.Options.{Options}
 use Rattle.chip_pages.specs.Pages.{data_does, stored_reply}
-use Rattle.chip_reply.specs.Reply.{payloads}
+use Rattle.chip_reply.specs.Reply.{payloads, sent_as}
 use Rattle.chip_reply.specs.declared.Reply.{Reply}
 use Rattle.chip_reply.specs.declared.Reply.TheVariants.{BadFrame, BadPage, LastStored, Pair, Rate, Security, Signature, Silence, Status, Sum}
 use Rattle.claims_good.proofs.Rooms.{leaves, reaction_of, says-reaction, utterance_of}
@@ -30,8 +34,6 @@ use Rattle.claims_sums.specs.Untouched.{SilentLeaves}
 use Rattle.commands.specs.declared.Command.{Command}
 use Rattle.commands.specs.declared.Command.TheVariants.{BlankCheck, BlockErase, Checksum, Programming, RateSet, Reset, Verify}
 use Rattle.commands.specs.declared.Command.TheVariants.{SecurityGet, SecurityRelease, SecuritySet, SignatureGet}
-use Rattle.commands.specs.declared.Reading.{Reading}
-use Rattle.commands.specs.declared.Reading.TheVariants.{Meant, UnfitLen, Unknown}
 use Rattle.frame.specs.Collector.{heard}
 use Rattle.part.specs.declared.Part.{Part}
 use Rattle.words.proofs.Laws.{if-all}
@@ -65,11 +67,11 @@ module _ (p : Part) (k : Core) (m : Memory) where
   works SecuritySet = left_so m _
   works SecurityRelease = left_so m _
 
-  reading-does : (r : Reading) → Quiet m (reading_does r p k m)
+  reading-does : (r : Result Command Misread) → Quiet m (reading_does r p k m)
   unfolding reading_does
-  reading-does Unknown = left_so m _
-  reading-does UnfitLen = left_so m _
-  reading-does (Meant c) = works c
+  reading-does (Err Unknown) = left_so m _
+  reading-does (Err UnfitLen) = left_so m _
+  reading-does (Ok c) = works c
 
   command-does : (f : List ℕ) → Quiet m (command_does p k f m)
   unfolding command_does
@@ -108,8 +110,8 @@ silence-only p o (Sum n) e = absurd (omega arith)
 silence-only p o Signature e = absurd (omega arith)
 silence-only p o Security e = absurd (omega arith)
 
-frames-said : (a b c d : ℕ) → Replied a b ≡ Replied c d → b ≡ d
-frames-said a b c d e = cc
+frames-said : (a b c d : ℕ) → ◌≡◌ {A = Result Sent Refusal} (Ok (sent_as a b)) (Ok (sent_as c d)) → b ≡ d
+frames-said a b c d e = let s : sent_as a b ≡ sent_as c d = cc in ap (λ (x : Sent). x.frames) s
 
 pub silent-leaves : SilentLeaves
 unfolding reaction_of utterance_of

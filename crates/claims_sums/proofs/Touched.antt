@@ -41,17 +41,17 @@ use Rattle.claims_sums.specs.Touched.{AtMostOne, HappenedIn, OnlyTouched, InOneB
 use Rattle.commands.specs.declared.Command.{Command}
 use Rattle.commands.specs.declared.Command.TheVariants.{BlankCheck, BlockErase, Checksum, Programming, RateSet, Reset, Verify}
 use Rattle.commands.specs.declared.Command.TheVariants.{SecurityGet, SecurityRelease, SecuritySet, SignatureGet}
-use Rattle.commands.specs.declared.Reading.{Reading}
-use Rattle.commands.specs.declared.Reading.TheVariants.{Meant, UnfitLen, Unknown}
+use Rattle.part.specs.declared.Place.{Place}
+use Rattle.commands.specs.declared.Misread.TheVariants.{UnfitLen, Unknown}
+use Rattle.commands.specs.declared.Misread.{Misread}
+use Rattle.std.specs.Prelude.{Err, None, Ok, Option, Result, Some}
 use Rattle.frame.specs.Collector.{heard}
 use Rattle.frame.specs.Frame.{payload}
 use Rattle.part.proofs.Laws.{Spot, lies-place, place-lies}
-use Rattle.part.specs.Part.{block_size, blocks, described, first, page_size, place_in, place_of, size}
+use Rattle.part.specs.Part.{block_size, blocks, described, first, page_size, place_in, place_of, size, place_at}
 use Rattle.part.specs.declared.Area.{Area}
 use Rattle.part.specs.declared.Area.TheVariants.{CodeFlash, DataFlash}
 use Rattle.part.specs.declared.Part.{Part}
-use Rattle.part.specs.declared.Place.{Place}
-use Rattle.part.specs.declared.Place.TheVariants.{In, Outside}
 use Rattle.words.proofs.Laws.{and_right, if-all}
 use Rattle.words.specs.Words.{if◌then◌otherwise◌}
 
@@ -75,7 +75,7 @@ within-area {p} {a} {block} w h =
 
 -- The sum of a block of the part worked out afresh.
 pub resummed-is : (p : Part) (a : Area) (offset block page : ℕ) (m : Memory) → block < blocks p a
-    → resummed p (In a offset block page) m ≡ record { flash = m.flash; sums = put_sum p a block m.flash m.sums }
+    → resummed p (Some (place_at a offset block page)) m ≡ record { flash = m.flash; sums = put_sum p a block m.flash m.sums }
 unfolding resummed if◌then◌otherwise◌
 resummed-is p a offset block page m h = simp (lt-ltb _ _ h)
 
@@ -90,7 +90,7 @@ module _ (p : Part) (k : Core) (m : Memory) (part : described p ≡ true) (long 
   -- Bytes put into one block of the part, and its sum worked out afresh.
   renews : (a : Area) (offset block page : ℕ) (f : Flash) → block < blocks p a
       → (c : Change p m (record { flash = f; sums = put_sum p a block f m.sums })) → HappenedIn a block c
-      → AtMostOne p m (resummed p (In a offset block page) (with_flash m f))
+      → AtMostOne p m (resummed p (Some (place_at a offset block page)) (with_flash m f))
   unfolding kept
   renews a offset block page f h c w =
       rw (resummed-is p a offset block page (with_flash m f) h)
@@ -105,22 +105,22 @@ module _ (p : Part) (k : Core) (m : Memory) (part : described p ≡ true) (long 
         long = length-set m.sums (slot a block) (block_sum p a block f);
       }))
 
-  erases : (at : ℕ) (x : Place) → place_of p at ≡ x → Does p m (block_erase p k x m)
+  erases : (at : ℕ) (x : Option Place) → place_of p at ≡ x → Does p m (block_erase p k x m)
   unfolding block_erase erased_in erase_of HappenedIn
-  erases at Outside e = stays-so m _
-  erases at (In a offset block page) e =
+  erases at None e = stays-so m _
+  erases at (Some place) e =
       if-all (Does p m) _ (λ t. stays-so m _)
       (λ t. if-all (Does p m) _ (λ u. stays-so m _)
       (λ u.
-      let s = place-lies p at a offset block page e in
-      let z : offset % block_size p a ≡ 0 = eqb-true _ _ (not-false _ t) in
-      let w : InOneBlock p a block offset (block_size p a) = block_within s z in
-      let n : length (replicate (block_size p a) erased) ≡ block_size p a = length-replicate {A = ℕ} (block_size p a) erased in
+      let s = place-lies p at place.area place.offset place.block place.page e in
+      let z : place.offset % block_size p place.area ≡ 0 = eqb-true _ _ (not-false _ t) in
+      let w : InOneBlock p place.area place.block place.offset (block_size p place.area) = block_within s z in
+      let n : length (replicate (block_size p place.area) erased) ≡ block_size p place.area = length-replicate {A = ℕ} (block_size p place.area) erased in
       record {
         does =
-            renews a offset block page _ s.block-below
-            (one_block a offset z
-            (put-becomes a offset (replicate (block_size p a) erased) m.flash (omega (arith, long a, within-area w s.block-below))))
+            renews place.area place.offset place.block place.page _ s.block-below
+            (one_block place.area place.offset z
+            (put-becomes place.area place.offset (replicate (block_size p place.area) erased) m.flash (omega (arith, long place.area, within-area w s.block-below))))
             (refl, w);
       }))
 
@@ -138,18 +138,18 @@ module _ (p : Part) (k : Core) (m : Memory) (part : described p ≡ true) (long 
   works SecuritySet = stays-so m _
   works SecurityRelease = stays-so m _
 
-  reading-does : (r : Reading) → Does p m (reading_does r p k m)
+  reading-does : (r : Result Command Misread) → Does p m (reading_does r p k m)
   unfolding reading_does
-  reading-does Unknown = stays-so m _
-  reading-does UnfitLen = stays-so m _
-  reading-does (Meant c) = works c
+  reading-does (Err Unknown) = stays-so m _
+  reading-does (Err UnfitLen) = stays-so m _
+  reading-does (Ok c) = works c
 
   command-does : (f : List ℕ) → Does p m (command_does p k f m)
   unfolding command_does
   command-does f = if-all (Does p m) _ (λ t. stays-so m _) (λ t. if-all (Does p m) _ (λ u. stays-so m _) (λ u. reading-does _))
 
   programs : (w : Awaited) (at : ℕ) (a : Area) (offset block page : ℕ) (ds : List ℕ) → Spot p at a offset block page → offset % page_size ≡ 0
-      → length ds ≡ 256 → Does p m (program_page p k w (In a offset block page) ds m)
+      → length ds ≡ 256 → Does p m (program_page p k w (Some (place_at a offset block page)) ds m)
   unfolding program_page page_written page_in page_stored HappenedIn
   programs w at a offset block page ds s z n =
       let old = take page_size (drop offset (bytes_in a m.flash)) in

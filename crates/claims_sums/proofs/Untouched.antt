@@ -22,10 +22,9 @@ use Rattle.commands.specs.declared.Command.TheVariants.{BlankCheck, BlockErase, 
 use Rattle.commands.specs.declared.Command.TheVariants.{SecurityGet, SecurityRelease, SecuritySet, SignatureGet}
 use Rattle.part.specs.Part.{place_of}
 use Rattle.part.specs.declared.Part.{Part}
+use Rattle.part.specs.declared.refusal.Refusal.{Refusal}
 use Rattle.part.specs.declared.Place.{Place}
-use Rattle.part.specs.declared.Place.TheVariants.{In, Outside}
-use Rattle.part.specs.declared.refusal.Verdict.{Verdict}
-use Rattle.part.specs.declared.refusal.Verdict.TheVariants.{Accepted, Refused}
+use Rattle.std.specs.Prelude.{Err, None, Ok, Option, Result, Some}
 use Rattle.words.proofs.Laws.{if-all}
 
 pub only-erasing : OnlyErasing
@@ -49,10 +48,10 @@ record Unless (r : Reply) (m : Memory) (x : Effect) : Type 0 where
 left_so : {r : Reply} (m : Memory) (d : Done) → Unless r m (effect d m)
 left_so m d = record { same = λ n. refl }
 
-erase-unless : (p : Part) (k : Core) (x : Place) (m : Memory) → Unless (Status acknowledge) m (block_erase p k x m)
+erase-unless : (p : Part) (k : Core) (x : Option Place) (m : Memory) → Unless (Status acknowledge) m (block_erase p k x m)
 unfolding block_erase
-erase-unless p k Outside m = left_so m _
-erase-unless p k (In a offset block page) m =
+erase-unless p k None m = left_so m _
+erase-unless p k (Some place) m =
     if-all (Unless (Status acknowledge) m) _ (λ t. left_so m _) (λ t. if-all (Unless (Status acknowledge) m) _ (λ u. left_so m _) (λ u. record { same = λ n. absurd (n refl) }))
 
 pub refused-erase : RefusedErase
@@ -66,7 +65,7 @@ record Unwritten (w : Awaited) (m : Memory) (x : Effect) : Type 0 where
 not_written : {w : Awaited} (m : Memory) (d : Done) → Unwritten w m (effect d m)
 not_written m d = record { same = λ n q. refl }
 
-page-unwritten : (p : Part) (k : Core) (w : Awaited) (x : Place) (ds : List ℕ) (m : Memory) → Unwritten w m (program_page p k w x ds m)
+page-unwritten : (p : Part) (k : Core) (w : Awaited) (x : Option Place) (ds : List ℕ) (m : Memory) → Unwritten w m (program_page p k w x ds m)
 unfolding program_page
 page-unwritten p k w x ds m =
     told-either (λ (d : Awaited → Core → Done). Unwritten w m (effect (d w k) (page_written p x ds m))) (page_in x m.flash) ds (λ t. record { same = λ n q. absurd (n refl) })
@@ -98,11 +97,11 @@ pub only-programming : OnlyProgramming
 only-programming p k w f m n = (data-same p k w f m n).same
 
 -- A reaction that leaves memory, under any verdict.
-settled-leaves : (p : Part) (w : Verdict) (x : Reaction) (o : Outcome) → x.does.memory ≡ o.memory
+settled-leaves : (p : Part) (w : Result Unit Refusal) (x : Reaction) (o : Outcome) → x.does.memory ≡ o.memory
     → (settled w p x o.chip o.memory o.room).memory ≡ o.memory
 unfolding settled
-settled-leaves p (Refused r) x o e = refl
-settled-leaves p Accepted x o e = e
+settled-leaves p (Err r) x o e = refl
+settled-leaves p (Ok _) x o e = e
 
 pub gap-leaves : GapLeaves
 unfolding step_of react_to

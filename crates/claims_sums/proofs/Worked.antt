@@ -19,8 +19,8 @@ use Rattle.part.specs.Part.{blocks, described, size}
 use Rattle.part.specs.declared.Area.{Area}
 use Rattle.part.specs.declared.Area.TheVariants.{CodeFlash, DataFlash}
 use Rattle.part.specs.declared.Part.{Part}
-use Rattle.part.specs.declared.refusal.Verdict.{Verdict}
-use Rattle.part.specs.declared.refusal.Verdict.TheVariants.{Accepted, Refused}
+use Rattle.part.specs.declared.refusal.Refusal.{Refusal}
+use Rattle.std.specs.Prelude.{Err, Ok, Result}
 
 module _ (p : Part) (a : Area) (m : Flash) (s : List ℕ) where
   pub summed-long : (n : ℕ) → length (summed_to n p a m s) ≡ length s
@@ -73,7 +73,7 @@ module _ (p : Part) (m : Flash) (s : List ℕ) where
         let t = summed_to (blocks p CodeFlash) p CodeFlash m s in
         summed-right p DataFlash m t (blocks p DataFlash) b h (room t DataFlash (summed-long p CodeFlash m s (blocks p CodeFlash)))
 
-pub verdict-fits : (p : Part) (f : Flash) → flash_verdict p (length f.code_flash) (length f.data_flash) ≡ Accepted → Fits p f
+pub verdict-fits : (p : Part) (f : Flash) → flash_verdict p (length f.code_flash) (length f.data_flash) ≡ Ok tt → Fits p f
 unfolding flash_verdict
 verdict-fits p f e =
     let x = passed _ _ e in
@@ -85,7 +85,7 @@ verdict-fits p f e =
     lengths c d CodeFlash = c
     lengths c d DataFlash = d
 
-pub fits-verdict : (p : Part) (f : Flash) → Fits p f → flash_verdict p (length f.code_flash) (length f.data_flash) ≡ Accepted
+pub fits-verdict : (p : Part) (f : Flash) → Fits p f → flash_verdict p (length f.code_flash) (length f.data_flash) ≡ Ok tt
 unfolding flash_verdict
 fits-verdict p f g =
     passes _ _ (ap not g.part)
@@ -95,10 +95,10 @@ pub worked-out-right : WorkedOutRight
 unfolding worked_out summed_by
 worked-out-right p f s l e = go (flash_verdict p (length f.code_flash) (length f.data_flash)) refl e
   where
-    go : (v : Verdict) → flash_verdict p (length f.code_flash) (length f.data_flash) ≡ v → (summed_by v p f s).verdict ≡ Accepted
+    go : (v : Result Unit Refusal) → flash_verdict p (length f.code_flash) (length f.data_flash) ≡ v → (summed_by v p f s).verdict ≡ Ok tt
         → AllRight p f s (summed_by v p f s).sums
-    go (Refused r) q e = absurd (let z : ◌≡◌ {A = ℕ} 0 1 = cc in omega arith)
-    go Accepted q e =
+    go (Err r) q e = absurd (let z : ◌≡◌ {A = ℕ} 0 1 = cc in omega arith)
+    go (Ok _) q e =
         let g = verdict-fits p f q in
         record { fits = g; right = record { long = all-long p f s ∙ l; each = all_right p f s g.part l }; others = all_others p f s }
 
@@ -110,6 +110,6 @@ pub refused-leaves : RefusedLeaves
 unfolding worked_out summed_by
 refused-leaves p f s r e = go (flash_verdict p (length f.code_flash) (length f.data_flash)) e
   where
-    go : (v : Verdict) → (summed_by v p f s).verdict ≡ Refused r → (summed_by v p f s).sums ≡ s
-    go (Refused q) e = refl
-    go Accepted e = absurd (let z : ◌≡◌ {A = ℕ} 0 1 = cc in omega arith)
+    go : (v : Result Unit Refusal) → (summed_by v p f s).verdict ≡ Err r → (summed_by v p f s).sums ≡ s
+    go (Err q) e = refl
+    go (Ok _) e = absurd (let z : ◌≡◌ {A = ℕ} 0 1 = cc in omega arith)

@@ -1,5 +1,5 @@
 -- Worked sums, on the part of document 01's examples: a wrong sum stays until its block is touched.
-use Rattle.std.specs.Prelude.{false, List, [], ◌∷◌, map, ◌≡◌, ℕ, replicate, set}
+use Rattle.std.specs.Prelude.{false, List, [], ◌∷◌, map, ◌≡◌, ℕ, replicate, set, Err, Ok}
 use Rattle.chip.specs.Run.{before, run}
 use Rattle.chip.specs.Step.{Outcome}
 use Rattle.chip.specs.declared.Event.{Event}
@@ -16,7 +16,6 @@ use Rattle.lent.specs.Lent.{put_at}
 use Rattle.part.specs.declared.Area.TheVariants.{CodeFlash, DataFlash}
 use Rattle.part.specs.declared.Part.{Part}
 use Rattle.part.specs.declared.refusal.Refusal.TheVariants.{BadPart, CodeLength, DataLength}
-use Rattle.part.specs.declared.refusal.Verdict.TheVariants.{Accepted, Refused}
 
 -- The slots, from the first to the last: "Code flash: 8 to 64 blocks .. Data flash: 0 to 8 blocks".
 pub record Slots : Type 0 where
@@ -68,13 +67,13 @@ pub record Spoiled : Type 0 where
   pub page : sums_with_page ≡ set spoiled_sums 2 0x5900
   pub mixed-status : page_over.reply ≡ Pair 0x06 0x1C
   pub mixed-page : page_over.memory.sums ≡ set spoiled_sums 2 0x0300
-  pub taken-up : worked_out the_part ready_chip.memory.flash spoiled_sums ≡ summing Accepted (set spoiled_sums 2 0x0400)
+  pub taken-up : worked_out the_part ready_chip.memory.flash spoiled_sums ≡ summing (Ok tt) (set spoiled_sums 2 0x0400)
 
 -- "Order for the chip: 1, 2, 3, ..": the call that works all sums out refuses by the first that holds, and leaves every slot.
 abbrev pub no_part : Part
 no_part = record { code_blocks = 7; data_blocks = 4; clock = 32; device = the_part.device; name = the_part.name; version = the_part.version }
 
 pub record FirstRefusal : Type 0 where
-  pub part : worked_out no_part (flash [] []) spoiled_sums ≡ summing (Refused BadPart) spoiled_sums
-  pub code : worked_out the_part (flash [] []) spoiled_sums ≡ summing (Refused CodeLength) spoiled_sums
-  pub «data» : worked_out the_part (flash ready_chip.memory.flash.code_flash []) spoiled_sums ≡ summing (Refused DataLength) spoiled_sums
+  pub part : worked_out no_part (flash [] []) spoiled_sums ≡ summing (Err BadPart) spoiled_sums
+  pub code : worked_out the_part (flash [] []) spoiled_sums ≡ summing (Err CodeLength) spoiled_sums
+  pub «data» : worked_out the_part (flash ready_chip.memory.flash.code_flash []) spoiled_sums ≡ summing (Err DataLength) spoiled_sums

@@ -1,10 +1,10 @@
 -- What leaves every sum as it was, a wrong one too, and all of flash: document 02, §1, "only the sums of blocks that the event touched may change." A block that
 -- is blank already may be erased without a byte changing; so it is said here which work touches a block at all.
 -- Of an answer that is neither 06h nor 1Ch it is in `RefusedChangesNothing` (claims_runs/specs/Refused), of noise in `AsIf` (claims_noise/specs/Claims).
-use Rattle.std.specs.Prelude.{List, ◌≢◌, ◌≡◌, ℕ}
+use Rattle.std.specs.Prelude.{List, ◌≢◌, ◌≡◌, ℕ, Err, Ok}
 use Rattle.chip.specs.Run.{onward}
 use Rattle.chip.specs.Step.{Outcome}
-use Rattle.chip.specs.declared.Answer.TheVariants.{Replied}
+use Rattle.chip_reply.specs.Reply.{sent_as}
 use Rattle.chip.specs.declared.Event.{Event}
 use Rattle.chip.specs.declared.Event.TheVariants.{Gap, PowerOn}
 use Rattle.chip_commands.specs.Commands.{work}
@@ -18,7 +18,6 @@ use Rattle.commands.specs.declared.Command.{Command}
 use Rattle.commands.specs.declared.Command.TheVariants.{BlockErase}
 use Rattle.part.specs.declared.Part.{Part}
 use Rattle.part.specs.declared.refusal.Refusal.{Refusal}
-use Rattle.part.specs.declared.refusal.Verdict.TheVariants.{Refused}
 
 -- Of the eleven commands 22h alone touches a block, and only where it answers 06h.
 abbrev pub OnlyErasing : Type 0
@@ -39,7 +38,7 @@ OnlyWritten =
 
 -- An event to which nothing is said touches none: so no byte that completes no frame.
 abbrev pub SilentLeaves : Type 0
-SilentLeaves = (p : Part) (o : Outcome) (v : Event) → Stands p o → (onward p o v).answer ≡ Replied 0 0 → (onward p o v).memory ≡ o.memory
+SilentLeaves = (p : Part) (o : Outcome) (v : Event) → Stands p o → (onward p o v).answer ≡ Ok (sent_as 0 0) → (onward p o v).memory ≡ o.memory
 
 -- A gap and power-on touch none, and a refused call changes nothing.
 abbrev pub GapLeaves : Type 0
@@ -49,4 +48,4 @@ abbrev pub PowerOnLeaves : Type 0
 PowerOnLeaves = (p : Part) (o : Outcome) → (onward p o PowerOn).memory ≡ o.memory
 
 abbrev pub RefusedCallLeaves : Type 0
-RefusedCallLeaves = (p : Part) (o : Outcome) (v : Event) (r : Refusal) → verdict_in p o ≡ Refused r → (onward p o v).memory ≡ o.memory
+RefusedCallLeaves = (p : Part) (o : Outcome) (v : Event) (r : Refusal) → verdict_in p o ≡ Err r → (onward p o v).memory ≡ o.memory

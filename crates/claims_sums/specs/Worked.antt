@@ -1,12 +1,11 @@
 -- Where the sums are kept, and what the call leaves that works them out: document 02, §1, "One call works all sums out when a chip is taken up."
-use Rattle.std.specs.Prelude.{true, List, ◌≢◌, ◌≡◌, ◌<◌, ℕ, get_or, length}
+use Rattle.std.specs.Prelude.{true, List, ◌≢◌, ◌≡◌, ◌<◌, ℕ, get_or, length, Err, Ok}
 use Rattle.chip_core.specs.Effect.{Flash, bytes_in}
 use Rattle.chip_sums.specs.Sums.{Right, slot, slots, worked_out}
 use Rattle.part.specs.Part.{blocks, described, size}
 use Rattle.part.specs.declared.Area.{Area}
 use Rattle.part.specs.declared.Part.{Part}
 use Rattle.part.specs.declared.refusal.Refusal.{Refusal}
-use Rattle.part.specs.declared.refusal.Verdict.TheVariants.{Accepted, Refused}
 
 -- Each block of a part has a slot of its own.
 abbrev pub SlotsApart : Type 0
@@ -33,11 +32,11 @@ pub record AllRight (p : Part) (f : Flash) (s t : List ℕ) : Type 0 where
 
 abbrev pub WorkedOutRight : Type 0
 WorkedOutRight =
-    (p : Part) (f : Flash) (s : List ℕ) → length s ≡ slots → (worked_out p f s).verdict ≡ Accepted → AllRight p f s (worked_out p f s).sums
+    (p : Part) (f : Flash) (s : List ℕ) → length s ≡ slots → (worked_out p f s).verdict ≡ Ok tt → AllRight p f s (worked_out p f s).sums
 
 abbrev pub FitAccepted : Type 0
-FitAccepted = (p : Part) (f : Flash) (s : List ℕ) → Fits p f → (worked_out p f s).verdict ≡ Accepted
+FitAccepted = (p : Part) (f : Flash) (s : List ℕ) → Fits p f → (worked_out p f s).verdict ≡ Ok tt
 
 -- Refused: all sums are as they were.
 abbrev pub RefusedLeaves : Type 0
-RefusedLeaves = (p : Part) (f : Flash) (s : List ℕ) (r : Refusal) → (worked_out p f s).verdict ≡ Refused r → (worked_out p f s).sums ≡ s
+RefusedLeaves = (p : Part) (f : Flash) (s : List ℕ) (r : Refusal) → (worked_out p f s).verdict ≡ Err r → (worked_out p f s).sums ≡ s

@@ -39,16 +39,15 @@ use Rattle.claims_verify.specs.Remembers.{Remembered, Remembers}
 use Rattle.commands.specs.Commands.{read_command}
 use Rattle.commands.specs.declared.Command.{Command}
 use Rattle.commands.specs.declared.Command.TheVariants.{BlankCheck, BlockErase, Checksum, Programming, RateSet, Reset, SecurityGet, SecurityRelease, SecuritySet, SignatureGet, Verify}
-use Rattle.commands.specs.declared.Reading.{Reading}
-use Rattle.commands.specs.declared.Reading.TheVariants.{Meant, UnfitLen, Unknown}
+use Rattle.part.specs.declared.Range.{Range}
+use Rattle.part.specs.declared.Place.{Place}
+use Rattle.commands.specs.declared.Misread.TheVariants.{UnfitLen, Unknown}
+use Rattle.commands.specs.declared.Misread.{Misread}
+use Rattle.std.specs.Prelude.{Err, None, Ok, Option, Result, Some}
 use Rattle.frame.specs.Frame.{payload}
 use Rattle.lent.specs.Lent.{same}
 use Rattle.part.specs.Part.{place_of}
 use Rattle.part.specs.declared.Part.{Part}
-use Rattle.part.specs.declared.Place.{Place}
-use Rattle.part.specs.declared.Place.TheVariants.{In, Outside}
-use Rattle.part.specs.declared.Range.{Range}
-use Rattle.part.specs.declared.Range.TheVariants.{Bad, Blocks}
 use Rattle.words.proofs.Laws.{if-all, if-both, or_right}
 use Rattle.words.specs.Words.{◌or◌, if◌then◌otherwise◌}
 
@@ -69,30 +68,30 @@ module _ (p : Part) (k : Core) (m : Memory) where
   unfolding rate_set
   rate-set rate supply = if-both Done-begins _ (stayed refl) (readied refl)
 
-  erases : (x : Place) → Does-begin (block_erase p k x m)
+  erases : (x : Option Place) → Does-begin (block_erase p k x m)
   unfolding block_erase
-  erases Outside = stayed refl
-  erases (In a offset block page) = if-both Does-begin _ (stayed refl) (if-both Does-begin _ (stayed refl) (stayed refl))
+  erases None = stayed refl
+  erases (Some place) = if-both Does-begin _ (stayed refl) (if-both Does-begin _ (stayed refl) (stayed refl))
 
-  checks : (r : Range) (d01 : ℕ) → Done-begins (blank_check p k r d01 m.flash)
+  checks : (r : Option Range) (d01 : ℕ) → Done-begins (blank_check p k r d01 m.flash)
   unfolding blank_check
-  checks Bad d01 = stayed refl
-  checks (Blocks a block count) d01 = if-both Done-begins _ (stayed refl) (if-both Done-begins _ (stayed refl) (if-both Done-begins _ (stayed refl) (stayed refl)))
+  checks None d01 = stayed refl
+  checks (Some range) d01 = if-both Done-begins _ (stayed refl) (if-both Done-begins _ (stayed refl) (if-both Done-begins _ (stayed refl) (stayed refl)))
 
-  programs : (r : Range) (start end : ℕ) → Done-begins (programming p k r start end)
+  programs : (r : Option Range) (start end : ℕ) → Done-begins (programming p k r start end)
   unfolding programming
-  programs Bad start end = stayed refl
-  programs (Blocks a block count) start end = if-both Done-begins _ (stayed refl) (began _ refl refl)
+  programs None start end = stayed refl
+  programs (Some range) start end = if-both Done-begins _ (stayed refl) (began _ refl refl)
 
-  verifies : (r : Range) (start end : ℕ) → Done-begins (verify k r start end)
+  verifies : (r : Option Range) (start end : ℕ) → Done-begins (verify k r start end)
   unfolding verify
-  verifies Bad start end = stayed refl
-  verifies (Blocks a block count) start end = began _ refl refl
+  verifies None start end = stayed refl
+  verifies (Some range) start end = began _ refl refl
 
-  sums : (r : Range) → Done-begins (checksum p k r m)
+  sums : (r : Option Range) → Done-begins (checksum p k r m)
   unfolding checksum
-  sums Bad = stayed refl
-  sums (Blocks a block count) = if-both Done-begins _ (stayed refl) (stayed refl)
+  sums None = stayed refl
+  sums (Some range) = if-both Done-begins _ (stayed refl) (stayed refl)
 
   frees : Done-begins (security_release p k m.flash)
   unfolding security_release
@@ -112,11 +111,11 @@ module _ (p : Part) (k : Core) (m : Memory) where
   works SecuritySet = began _ refl refl
   works SecurityRelease = frees
 
-  reading_begins : (r : Reading) → Does-begin (reading_does r p k m)
+  reading_begins : (r : Result Command Misread) → Does-begin (reading_does r p k m)
   unfolding reading_does
-  reading_begins Unknown = stayed refl
-  reading_begins UnfitLen = stayed refl
-  reading_begins (Meant c) = works c
+  reading_begins (Err Unknown) = stayed refl
+  reading_begins (Err UnfitLen) = stayed refl
+  reading_begins (Ok c) = works c
 
   command-begins : (f : List ℕ) → Does-begin (command_does p k f m)
   unfolding command_does
@@ -148,7 +147,7 @@ module _ (p : Part) (k : Core) (w : Awaited) (g : List ℕ) (m : Memory) (good :
   unfolding next_page
   next-page u h = if-both (λ (c : Core). Continues p w g m c.phase) _ (over refl) h
 
-  written : w.command ≡ 0x40 → (at : Place) (ds : List ℕ) → Does-continue (program_page p k w at ds m)
+  written : w.command ≡ 0x40 → (at : Option Place) (ds : List ℕ) → Does-continue (program_page p k w at ds m)
   unfolding program_page
   written c at ds =
       told-either (λ (d : Awaited → Core → Done). Done-continues (d w k)) (page_in at m.flash) ds (λ t. next-page w (stores c refl)) (λ t. over refl)

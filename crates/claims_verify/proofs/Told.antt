@@ -53,7 +53,7 @@ use Rattle.part.specs.declared.Area.{Area}
 use Rattle.part.specs.declared.Area.TheVariants.{CodeFlash, DataFlash}
 use Rattle.part.specs.declared.Part.{Part}
 use Rattle.part.specs.declared.Place.{Place}
-use Rattle.part.specs.declared.Place.TheVariants.{In, Outside}
+use Rattle.std.specs.Prelude.{None, Option, Some}
 use Rattle.words.proofs.Laws.{and_assoc, and_right}
 use Rattle.words.specs.Words.{◌and◌, ◌or◌, if◌then◌otherwise◌}
 
@@ -182,9 +182,9 @@ page-from : (p : Part) (at : ℕ) (m : Flash) → page_in (place_of p at) m ≡ 
 unfolding page_in flash_from
 page-from p at m = go (place_of p at)
   where
-    go : (x : Place) → page_in x m ≡ flash_from x page_size m
-    go Outside = refl
-    go (In a offset block n) = refl
+    go : (x : Option Place) → page_in x m ≡ flash_from x page_size m
+    go None = refl
+    go (Some place) = refl
 
 same-join : (xs ys zs ts : List ℕ) → length xs ≡ length ys → same (xs ++ zs) (ys ++ ts) ≡ same xs ys and same zs ts
 unfolding same ◌and◌

@@ -37,7 +37,7 @@ use Rattle.frame.specs.declared.Header.TheVariants.{Data}
 use Rattle.part.specs.Part.{page_size, place_of}
 use Rattle.part.specs.declared.Part.{Part}
 use Rattle.part.specs.declared.Place.{Place}
-use Rattle.part.specs.declared.refusal.Verdict.TheVariants.{Accepted}
+use Rattle.std.specs.Prelude.{Ok, Option}
 use Rattle.words.specs.Words.{if◌then◌otherwise◌}
 
 -- Nothing of it is judged.
@@ -86,7 +86,7 @@ module _ (p : Part) (k : Core) (d : Bool) (w : Awaited) (c : w.command ≢ 0x13)
       go true = equal refl
       go false = apart (page_after w) refl c refl
 
-  written-like : (at : Place) (ds : List ℕ) → Like d (program_page p (recalling_core d w k) (recalling d w) at ds m) (program_page p k w at ds m)
+  written-like : (at : Option Place) (ds : List ℕ) → Like d (program_page p (recalling_core d w k) (recalling d w) at ds m) (program_page p k w at ds m)
   unfolding program_page
   written-like at ds =
       told-either
@@ -131,17 +131,17 @@ data Twins (o u : Outcome) : Type 0 where
   two : (d : Bool) (w : Awaited) → u.chip.core.phase ≡ Awaiting w → w.command ≢ 0x13 → o ≡ with_difference d u → Twins o u
 
 settled-twins : (p : Part) (d : Bool) (x y : Reaction) (u : Outcome) (b : Chip) → b.collector ≡ u.chip.collector → LikeReaction d x y
-    → Twins (settled Accepted p x b u.memory u.room) (settled Accepted p y u.chip u.memory u.room)
+    → Twins (settled (Ok tt) p x b u.memory u.room) (settled (Ok tt) p y u.chip u.memory u.room)
 unfolding settled with_difference
 settled-twins p d x y u b f l = go l.does
   where
     settles : Effect → Outcome
-    settles z = settled Accepted p (reaction y.hears z) u.chip u.memory u.room
+    settles z = settled (Ok tt) p (reaction y.hears z) u.chip u.memory u.room
 
-    so : settled Accepted p x b u.memory u.room ≡ settles x.does
+    so : settled (Ok tt) p x b u.memory u.room ≡ settles x.does
     so = rw (f, l.hears)
 
-    go : Like d x.does y.does → Twins (settled Accepted p x b u.memory u.room) (settled Accepted p y u.chip u.memory u.room)
+    go : Like d x.does y.does → Twins (settled (Ok tt) p x b u.memory u.room) (settled (Ok tt) p y u.chip u.memory u.room)
     go (equal e) = one (so ∙ ap settles e)
     go (apart w e c z) = two d w e c (so ∙ ap settles z)
 

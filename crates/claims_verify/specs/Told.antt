@@ -1,6 +1,6 @@
 -- What the pages of 13h are told: document 02, §2, "a verify error shows only at the end: every earlier good page gets 06h in its second status, and the last one
 -- gets 0Fh if any page differed." Said of all of a command's pages, as bytes on the line.
-use Rattle.std.specs.Prelude.{Bool, false, not, true, List, [], ◌++◌, ◌∷◌, map, ◌≡◌, ◌*◌, ◌+◌, ◌-◌, ℕ, drop, get_or, length, replicate, take}
+use Rattle.std.specs.Prelude.{Bool, false, not, true, List, [], ◌++◌, ◌∷◌, map, ◌≡◌, ◌*◌, ◌+◌, ◌-◌, ℕ, drop, get_or, length, replicate, take, None, Option, Some}
 use Rattle.chip.specs.Run.{run}
 use Rattle.chip.specs.Step.{Outcome}
 use Rattle.chip.specs.declared.Event.TheVariants.{Byte}
@@ -22,12 +22,10 @@ use Rattle.frame.specs.Framing.{Sound}
 use Rattle.frame.specs.declared.Footer.TheVariants.{Last, More}
 use Rattle.frame.specs.declared.Header.TheVariants.{Command, Data}
 use Rattle.lent.specs.Lent.{same}
-use Rattle.part.specs.Part.{page_size, place_of, range_of}
+use Rattle.part.specs.Part.{page_size, place_of, range_of, range_at}
 use Rattle.part.specs.declared.Area.{Area}
 use Rattle.part.specs.declared.Part.{Part}
 use Rattle.part.specs.declared.Place.{Place}
-use Rattle.part.specs.declared.Place.TheVariants.{In, Outside}
-use Rattle.part.specs.declared.Range.TheVariants.{Blocks}
 use Rattle.words.specs.Words.{◌or◌, if◌then◌otherwise◌}
 
 -- "Pages for 40h and 13h carry 256 bytes".
@@ -50,9 +48,9 @@ unfoldable pub joined_pages : List (List ℕ) → List ℕ
 joined_pages [] = []
 joined_pages (ds ∷ dss) = ds ++ joined_pages dss
 
-unfoldable pub flash_from : Place → ℕ → Flash → List ℕ
-flash_from Outside n m = []
-flash_from (In a offset block page) n m = take n (drop offset (bytes_in a m))
+unfoldable pub flash_from : Option Place → ℕ → Flash → List ℕ
+flash_from None n m = []
+flash_from (Some place) n m = take n (drop place.offset (bytes_in place.area m))
 
 -- What is said to the 260 bytes of a page: nothing up to the last one, and to that the two statuses.
 unfoldable pub to_page : ℕ → ℕ → List Utterance
@@ -112,7 +110,7 @@ pub record VerifyAsked (p : Part) (o : Outcome) (start end : ℕ) (a : Area) (bl
   pub stands : Stands p o
   pub nothing : o.chip.collector.len ≡ 0
   pub phase : o.chip.core.phase ≡ Ready
-  pub range : range_of p start end ≡ Blocks a block count
+  pub range : range_of p start end ≡ Some (range_at a block count)
   pub pages : AllPages dss
   pub all : start + page_size * length dss ≡ end + 1
 

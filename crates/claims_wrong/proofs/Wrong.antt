@@ -15,8 +15,9 @@ use Rattle.chip.specs.Run.{Spoken, spoken_in}
 use Rattle.chip.specs.Step.{Outcome, byte_in, heard_byte, react_to, settled, step_of}
 use Rattle.chip_frame.specs.Does.{frame_does}
 use Rattle.chip_state.specs.Refusals.{good_awaited, good_begun, good_collected, good_core, good_phase, good_places, good_state, verdict_of}
-use Rattle.chip.specs.declared.Answer.{Answer}
-use Rattle.chip.specs.declared.Answer.TheVariants.{Refused, Replied}
+use Rattle.part.specs.declared.refusal.Refusal.{Refusal}
+use Rattle.chip_reply.specs.declared.Sent.{Sent}
+use Rattle.std.specs.Prelude.{Err, Ok, Result}
 use Rattle.chip_state.specs.declared.Chip.{Chip}
 use Rattle.chip.specs.declared.Event.{Event}
 use Rattle.chip.specs.declared.Event.TheVariants.{Byte}
@@ -27,8 +28,8 @@ use Rattle.claims_noise.specs.Claims.{AsIf, ChipCall, Machine, NoiseAtCommand, N
 use Rattle.claims_noise.specs.Examples.{reset, second_page, writing_chip, wrong_page}
 use Rattle.claims_noise.specs.Noise.{then_gap}
 use Rattle.claims_stars.specs.Table.{ready_chip, the_part}
-use Rattle.claims_wrong.specs.Wrong.{AcknowledgesDiffers, FirstIs, FirstPageDiffers, LeavesElse, MeetsDemand2, Says15hDiffers, SaysElse, SaysOnly, StoresNothingDiffers, StoresOnly, Unstored}
-use Rattle.claims_wrong.specs.Wrong.{begins, blanked, deaf, erase_within, in_first_page, nowhere, saying, says_always, stayed, stores, taken_up, two_pages, unsaid}
+use Rattle.claims_wrong.specs.Wrong.{AcknowledgesDiffers, FirstIs, FirstPageDiffers, LeavesElse, MeetsDemand2, Says15hDiffers, SaysElse, SaysOnly, StoresNothingDiffers, StoresOnly, Unstored, saying_for}
+use Rattle.claims_wrong.specs.Wrong.{begins, blanked, deaf, erase_within, in_first_page, nowhere, saying, says_always, stayed, stores, taken_up, two_pages, unsaid, saying_for}
 use Rattle.chip_commands.specs.Commands.{allowed_in, command_does, reading_does, work}
 use Rattle.commands.specs.Commands.{command_table, fitted, read_command, read_in}
 use Rattle.chip_work.specs.Work.{block_erase, forbidden, programming}
@@ -49,7 +50,7 @@ use Rattle.chip_options.specs.Options.{fixed_bits, fresh_options, good_options, 
 use Rattle.part.specs.Part.{block_of, block_size, described, ends_block, lies_in, page_of, place_in, place_of, range_of, starts_block, stretch, whole_blocks}
 use Rattle.part.specs.Refusal.{first_of}
 use Rattle.part.specs.declared.Part.{Part}
-use Rattle.chip_reply.specs.Reply.{frames_of, payloads, said_of}
+use Rattle.chip_reply.specs.Reply.{frames_of, payloads, said_of, sent_as}
 use Rattle.words.proofs.Laws.{if-all}
 use Rattle.words.specs.Words.{◌and◌, ◌from◌to◌, ◌or◌, if◌then◌otherwise◌}
 
@@ -185,13 +186,16 @@ stores-the-first-page-differs M h = other-flash in_first_page M 0x0500 h refl re
 
 -- There are such chips.
 pub says-always : (s : ℕ) → SaysOnly s (says_always s)
-unfolding says_always saying framed
+unfolding says_always saying saying_for framed
 says-always s p c v m room = go (step_of p c v m room).answer refl
   where
-    go : (a : Answer) → (step_of p c v m room).answer ≡ a → FirstIs s (uttered (spoken_in (saying s a (step_of p c v m room)))).bytes
-    go (Replied zero f) e = rw e unsaid
-    go (Replied (suc n) f) e = begins _ refl
-    go (Refused r) e = rw e unsaid
+    some : (sent : Sent) → (step_of p c v m room).answer ≡ Ok sent → (n : ℕ) → sent.bytes ≡ n → FirstIs s (uttered (spoken_in (saying_for s n (step_of p c v m room)))).bytes
+    some sent e zero z = rw (e, z) unsaid
+    some sent e (suc n) z = begins _ refl
+
+    go : (a : Result Sent Refusal) → (step_of p c v m room).answer ≡ a → FirstIs s (uttered (spoken_in (saying s a (step_of p c v m room)))).bytes
+    go (Ok sent) e = some sent e sent.bytes refl
+    go (Err r) e = rw e unsaid
 
 taken-up : (t : ℕ → Bool) (old new : List ℕ) (i : ℕ) → t i ≡ false → Unstored (get_or old i 0) (get_or (taken_up t old new) i 0)
 unfolding taken_up ◌or◌

@@ -1,11 +1,12 @@
 -- Wrong chips: document 01, "How tightly things are promised". "Demand 2 shuts out a chip that says 15h to all, one that always acknowledges, one that stores
 -- nothing, one that stores the first page and only acknowledges the rest ..; demand 3 alone would admit a deaf chip". Each of these is a property of a chip; the
 -- claims speak of every chip that has it, and the chips at the end show that there are some.
-use Rattle.std.specs.Prelude.{Bool, false, List, [], ◌++◌, ◌∷◌, map, ◌≢◌, ◌≡◌, ◌%◌, suc, zero, ℕ, eqb, ltb, drop, get_or, replicate}
+use Rattle.std.specs.Prelude.{Bool, false, List, [], ◌++◌, ◌∷◌, map, ◌≢◌, ◌≡◌, ◌%◌, suc, zero, ℕ, eqb, ltb, drop, get_or, replicate, Err, Ok, Result}
 use Rattle.chip.specs.Run.{spoken_in}
 use Rattle.chip.specs.Step.{Outcome, step_of}
-use Rattle.chip.specs.declared.Answer.{Answer}
-use Rattle.chip.specs.declared.Answer.TheVariants.{Refused, Replied}
+use Rattle.chip_reply.specs.Reply.{sent_as}
+use Rattle.part.specs.declared.refusal.Refusal.{Refusal}
+use Rattle.chip_reply.specs.declared.Sent.{Sent}
 use Rattle.chip_state.specs.declared.Chip.{Chip}
 use Rattle.chip.specs.declared.Event.{Event}
 use Rattle.chip.specs.declared.Event.TheVariants.{Byte}
@@ -80,14 +81,16 @@ FirstPageDiffers = (M : Machine) → StoresOnly in_first_page M → LeavesElse M
 
 -- A deaf chip: nothing is heard, and nothing answered.
 unfoldable pub deaf : Machine
-deaf p c v m room = record { answer = Replied 0 0; fault = Good; chip = c; memory = m; room = room }
+deaf p c v m room = record { answer = Ok (sent_as 0 0); fault = Good; chip = c; memory = m; room = room }
 
 -- A chip that says s where the definition says anything.
-unfoldable pub saying : ℕ → Answer → Outcome → Outcome
-saying s (Replied zero f) o = o
-saying s (Replied (suc n) f) o =
-    record { answer = Replied 5 1; fault = o.fault; chip = o.chip; memory = o.memory; room = data_frame (s ∷ []) Last ++ drop 5 o.room }
-saying s (Refused r) o = o
+unfoldable pub saying_for : ℕ → ℕ → Outcome → Outcome
+saying_for s zero o = o
+saying_for s (suc n) o = record { answer = Ok (sent_as 5 1); fault = o.fault; chip = o.chip; memory = o.memory; room = data_frame (s ∷ []) Last ++ drop 5 o.room }
+
+unfoldable pub saying : ℕ → Result Sent Refusal → Outcome → Outcome
+saying s (Ok sent) o = saying_for s sent.bytes o
+saying s (Err r) o = o
 
 unfoldable pub says_always : ℕ → Machine
 says_always s p c v m room = let o = step_of p c v m room in saying s o.answer o

@@ -3,17 +3,18 @@
 use mathlib.Core.Bool.{Bool, false, true}
 use mathlib.Core.List.{List, [], ◌++◌, ◌∷◌, append_assoc, append-nil}
 use mathlib.Core.Path.{◌∙◌, ◌≡◌, ap, refl, sym}
-use Prim.Native.Nat.{◌-◌, ◌<◌, ◌^◌, ◌≤◌, suc, ℕ}
+use Prim.Native.Nat.{◌+◌, ◌<◌, ◌^◌, ◌≤◌, suc, ℕ}
 use native.Mathlib.Omega.{arith}
 use lib.Dec.{eqb}
 use lib.ListN.{get_or, length, length-append, take}
-use lib.Seq.{get_or-append_seam, take-append_seam, take-length}
+use lib.Seq.{get_or-append_seam}
 use borrow.Author.Tests.{eq-eqb, eqb-true}
 use Rattle.commands.specs.Commands.{Row, com_of, end_of, fitted, information_of, payload_of, read_command, read_in, start_of, command_table}
 use Rattle.commands.specs.declared.Command.{Command}
 use Rattle.commands.specs.declared.Command.TheVariants.{BlankCheck, BlockErase, Checksum, Programming, RateSet, Reset, Verify}
 use Rattle.commands.specs.declared.Command.TheVariants.{SecurityGet, SecurityRelease, SecuritySet, SignatureGet}
-use Rattle.commands.specs.declared.Reading.TheVariants.{Meant, UnfitLen}
+use Rattle.commands.specs.declared.Misread.TheVariants.{UnfitLen}
+use Rattle.std.specs.Prelude.{Err, Ok}
 use Rattle.frame.specs.Wire.{Writing, write_of}
 use Rattle.frame.specs.declared.Footer.TheVariants.{Last}
 use Rattle.frame.specs.declared.Header.TheVariants as Header
@@ -21,32 +22,18 @@ use Rattle.numbers.proofs.Laws.{low-3-each, low-long, number-low}
 use Rattle.numbers.specs.Numbers.{low_first, number_at}
 use Rattle.words.specs.Words.{if◌then◌otherwise◌}
 
--- The information of a command in its array.
+-- The addresses of a command's information in their array.
 pub two-addresses : {a b : List ℕ} (s e last : ℕ) → a ≡ low_first 3 s → b ≡ low_first 3 e
     → get_or a 0 0 ∷ get_or a 1 0 ∷ get_or a 2 0 ∷ get_or b 0 0 ∷ get_or b 1 0 ∷ get_or b 2 0 ∷ last ∷ [] ≡ low_first 3 s ++ low_first 3 e ++ last ∷ []
 two-addresses {a} {b} s e last p q =
     low-3-each s (get_or b 0 0 ∷ get_or b 1 0 ∷ get_or b 2 0 ∷ last ∷ []) p ∙ ap (λ (l : List ℕ). low_first 3 s ++ l) (low-3-each e (last ∷ []) q)
     ∙ sym (append_assoc (low_first 3 s) (low_first 3 e) (last ∷ []))
 
-starts_with : (xs ys r : List ℕ) → r ≡ xs ++ ys → take (length xs) r ≡ xs
-starts_with xs ys r e = rw e (take-append_seam xs ys)
-
-pub one-laid : (s : ℕ) (r : List ℕ) → r ≡ low_first 3 s ++ low_first 3 0 ++ 0 ∷ [] → take (length (low_first 3 s)) r ≡ low_first 3 s
-one-laid s r e = starts_with (low_first 3 s) (low_first 3 0 ++ 0 ∷ []) r (e ∙ append_assoc (low_first 3 s) (low_first 3 0) (0 ∷ []))
-
-pub two-laid : (s e : ℕ) (r : List ℕ) → r ≡ low_first 3 s ++ low_first 3 e ++ 0 ∷ [] → take (length (low_first 3 s ++ low_first 3 e)) r ≡ low_first 3 s ++ low_first 3 e
-two-laid s e r p = starts_with (low_first 3 s ++ low_first 3 e) (0 ∷ []) r p
-
-pub all_laid : (xs r : List ℕ) → r ≡ xs → take (length xs) r ≡ xs
-all_laid xs r e = rw e (take-length xs)
-
 -- COM and the information, lent as the part of the array that they are, are the payload.
-pub command-written : (w : Writing) (room : List ℕ) (c : Command) (x n : ℕ) (bytes : List ℕ) → w ≡ write_of room Header.Command (x ∷ take (n - 0) bytes) Last
+pub command-written : (w : Writing) (room : List ℕ) (c : Command) (x n : ℕ) (bytes : List ℕ) → w ≡ write_of room Header.Command (x ∷ take n bytes) Last
     → x ≡ com_of c → n ≡ length (information_of c) → take (length (information_of c)) bytes ≡ information_of c → w ≡ write_of room Header.Command (payload_of c) Last
 unfolding payload_of
-command-written w room c x n bytes e f g h =
-    let m : n - 0 ≡ length (information_of c) = omega arith in
-    e ∙ rw (f, m, h)
+command-written w room c x n bytes e f g h = e ∙ rw (f, g, h)
 
 -- A number at the end of the bytes, and one before others.
 start_back : (cmd s : ℕ) (ys : List ℕ) → s < 256 ^ 3 → number_at 3 1 (cmd ∷ (low_first 3 s ++ ys)) ≡ s
@@ -81,7 +68,7 @@ long-three cmd s e d = ap suc (length-append (low_first 3 s ++ low_first 3 e) (d
     long-both : (s e : ℕ) → length (low_first 3 s ++ low_first 3 e) ≡ 6
     long-both s e = length-append (low_first 3 s) (low_first 3 e) ∙ rw (low-long, low-long)
 
-meant : (n len : ℕ) (c d : Command) → n ≡ len → c ≡ d → fitted n len c ≡ Meant d
+meant : (n len : ℕ) (c d : Command) → n ≡ len → c ≡ d → fitted n len c ≡ Ok d
 unfolding fitted if◌then◌otherwise◌
 meant n len c d e f = simp (eq-eqb n len e, f)
 
@@ -124,7 +111,7 @@ payload-most SecuritySet = omega arith
 payload-most SecurityRelease = omega arith
 
 -- What is written is read back.
-pub read_back : (c : Command) → start_of c < 256 ^ 3 → end_of c < 256 ^ 3 → read_command (payload_of c) ≡ Meant c
+pub read_back : (c : Command) → start_of c < 256 ^ 3 → end_of c < 256 ^ 3 → read_command (payload_of c) ≡ Ok c
 unfolding read_command read_in command_table payload_of com_of information_of if◌then◌otherwise◌
 read_back (RateSet rate supply) h k = meant 3 3 _ _ refl refl
 read_back Reset h k = meant 1 1 _ _ refl refl
@@ -144,23 +131,30 @@ Fitting : List ℕ → List Row → Type 0
 Fitting f [] = f ≡ f
 Fitting f (x ∷ xs) = (com_of (x.means f) ≡ x.cmd) × Fitting f xs
 
-fits : (n len : ℕ) (c d : Command) → fitted n len c ≡ Meant d → c ≡ d
+fits : (n len : ℕ) (c d : Command) → fitted n len c ≡ Ok d → c ≡ d
 unfolding fitted if◌then◌otherwise◌
 fits n len c d e = go (eqb n len) e
   where
-    go : (t : Bool) → (if t then Meant c otherwise UnfitLen) ≡ Meant d → c ≡ d
+    go : (t : Bool) → (if t then Ok c otherwise Err UnfitLen) ≡ Ok d → c ≡ d
     go true e = cc
     go false e = absurd (let z : ◌≡◌ {A = ℕ} 0 1 = cc in omega arith)
 
-com-in : (f : List ℕ) (xs : List Row) (c : Command) → Fitting f xs → read_in xs f ≡ Meant c → get_or f 0 0 ≡ com_of c
+com-in : (f : List ℕ) (xs : List Row) (c : Command) → Fitting f xs → read_in xs f ≡ Ok c → get_or f 0 0 ≡ com_of c
 unfolding Fitting read_in if◌then◌otherwise◌
 com-in f [] c w e = absurd (let z : ◌≡◌ {A = ℕ} 0 1 = cc in omega arith)
 com-in f (x ∷ xs) c w e = go (com-in f xs c w.1) (eqb (get_or f 0 0) x.cmd) refl e
   where
-    go : (read_in xs f ≡ Meant c → get_or f 0 0 ≡ com_of c) → (t : Bool) → eqb (get_or f 0 0) x.cmd ≡ t → (if t then fitted (length f) x.len (x.means f) otherwise read_in xs f) ≡ Meant c → get_or f 0 0 ≡ com_of c
+    go : (read_in xs f ≡ Ok c → get_or f 0 0 ≡ com_of c) → (t : Bool) → eqb (get_or f 0 0) x.cmd ≡ t → (if t then fitted (length f) x.len (x.means f) otherwise read_in xs f) ≡ Ok c → get_or f 0 0 ≡ com_of c
     go on true u e = eqb-true _ _ u ∙ sym w.0 ∙ ap com_of (fits (length f) x.len (x.means f) c e)
     go on false u e = on e
 
-pub com-read : (f : List ℕ) (c : Command) → read_command f ≡ Meant c → get_or f 0 0 ≡ com_of c
+pub com-read : (f : List ℕ) (c : Command) → read_command f ≡ Ok c → get_or f 0 0 ≡ com_of c
 unfolding Fitting read_command command_table com_of
 com-read f c e = com-in f command_table c (refl, (refl, (refl, (refl, (refl, (refl, (refl, (refl, (refl, (refl, (refl, refl))))))))))) e
+
+-- Three bytes of a number count three, before others too.
+pub low3_long : (n : ℕ) → length (low_first 3 n) ≡ 3
+low3_long n = low-long 3 n
+
+pub low3_longer : (n : ℕ) (r : List ℕ) → length (low_first 3 n ++ r) ≡ 3 + length r
+low3_longer n r = length-append (low_first 3 n) r ∙ ap (λ (k : ℕ). k + length r) (low-long 3 n)

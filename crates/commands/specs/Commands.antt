@@ -1,10 +1,10 @@
 -- The eleven commands and their bytes: document 01, "Commands", the table in its order; 000, chapter 3. The dock writes a command by it, and the chip reads it.
-use Rattle.std.specs.Prelude.{List, [], ◌++◌, ◌∷◌, ℕ, eqb, get_or, length}
+use Rattle.std.specs.Prelude.{List, [], ◌++◌, ◌∷◌, ℕ, eqb, get_or, length, Err, Ok, Result}
 use Rattle.commands.specs.declared.Command.{Command}
 use Rattle.commands.specs.declared.Command.TheVariants.{BlankCheck, BlockErase, Checksum, Programming, RateSet, Reset, Verify}
 use Rattle.commands.specs.declared.Command.TheVariants.{SecurityGet, SecurityRelease, SecuritySet, SignatureGet}
-use Rattle.commands.specs.declared.Reading.{Reading}
-use Rattle.commands.specs.declared.Reading.TheVariants.{Meant, UnfitLen, Unknown}
+use Rattle.commands.specs.declared.Misread.TheVariants.{UnfitLen, Unknown}
+use Rattle.commands.specs.declared.Misread.{Misread}
 use Rattle.numbers.specs.Numbers.{low_first, number_at}
 use Rattle.words.specs.Words.{if◌then◌otherwise◌}
 
@@ -92,12 +92,12 @@ command_table =
     ∷ []
 
 -- Which command a payload is: unknown where no row has its COM, and its LEN unfit where the row has another.
-unfoldable pub fitted : ℕ → ℕ → Command → Reading
-fitted n len c = if eqb n len then Meant c otherwise UnfitLen
+unfoldable pub fitted : ℕ → ℕ → Command → Result Command Misread
+fitted n len c = if eqb n len then Ok c otherwise Err UnfitLen
 
-unfoldable pub read_in : List Row → List ℕ → Reading
-read_in [] f = Unknown
+unfoldable pub read_in : List Row → List ℕ → Result Command Misread
+read_in [] f = Err Unknown
 read_in (x ∷ xs) f = if eqb (get_or f 0 0) x.cmd then fitted (length f) x.len (x.means f) otherwise read_in xs f
 
-unfoldable pub read_command : List ℕ → Reading
+unfoldable pub read_command : List ℕ → Result Command Misread
 read_command f = read_in command_table f

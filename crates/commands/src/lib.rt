@@ -8,7 +8,7 @@ ghost use Rattle.frame.specs.declared.Footer.TheVariants.{Last};
 ghost use Rattle.frame.specs.declared.Header.TheVariants as Header;
 ghost use Rattle.commands.specs.Commands.{com_of, fitted, information_of, payload_of, read_command};
 
-use frame::wire::Wrote;
+use frame::wire::WriteError;
 
 // Addresses are three bytes on the wire.
 #[derive(Clone, Copy)]
@@ -26,25 +26,25 @@ pub enum Command {
     SecurityRelease,
 }
 
-// What a payload is as a command.
-#[derive(Clone, Copy)]
-pub enum Reading {
-    Meant(Command),
+// Why a payload is no command: its LEN is not the command's, or no command begins so.
+#[derive(Clone, Copy, Debug, PartialEq, Eq)]
+pub enum Misread {
     UnfitLen,
     Unknown,
 }
 
+#[tactic(auto, unfolding(crate::specs::Commands::com_of))]
 pub fn com(c: Command) -> u8
     ensures { result ≡ com_of c }
 {
     match c {
-        Command::RateSet { rate, supply } => 0x9A,
+        Command::RateSet { .. } => 0x9A,
         Command::Reset => 0x00,
-        Command::BlockErase { start } => 0x22,
-        Command::BlankCheck { start, end, d01 } => 0x32,
-        Command::Programming { start, end } => 0x40,
-        Command::Verify { start, end } => 0x13,
-        Command::Checksum { start, end } => 0xB0,
+        Command::BlockErase { .. } => 0x22,
+        Command::BlankCheck { .. } => 0x32,
+        Command::Programming { .. } => 0x40,
+        Command::Verify { .. } => 0x13,
+        Command::Checksum { .. } => 0xB0,
         Command::SignatureGet => 0xC0,
         Command::SecurityGet => 0xA1,
         Command::SecuritySet => 0xA0,
@@ -52,21 +52,20 @@ pub fn com(c: Command) -> u8
     }
 }
 
-fn fit(n: usize, len: usize, c: Command) -> Reading
+fn fit(n: usize, len: usize, c: Command) -> Result<Command, Misread>
     ensures { result ≡ fitted n len c }
 {
     if n == len {
-        return Reading::Meant(c);
+        return Ok(c);
     }
-    Reading::UnfitLen
+    Err(Misread::UnfitLen)
 }
 
-pub fn read(payload: &[u8]) -> Reading
+pub fn read(payload: &[u8]) -> Result<Command, Misread>
     ensures { result ≡ read_command payload.now }
 {
     let n = payload.len();
-    let first = lent::byte_at(payload, 0);
-    match first {
+    match lent::byte_at(payload, 0) {
         0x9A => {
             let rate = lent::byte_at(payload, 1);
             let supply = lent::byte_at(payload, 2);
@@ -102,7 +101,7 @@ pub fn read(payload: &[u8]) -> Reading
         0xA1 => fit(n, 1, Command::SecurityGet),
         0xA0 => fit(n, 1, Command::SecuritySet),
         0xA2 => fit(n, 1, Command::SecurityRelease),
-        _ => Reading::Unknown,
+        _ => Err(Misread::Unknown),
     }
 }
 
@@ -116,47 +115,46 @@ fn addresses(start: usize, end: usize, last: u8) -> [u8; 7]
 }
 
 // The information of a command lies at the start of an array that has room for the longest.
+#[tactic(auto, unfolding(crate::specs::Commands::information_of))]
 fn information(c: Command) -> [u8; 7]
     ensures { take (length (information_of c)) result ≡ information_of c }
 {
     match c {
         Command::RateSet { rate, supply } => [rate, supply, 0, 0, 0, 0, 0],
-        Command::Reset => [0u8; 7],
         Command::BlockErase { start } => addresses(start, 0, 0),
         Command::BlankCheck { start, end, d01 } => addresses(start, end, d01),
-        Command::Programming { start, end } => addresses(start, end, 0),
-        Command::Verify { start, end } => addresses(start, end, 0),
-        Command::Checksum { start, end } => addresses(start, end, 0),
-        Command::SignatureGet => [0u8; 7],
-        Command::SecurityGet => [0u8; 7],
-        Command::SecuritySet => [0u8; 7],
-        Command::SecurityRelease => [0u8; 7],
+        Command::Programming { start, end }
+        | Command::Verify { start, end }
+        | Command::Checksum { start, end } => addresses(start, end, 0),
+        Command::Reset
+        | Command::SignatureGet
+        | Command::SecurityGet
+        | Command::SecuritySet
+        | Command::SecurityRelease => [0u8; 7],
     }
 }
 
+#[tactic(auto, using(crate::proofs::Laws::low3_long, crate::proofs::Laws::low3_longer), unfolding(crate::specs::Commands::information_of))]
 fn information_length(c: Command) -> usize
     ensures { (result ≡ length (information_of c)) × (result ≤ 7) }
 {
     match c {
-        Command::RateSet { rate, supply } => 2,
-        Command::Reset => 0,
-        Command::BlockErase { start } => 3,
-        Command::BlankCheck { start, end, d01 } => 7,
-        Command::Programming { start, end } => 6,
-        Command::Verify { start, end } => 6,
-        Command::Checksum { start, end } => 6,
-        Command::SignatureGet => 0,
-        Command::SecurityGet => 0,
-        Command::SecuritySet => 0,
-        Command::SecurityRelease => 0,
+        Command::RateSet { .. } => 2,
+        Command::BlockErase { .. } => 3,
+        Command::BlankCheck { .. } => 7,
+        Command::Programming { .. } | Command::Verify { .. } | Command::Checksum { .. } => 6,
+        Command::Reset
+        | Command::SignatureGet
+        | Command::SecurityGet
+        | Command::SecuritySet
+        | Command::SecurityRelease => 0,
     }
 }
 
 // The command as a command frame at the start of the room.
-pub fn write(room: &mut [u8], c: Command) -> Wrote
+pub fn write(room: &mut [u8], c: Command) -> Result<usize, WriteError>
     ensures { wrote result room.new ≡ write_of room.old Header.Command (payload_of c) Last }
 {
     let bytes = information(c);
-    let n = information_length(c);
-    frame::wire::write_command(room, com(c), &bytes[0..n])
+    frame::wire::write_command(room, com(c), &bytes[..information_length(c)])
 }

@@ -34,11 +34,7 @@ pub fn argument<'a>(
 // Whether there is an argument at a place.
 pub fn has_argument(rt: &impl Env, i: usize) -> bool {
     let mut room = [0u8; 1];
-    match rt.arg(i, &mut room) {
-        Ok(_) => true,
-        Err(FillError::NotPresent) => false,
-        Err(FillError::TooLong) => true,
-    }
+    !matches!(rt.arg(i, &mut room), Err(FillError::NotPresent))
 }
 
 // How many bytes were read, and what ended the reading, where it did not go well.
@@ -131,8 +127,8 @@ pub fn show_progress(rt: &impl Eprint, progress: Progress, name: &str, records: 
     let _ = eprint!(rt; "\r{name}: {records} records");
     Progress {
         stands: true,
-        is_among_lines: progress.is_among_lines,
         next: records.wrapping_add(PACE),
+        ..progress
     }
 }
 
@@ -146,8 +142,7 @@ pub fn erase(rt: &impl Eprint, progress: Progress) -> Progress
     let _ = eprint!(rt; "\r\x1B[K");
     Progress {
         stands: false,
-        is_among_lines: progress.is_among_lines,
-        next: progress.next,
+        ..progress
     }
 }
 

@@ -9,7 +9,8 @@ use lib.Seq.{length-take-le, take_at}
 use Rattle.conversion.specs.Conversion.{other, rewritten}
 use Rattle.lent.proofs.Laws.{Written, amid, written_byte, written-put, written_start}
 use Rattle.lent.specs.Lent.{left, put_of}
-use Rattle.lent.specs.declared.Room.{Room}
+use Rattle.lent.specs.declared.Short.{Short}
+use Rattle.std.specs.Prelude.{Result}
 use Rattle.replay_capture.proofs.Laws.{sizes}
 use Rattle.replay_capture.specs.Capture.{data_size, head_size, record_size}
 use Rattle.replay_capture.specs.declared.Form.{Form}
@@ -51,7 +52,7 @@ module _ (from : Form) (bs : List ℕ) (h : length bs ≡ record_size from) wher
       let b : length (take (head_size Old) bs) ≡ head_size Old = length-take-le (head_size Old) bs (omega (arith, sizes from)) in
       rw (length-append, length-append, length-append, length-replicate, length-replicate, six-long, b) (omega (arith, sizes (other from)))
 
-  pub rewritten-laid : {at head : ℕ} {l : List ℕ} {a : Room} → at ≡ head_size from → head ≡ head_size (other from)
+  pub rewritten-laid : {at head : ℕ} {l : List ℕ} {a : Result Unit Short} → at ≡ head_size from → head ≡ head_size (other from)
       → left a l ≡ put_of (get_or bs 0 0 ∷ get_or bs 1 0 ∷ replicate 14 0x00) head (take (at + 6 - at) (drop at bs)) → take (record_size (other from)) l ≡ rewritten from bs
   unfolding rewritten
   rewritten-laid {at} {head} {l} {a} f g e =
@@ -72,7 +73,7 @@ module _ (from : Form) (bs : List ℕ) (h : length bs ≡ record_size from) wher
       ap (take (record_size (other from))) whole.is ∙ take_at (rewritten from bs) _ (record_size (other from)) rewritten-long
 
 -- The array's part of the other form's size, put into the output.
-pub rewritten-put : (from : Form) {to : Form} {n : ℕ} (at : ℕ) (laid out : List ℕ) {w l : List ℕ} {a : Room} → take (record_size (other from)) laid ≡ w → to ≡ other from → n ≡ record_size to
+pub rewritten-put : (from : Form) {to : Form} {n : ℕ} (at : ℕ) (laid out : List ℕ) {w l : List ℕ} {a : Result Unit Short} → take (record_size (other from)) laid ≡ w → to ≡ other from → n ≡ record_size to
     → left a l ≡ put_of out at (take (n - 0) laid) → left a l ≡ put_of out at w
 rewritten-put from {to} {n} at laid out {w} {l} {a} p q r e =
     let m : n - 0 ≡ record_size (other from) = omega (arith, r, ap record_size q) in

@@ -1,11 +1,9 @@
 -- Conversion of a capture from one form to the other: document 02, section 5.
-use Rattle.std.specs.Prelude.{Bool, List, [], ◌++◌, ◌∷◌, ◌-◌, suc, ℕ, eqb, leb, ltb, drop, length, replicate, take}
+use Rattle.std.specs.Prelude.{Bool, List, [], ◌++◌, ◌∷◌, ◌-◌, suc, ℕ, eqb, leb, ltb, drop, length, replicate, take, Err, None, Ok, Option, Result, Some}
 use Rattle.conversion.specs.declared.Asked.{Asked}
 use Rattle.conversion.specs.declared.Asked.TheVariants.{Good, Held}
-use Rattle.conversion.specs.declared.Converted.{Converted}
-use Rattle.conversion.specs.declared.Converted.TheVariants.{BadRecordAt, NoRoom, NotHeldAt, Wrote}
-use Rattle.conversion.specs.declared.Found.{Found}
-use Rattle.conversion.specs.declared.Found.TheVariants.{At, Nowhere}
+use Rattle.conversion.specs.declared.ConvertError.TheVariants.{BadRecordAt, NoRoom, NotHeldAt}
+use Rattle.conversion.specs.declared.ConvertError.{ConvertError}
 use Rattle.replay_capture.specs.Capture.{bad_record_number, count, data_in, data_size, head_size, good_record, record_size, records_of, seat_of, tick_of}
 use Rattle.replay_capture.specs.declared.Form.{Form}
 use Rattle.replay_capture.specs.declared.Form.TheVariants.{New, Old}
@@ -39,33 +37,33 @@ passes form Good bs = good_record form bs
 passes form Held bs = held_by_old form bs
 
 -- "with its number, the first such record in order": the first record that does not pass, counted from 0.
-unfoldable pub one_later : Found → Found
-one_later Nowhere = Nowhere
-one_later (At n) = At (suc n)
+unfoldable pub one_later : Option ℕ → Option ℕ
+one_later None = None
+one_later (Some n) = Some (suc n)
 
-unfoldable pub first_not : Form → Asked → List (List ℕ) → Found
-first_not form a [] = Nowhere
-first_not form a (r ∷ rs) = if passes form a r then one_later (first_not form a rs) otherwise At 0
+unfoldable pub first_not : Form → Asked → List (List ℕ) → Option ℕ
+first_not form a [] = None
+first_not form a (r ∷ rs) = if passes form a r then one_later (first_not form a rs) otherwise Some 0
 
 -- What a conversion leaves: its answer, and all of the output.
 pub record Converting : Type 0 where
-  pub converted : Converted
+  pub converted : Result ℕ ConvertError
   pub output : List ℕ
 
-abbrev pub converting : Converted → List ℕ → Converting
+abbrev pub converting : Result ℕ ConvertError → List ℕ → Converting
 converting c output = record { converted = c; output = output }
 
 -- "10 before 11 [..]; then 12 if the output room is too small. The output stays untouched." What is written stands at the start of the output, and the room past
 -- it stays.
 unfoldable pub written_into : List ℕ → List ℕ → Converting
 written_into bs output =
-    if ltb (length output) (length bs) then converting NoRoom output
-    otherwise converting (Wrote (length bs)) (bs ++ drop (length bs) output)
+    if ltb (length output) (length bs) then converting (Err NoRoom) output
+    otherwise converting (Ok (length bs)) (bs ++ drop (length bs) output)
 
-unfoldable pub convert_by : Found → Found → List ℕ → List ℕ → Converting
-convert_by (At n) held bs output = converting (BadRecordAt n) output
-convert_by Nowhere (At n) bs output = converting (NotHeldAt n) output
-convert_by Nowhere Nowhere bs output = written_into bs output
+unfoldable pub convert_by : Option ℕ → Option ℕ → List ℕ → List ℕ → Converting
+convert_by (Some n) held bs output = converting (Err (BadRecordAt n)) output
+convert_by None (Some n) bs output = converting (Err (NotHeldAt n)) output
+convert_by None None bs output = written_into bs output
 
 unfoldable pub convert_of : Form → List ℕ → List ℕ → Converting
 convert_of from capture output =
@@ -74,20 +72,20 @@ convert_of from capture output =
 
 -- "10 for a bad record and 11 for one that the old form can't hold, with its number [..]; then 12": the number of the refusal, 0 where there is none; the record's
 -- number, 0 where none is named; and how many bytes were written.
-unfoldable pub refusal_number : Converted → ℕ
-refusal_number (Wrote n) = 0
-refusal_number (BadRecordAt n) = bad_record_number
-refusal_number (NotHeldAt n) = 11
-refusal_number NoRoom = 12
+unfoldable pub refusal_number : Result ℕ ConvertError → ℕ
+refusal_number (Ok n) = 0
+refusal_number (Err (BadRecordAt n)) = bad_record_number
+refusal_number (Err (NotHeldAt n)) = 11
+refusal_number (Err NoRoom) = 12
 
-unfoldable pub record_named : Converted → ℕ
-record_named (Wrote n) = 0
-record_named (BadRecordAt n) = n
-record_named (NotHeldAt n) = n
-record_named NoRoom = 0
+unfoldable pub record_named : Result ℕ ConvertError → ℕ
+record_named (Ok n) = 0
+record_named (Err (BadRecordAt n)) = n
+record_named (Err (NotHeldAt n)) = n
+record_named (Err NoRoom) = 0
 
-unfoldable pub bytes_written : Converted → ℕ
-bytes_written (Wrote n) = n
-bytes_written (BadRecordAt n) = 0
-bytes_written (NotHeldAt n) = 0
-bytes_written NoRoom = 0
+unfoldable pub bytes_written : Result ℕ ConvertError → ℕ
+bytes_written (Ok n) = n
+bytes_written (Err (BadRecordAt n)) = 0
+bytes_written (Err (NotHeldAt n)) = 0
+bytes_written (Err NoRoom) = 0

@@ -12,10 +12,10 @@ fn convert(from: Form, capture: &[u8], output: &mut [u8], told: &mut [u64; 2]) -
     ensures { convert_told result told.new output.new ≡ converted_through from capture.now output.old }
 {
     let converted = conversion::convert(from, capture, output);
-    let written = converted.bytes_written();
-    let named = converted.record_named();
+    let written = conversion::bytes_written(converted);
+    let named = conversion::record_named(converted);
     *told = [written as u64, named as u64];
-    converted.number()
+    conversion::number(converted)
 }
 
 // An old capture into the new form.

@@ -5,7 +5,7 @@
 ghost use Rattle.std.specs.Prelude.{◌≤◌};
 
 use console::Progress;
-use conversion::{Asked, Converted, Found};
+use conversion::{Asked, ConvertError};
 use replay_capture::Form;
 use std::fs::{File, OpenFile, OpenOptions};
 use std::io::{Read, Seek, Write};
@@ -24,51 +24,58 @@ fn last_line(rt: &(impl Print + Eprint + Alloc), word: &str, n: u64) {
     }
 }
 
+// Why a capture is not converted: a record that is not good, or one that the old form cannot hold, by its number.
+#[derive(Clone, Copy)]
+enum Unfit {
+    Bad(u64),
+    NotHeld(u64),
+}
+
 // A refusal with its record's number: a line for the reader on standard error, and one for a script on standard output.
-fn refuse(rt: &(impl Print + Eprint + Alloc), number: u32, record: u64) {
+fn refuse(rt: &(impl Print + Eprint + Alloc), unfit: Unfit) {
+    let (why, record) = match unfit {
+        Unfit::Bad(k) => (ConvertError::BadRecordAt(0), k),
+        Unfit::NotHeld(k) => (ConvertError::NotHeldAt(0), k),
+    };
+    let number = conversion::number(Err(why));
     let _ = eprintln!(rt; "convert: refused {number}, record {record}");
     if let Err(error) = println!(rt; "REFUSED {number} {record}") {
         fail_at(rt, "standard output", error);
     }
 }
 
-// What judging the whole capture came to: nothing refused; a record that is not good, or one that the old form cannot hold, by its number; or no judgement.
-#[derive(Clone, Copy)]
-enum Judged {
-    Fit,
-    Bad(u64),
-    NotHeld(u64),
-    Lost,
-}
-
 // What a buffer, which begins with so many records before it, adds to the judgement so far.
-fn judge_buffer(from: Form, so_far: Judged, capture: &[u8], before: u64) -> Judged {
-    match conversion::first_not(from, Asked::Good, capture) {
-        Found::At(k) => Judged::Bad(before.wrapping_add(k as u64)),
-        Found::Nowhere => match so_far {
-            Judged::Fit => match conversion::first_not(from, Asked::Held, capture) {
-                Found::At(k) => Judged::NotHeld(before.wrapping_add(k as u64)),
-                Found::Nowhere => Judged::Fit,
-            },
-            Judged::Bad(k) => Judged::Bad(k),
-            Judged::NotHeld(k) => Judged::NotHeld(k),
-            Judged::Lost => Judged::Lost,
-        },
+fn judge_buffer(
+    from: Form,
+    so_far: Result<(), Unfit>,
+    capture: &[u8],
+    before: u64,
+) -> Result<(), Unfit> {
+    if let Some(k) = conversion::first_not(from, Asked::Good, capture) {
+        return Err(Unfit::Bad(before.wrapping_add(k as u64)));
+    }
+    so_far?;
+    match conversion::first_not(from, Asked::Held, capture) {
+        Some(k) => Err(Unfit::NotHeld(before.wrapping_add(k as u64))),
+        None => Ok(()),
     }
 }
 
-// The first reading. A record that is not good ends it; one that the old form cannot hold does not, since a bad one behind it comes first. A proved loop has to end,
-// and nothing says that the input does: so it counts its turns, up to a number that no run comes to.
-fn judge_capture<R: Read>(
+// Reads a capture to its end, or up to the first buffer that the step refuses: each buffer, with how many records came before it. How many records that is, or why it
+// was refused; none where it cannot be read, which was told. A proved loop has to end, and nothing says that the input does: so it counts its turns, up to a number
+// that no run comes to.
+fn each_buffer<R: Read, E, F: FnMut(&[u8], u64) -> Result<(), E>>(
     rt: &(impl Eprint + Alloc),
     from: Form,
     file: &mut R,
     name: &str,
     at_first: Progress,
-) -> Judged {
+    mut step: F,
+) -> Option<Result<u64, E>>
+    requires { F.IsAlwaysCallable step }
+{
     let mut capture = [0u8; 32768];
     let mut records = 0u64;
-    let mut judged = Judged::Fit;
     let mut progress = at_first;
     for _ in 0..u64::MAX {
         let filled = console::fill(file, &mut capture);
@@ -76,47 +83,49 @@ fn judge_capture<R: Read>(
         if let Some(error) = filled.error {
             console::erase(rt, progress);
             fail_at(rt, name, error);
-            return Judged::Lost;
+            return None;
         }
-        judged = judge_buffer(from, judged, &capture[0..n], records);
-        let is_last = match judged {
-            Judged::Bad(_) => true,
-            Judged::Fit => n < 32768,
-            Judged::NotHeld(_) => n < 32768,
-            Judged::Lost => true,
-        };
-        if is_last {
+        if let Err(why) = step(&capture[0..n], records) {
             console::erase(rt, progress);
-            return judged;
+            return Some(Err(why));
         }
         records = records.wrapping_add((n / replay_capture::record_size(from)) as u64);
+        if n < 32768 {
+            console::erase(rt, progress);
+            return Some(Ok(records));
+        }
         progress = console::show_progress(rt, progress, "convert", records);
     }
-    Judged::Lost
+    None
 }
 
-// How the second reading went: whether all of it was written, and how many records that is.
-#[derive(Clone, Copy)]
-struct Written {
-    well: bool,
-    records: u64,
-}
-
-fn not_written(
+// The first reading. A record that is not good ends it; one that the old form cannot hold does not, since a bad one behind it comes first.
+fn judge_capture<R: Read>(
     rt: &(impl Eprint + Alloc),
-    progress: Progress,
+    from: Form,
+    file: &mut R,
     name: &str,
-    error: io::Error,
-) -> Written {
-    console::erase(rt, progress);
-    fail_at(rt, name, error);
-    Written {
-        well: false,
-        records: 0,
-    }
+    progress: Progress,
+) -> Option<Result<(), Unfit>> {
+    let mut judged = Ok(());
+    let _ = each_buffer(rt, from, file, name, progress, |capture, before| {
+        judged = judge_buffer(from, judged, capture, before);
+        match judged {
+            Err(Unfit::Bad(_)) => judged,
+            _ => Ok(()),
+        }
+    })?;
+    Some(judged)
 }
 
-// The second reading: each buffer is converted and written. It was judged: where one is refused now, the file has changed since.
+// Why a buffer was not written: it is refused now, since the file has changed after it was judged; or the system did not take it.
+#[derive(Drop)]
+enum Unwritten {
+    Changed,
+    Failed(io::Error),
+}
+
+// The second reading: each buffer is converted and written. How many records that is, where all of them are written; else why not was told.
 fn write<R: Read, W: Write>(
     rt: &(impl Eprint + Alloc),
     from: Form,
@@ -124,44 +133,25 @@ fn write<R: Read, W: Write>(
     name: &str,
     out: &mut W,
     out_name: &str,
-    at_first: Progress,
-) -> Written {
-    let mut capture = [0u8; 32768];
+    progress: Progress,
+) -> Option<u64> {
     let mut output = [0u8; 65536];
-    let mut records = 0u64;
-    let mut progress = at_first;
-    for _ in 0..u64::MAX {
-        let filled = console::fill(file, &mut capture);
-        let n = filled.n;
-        if let Some(error) = filled.error {
-            return not_written(rt, progress, name, error);
+    let wrote = each_buffer(rt, from, file, name, progress, |capture, _| {
+        match conversion::convert(from, capture, &mut output) {
+            Ok(n) => out
+                .write_all(lent::span(&output, 0, n))
+                .map_err(|error| Unwritten::Failed(error)),
+            Err(_) => Err(Unwritten::Changed),
         }
-        let converted = conversion::convert(from, &capture[0..n], &mut output);
-        if converted.number() != 0 {
-            console::erase(rt, progress);
+    })?;
+    match wrote {
+        Ok(records) => return Some(records),
+        Err(Unwritten::Changed) => {
             let _ = eprintln!(rt; "convert: {name}: it has changed while it was read");
-            return Written {
-                well: false,
-                records,
-            };
         }
-        if let Err(error) = out.write_all(lent::span(&output, 0, converted.bytes_written())) {
-            return not_written(rt, progress, out_name, error);
-        }
-        records = records.wrapping_add((n / replay_capture::record_size(from)) as u64);
-        if n < 32768 {
-            console::erase(rt, progress);
-            return Written {
-                well: true,
-                records,
-            };
-        }
-        progress = console::show_progress(rt, progress, "convert", records);
+        Err(Unwritten::Failed(error)) => fail_at(rt, out_name, error),
     }
-    Written {
-        well: false,
-        records,
-    }
+    None
 }
 
 // Makes the file, which must be a new one, and open for writing.
@@ -188,11 +178,10 @@ fn write_out<R: Runtime>(
     match create_new(rt, out_name) {
         Err(error) => fail_at(rt, out_name, error),
         Ok(mut out) => {
-            let written = write(rt, from, file, name, &mut out, out_name, progress);
-            if written.well {
+            if let Some(records) = write(rt, from, file, name, &mut out, out_name, progress) {
                 match out.sync_data() {
                     Ok(()) => {
-                        last_line(rt, "END", written.records);
+                        last_line(rt, "END", records);
                         return;
                     }
                     Err(error) => fail_at(rt, out_name, error),
@@ -212,10 +201,9 @@ fn convert<R: Runtime>(
     progress: Progress,
 ) {
     match judge_capture(rt, from, file, name, progress) {
-        Judged::Fit => write_out(rt, from, file, name, out_name, progress),
-        Judged::Bad(k) => refuse(rt, Converted::BadRecordAt(0).number(), k),
-        Judged::NotHeld(k) => refuse(rt, Converted::NotHeldAt(0).number(), k),
-        Judged::Lost => {}
+        Some(Ok(())) => write_out(rt, from, file, name, out_name, progress),
+        Some(Err(unfit)) => refuse(rt, unfit),
+        None => {}
     }
 }
 
@@ -249,15 +237,14 @@ fn misused(rt: &impl Eprint) {
 enum Word {
     Help,
     Read(Form),
-    Nothing,
 }
 
-fn meaning(word: &str) -> Word {
+fn meaning(word: &str) -> Option<Word> {
     match word {
-        "--help" => Word::Help,
-        "--to-new" => Word::Read(Form::Old),
-        "--to-old" => Word::Read(Form::New),
-        _ => Word::Nothing,
+        "--help" => Some(Word::Help),
+        "--to-new" => Some(Word::Read(Form::Old)),
+        "--to-old" => Some(Word::Read(Form::New)),
+        _ => None,
     }
 }
 
@@ -292,9 +279,9 @@ fn main(rt: HostRuntime) {
     let mut word = [0u8; 4096];
     match console::argument(&rt, 1, &mut word) {
         Ok(Some(text)) => match meaning(text) {
-            Word::Help => help(&rt),
-            Word::Read(from) => convert_named(&rt, from, progress),
-            Word::Nothing => misused(&rt),
+            Some(Word::Help) => help(&rt),
+            Some(Word::Read(from)) => convert_named(&rt, from, progress),
+            None => misused(&rt),
         },
         _ => misused(&rt),
     }

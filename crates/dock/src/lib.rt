@@ -1,7 +1,7 @@
 // The dock: a job and answers in, the next frame out, and an account of how it ended. Document 01, "The dock's flow". The calls stand in `calls`.
 #![tactic(auto)]
 
-use dock_job::{Dock, Ending};
+use dock_job::{Dock, Failure};
 use part::refusal::Refusal;
 
 pub mod calls;
@@ -9,22 +9,21 @@ pub mod calls;
 // How a job ended, with the frames and retries used.
 #[derive(Clone, Copy)]
 pub struct Account {
-    pub ending: Ending,
+    pub ending: Result<(), Failure>,
     pub frames: u32,
     pub retries: u32,
 }
 
-// What a call comes to: a frame is due; one of so many bytes was put into the room; the job ended; or the call was refused.
+// What a call comes to that is not refused: a frame is due; one of so many bytes was put into the room; or the job ended.
 #[derive(Clone, Copy)]
 pub enum Report {
     Due,
     Put(usize),
     Ended(Account),
-    Refused(Refusal),
 }
 
 #[derive(Clone, Copy)]
 pub struct Stepped {
-    pub report: Report,
+    pub report: Result<Report, Refusal>,
     pub dock: Dock,
 }

@@ -1,26 +1,18 @@
--- Laws about answers: the rest of lent bytes, an answer of one frame, the status that decides of one, two or three, and how long an answer is.
+-- Laws about answers: an answer of one frame or of two, and the status that decides of one, two or three.
 -- Assumes nothing.
 use mathlib.Core.Bool.{Bool, false, true}
 use mathlib.Core.List.{List, [], ◌∷◌}
 use mathlib.Core.Path.{◌≡◌, refl}
-use Prim.Native.Nat.{◌+◌, ◌-◌, ◌≤◌, ℕ}
-use native.Mathlib.Omega.{arith}
+use Prim.Native.Nat.{◌+◌, ℕ}
 use lib.Dec.{eqb}
-use lib.ListN.{drop, drop_of_length-le, length, length-drop, take}
-use lib.Seq.{drop-length, take_all, take-nil}
+use lib.ListN.{drop}
 use borrow.Author.Tests.{eqb-true}
-use Rattle.dock_answer.specs.Answer.{deciding, judge_frames, long}
+use Rattle.dock_answer.specs.Answer.{deciding, judge_frames}
 use Rattle.frame.specs.Judgement.{is_good}
 use Rattle.frame.specs.Wire.{judge_reply}
 use Rattle.frame.specs.declared.judgement.Judgement.{Judgement}
 use Rattle.frame.specs.declared.judgement.Judgement.TheVariants.{Good, UnfitLength, WrongFirst, WrongFooter, WrongSum}
 use Rattle.words.specs.Words.{if◌then◌otherwise◌}
-
-pub none_after : (l : List ℕ) (n : ℕ) → length l ≤ n → take (length l - length l) (drop (length l) l) ≡ drop n l
-none_after l n h = rw (drop-length, take-nil, drop_of_length-le l h)
-
-pub all_after : (l : List ℕ) (n : ℕ) → take (length l - n) (drop n l) ≡ drop n l
-all_after l n = let k : length (drop n l) ≡ length l - n = length-drop n l in take_all (length l - n) (drop n l) (omega arith)
 
 -- An answer of one frame is judged as that frame, the last.
 pub frames-one : (n : ℕ) (bs : List ℕ) → judge_reply n true bs ≡ judge_frames (n ∷ []) bs
@@ -57,12 +49,3 @@ deciding-one s = go (eqb s 0x06) refl
 pub deciding-two : (s t : ℕ) → deciding (s ∷ t ∷ 0x06 ∷ []) ≡ deciding (s ∷ t ∷ [])
 unfolding deciding if◌then◌otherwise◌
 deciding-two s t = refl
-
--- How long answers of one frame and of two are.
-pub long-one : (n : ℕ) → long (n ∷ []) ≡ n + 4
-unfolding long
-long-one n = omega arith
-
-pub long-two : (n m : ℕ) → long (n ∷ m ∷ []) ≡ n + 4 + (m + 4)
-unfolding long
-long-two n m = omega arith

@@ -1,6 +1,6 @@
 -- The answer to one frame: document 01, "The dock's flow". "The whole answer to one frame is handed in at once". Which fault it has: document 02, §4.
-use Rattle.std.specs.Prelude.{Bool, false, true, List, [], ◌∷◌, ◌+◌, ◌-◌, ℕ, eqb, drop, get_or, length, take}
-use Rattle.dock_answer.specs.declared.Decoded.TheVariants.{Garbled, Said}
+use Rattle.dock_answer.specs.declared.Said.{Said}
+use Rattle.std.specs.Prelude.{Bool, false, true, List, [], ◌∷◌, ◌+◌, ◌-◌, ℕ, eqb, drop, get_or, length, take, None, Some}
 use Rattle.dock_answer.specs.declared.Form.{Form}
 use Rattle.dock_answer.specs.declared.Form.TheVariants.{OfLastPage, OfPage, OneStatus, WithRate, WithSignature}
 use Rattle.dock_answer.specs.declared.JudgedAnswer.{JudgedAnswer}
@@ -87,10 +87,13 @@ matching p supply WithSignature bs = signature_matches p bs
 matching p supply OfPage bs = true
 matching p supply OfLastPage bs = true
 
+abbrev pub said_as : ℕ → Bool → Said
+said_as status matches = record { status = status; matches = matches }
+
 -- What it says, where it is readable, and the fault that it has where it is not.
 unfoldable pub read_answer : Part → ℕ → Form → List ℕ → JudgedAnswer
 read_answer p supply f bs =
     record {
-      decoded = if readable f bs then Said (deciding (statuses f bs)) (matching p supply f bs) otherwise Garbled;
+      decoded = if readable f bs then Some (said_as (deciding (statuses f bs)) (matching p supply f bs)) otherwise None;
       fault = judge_answer f bs;
     }

@@ -33,16 +33,16 @@ pub enum Form {
 
 // A readable answer has the status that decides, 06h where none is another, and whether what it holds beside statuses is as the job says.
 #[derive(Clone, Copy)]
-pub enum Decoded {
-    Said { status: u8, matches: bool },
-    Garbled,
+pub struct Said {
+    pub status: u8,
+    pub matches: bool,
 }
 
 // An answer that was judged: what it says, and its fault, or Good. The fault stands beside what is decoded and not in it: the else of a `let .. else` binds
 // nothing.
 #[derive(Clone, Copy)]
 pub struct JudgedAnswer {
-    pub decoded: Decoded,
+    pub decoded: Option<Said>,
     pub fault: Judgement,
 }
 
@@ -50,11 +50,7 @@ pub struct JudgedAnswer {
 fn after(bytes: &[u8], n: usize) -> &[u8]
     ensures { result.now ≡ drop n bytes.now }
 {
-    let len = bytes.len();
-    if len <= n {
-        return &bytes[len..len];
-    }
-    &bytes[n..len]
+    &bytes[n.min(bytes.len())..]
 }
 
 fn judge_one(bytes: &[u8], n: usize) -> Judgement
@@ -77,30 +73,14 @@ fn judge_two(bytes: &[u8], n: usize, m: usize) -> Judgement
 fn judge_answer(form: Form, bytes: &[u8]) -> Judgement
     ensures { result ≡ judge_answer form bytes.now }
 {
+    let first = lent::byte_at(bytes, FIRST);
+    let second = lent::byte_at(bytes, SECOND);
     match form {
-        Form::OneStatus => judge_one(bytes, 1),
-        Form::WithRate => {
-            if lent::byte_at(bytes, FIRST) == 0x06 {
-                return judge_one(bytes, 3);
-            }
-            judge_one(bytes, 1)
-        }
-        Form::WithSignature => {
-            if lent::byte_at(bytes, FIRST) == 0x06 {
-                return judge_two(bytes, 1, 22);
-            }
-            judge_one(bytes, 1)
-        }
-        Form::OfPage => judge_one(bytes, 2),
-        Form::OfLastPage => {
-            if lent::byte_at(bytes, FIRST) == 0x06 {
-                if lent::byte_at(bytes, SECOND) == 0x06 {
-                    return judge_two(bytes, 2, 1);
-                }
-                return judge_one(bytes, 2);
-            }
-            judge_one(bytes, 2)
-        }
+        Form::WithRate if first == 0x06 => judge_one(bytes, 3),
+        Form::WithSignature if first == 0x06 => judge_two(bytes, 1, 22),
+        Form::OfLastPage if first == 0x06 && second == 0x06 => judge_two(bytes, 2, 1),
+        Form::OneStatus | Form::WithRate | Form::WithSignature => judge_one(bytes, 1),
+        Form::OfPage | Form::OfLastPage => judge_one(bytes, 2),
     }
 }
 
@@ -109,33 +89,18 @@ fn whole(form: Form, first: u8, second: u8) -> usize
     ensures { result ≡ long (shape form first second) }
 {
     match form {
-        Form::OneStatus => 1 + frame::OVERHEAD,
-        Form::WithRate => {
-            if first == 0x06 {
-                return 3 + frame::OVERHEAD;
-            }
-            1 + frame::OVERHEAD
+        Form::WithRate if first == 0x06 => 3 + frame::OVERHEAD,
+        Form::WithSignature if first == 0x06 => 1 + frame::OVERHEAD + 22 + frame::OVERHEAD,
+        Form::OfLastPage if first == 0x06 && second == 0x06 => {
+            2 + frame::OVERHEAD + 1 + frame::OVERHEAD
         }
-        Form::WithSignature => {
-            if first == 0x06 {
-                return 1 + frame::OVERHEAD + 22 + frame::OVERHEAD;
-            }
-            1 + frame::OVERHEAD
-        }
-        Form::OfPage => 2 + frame::OVERHEAD,
-        Form::OfLastPage => {
-            if first == 0x06 {
-                if second == 0x06 {
-                    return 2 + frame::OVERHEAD + 1 + frame::OVERHEAD;
-                }
-                return 2 + frame::OVERHEAD;
-            }
-            2 + frame::OVERHEAD
-        }
+        Form::OneStatus | Form::WithRate | Form::WithSignature => 1 + frame::OVERHEAD,
+        Form::OfPage | Form::OfLastPage => 2 + frame::OVERHEAD,
     }
 }
 
 // How many bytes are still wanted of an answer that has begun so, before it can be readable.
+#[tactic(auto, unfolding(crate::specs::Answer::wanted))]
 pub fn wanted(form: Form, bytes: &[u8]) -> usize
     ensures { result ≡ wanted form bytes.now }
 {
@@ -144,23 +109,18 @@ pub fn wanted(form: Form, bytes: &[u8]) -> usize
         lent::byte_at(bytes, FIRST),
         lent::byte_at(bytes, SECOND),
     );
-    if bytes.len() < n {
-        return n - bytes.len();
-    }
-    0
+    n.saturating_sub(bytes.len())
 }
 
 // The first of three statuses that is not 06h.
 fn first_other(first: u8, second: u8, third: u8) -> u8
     ensures { result ≡ deciding (first ∷ second ∷ third ∷ []) }
 {
-    if first == 0x06 {
-        if second == 0x06 {
-            return third;
-        }
-        return second;
+    match (first, second) {
+        (0x06, 0x06) => third,
+        (0x06, _) => second,
+        _ => first,
     }
-    first
 }
 
 fn status_of(form: Form, bytes: &[u8]) -> u8
@@ -169,9 +129,7 @@ fn status_of(form: Form, bytes: &[u8]) -> u8
     let first = lent::byte_at(bytes, FIRST);
     let second = lent::byte_at(bytes, SECOND);
     match form {
-        Form::OneStatus => first,
-        Form::WithRate => first,
-        Form::WithSignature => first,
+        Form::OneStatus | Form::WithRate | Form::WithSignature => first,
         Form::OfPage => first_other(first, second, 0x06),
         Form::OfLastPage => first_other(first, second, lent::byte_at(bytes, AFTER_TWO)),
     }
@@ -180,31 +138,26 @@ fn status_of(form: Form, bytes: &[u8]) -> u8
 fn is_rate(part: Part, supply: u32, clock: u8, mode: u8) -> bool
     ensures { result ≡ rate_matches part supply clock mode }
 {
-    if (clock as u32) == part.clock {
-        return mode == part::rate::mode(part, supply);
-    }
-    false
+    u32::from(clock) == part.clock && mode == part::rate::mode(part, supply)
 }
 
 fn is_signature(part: Part, bytes: &[u8]) -> bool
     ensures { result ≡ signature_matches part bytes.now }
 {
-    let signature = part::signature::bytes(part);
-    lent::is_same_at(bytes, AFTER_ONE, &signature)
+    lent::is_same_at(bytes, AFTER_ONE, &part::signature::bytes(part))
 }
 
+#[tactic(auto, unfolding(crate::specs::Answer::matching))]
 fn is_matching(part: Part, supply: u32, form: Form, bytes: &[u8]) -> bool
     ensures { result ≡ matching part supply form bytes.now }
 {
     match form {
-        Form::OneStatus => true,
         Form::WithRate => {
             let clock = lent::byte_at(bytes, SECOND);
             is_rate(part, supply, clock, lent::byte_at(bytes, THIRD))
         }
         Form::WithSignature => is_signature(part, bytes),
-        Form::OfPage => true,
-        Form::OfLastPage => true,
+        Form::OneStatus | Form::OfPage | Form::OfLastPage => true,
     }
 }
 
@@ -213,15 +166,17 @@ pub fn read(part: Part, supply: u32, form: Form, bytes: &[u8]) -> JudgedAnswer
 {
     let fault = judge_answer(form, bytes);
     if fault.is_good() {
-        let status = status_of(form, bytes);
-        let matches = is_matching(part, supply, form, bytes);
+        let said = Said {
+            status: status_of(form, bytes),
+            matches: is_matching(part, supply, form, bytes),
+        };
         return JudgedAnswer {
-            decoded: Decoded::Said { status, matches },
+            decoded: Some(said),
             fault,
         };
     }
     JudgedAnswer {
-        decoded: Decoded::Garbled,
+        decoded: None,
         fault,
     }
 }

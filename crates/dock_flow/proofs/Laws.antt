@@ -7,8 +7,8 @@ use native.Mathlib.Omega.{arith}
 use lib.Dec.{eqb, ltb}
 use borrow.Author.Tests.{leb-false, ltb-true}
 use Rattle.dock_answer.specs.Answer.{read_answer}
-use Rattle.dock_answer.specs.declared.Decoded.{Decoded}
-use Rattle.dock_answer.specs.declared.Decoded.TheVariants.{Garbled, Said}
+use Rattle.dock_answer.specs.declared.Said.{Said}
+use Rattle.std.specs.Prelude.{None, Option, Some}
 use Rattle.dock_flow.specs.Flow.{Heard, after_answer, after_heard, after_status, after_timeout, answered, fails, in_block, leads, retried, says_not_blank, silence}
 use Rattle.dock_flow.specs.Frames.{last_page, query_at}
 use Rattle.dock_flow.specs.declared.Turned.{Turned}
@@ -53,10 +53,10 @@ status-within j used st s m h =
     (if-both (Within j used) (says_not_blank j st s) (within_none j used _ h)
     (if-both (Within j used) (eqb s 0x07 or eqb s 0x15) (retried-within j used st s h) (within_none j used _ h)))
 
-pub answer-within : (j : Job) (used : ℕ) (st : Stage) (d : Decoded) (fault : Judgement) → used ≤ j.retries → Within j used (after_answer j used st d fault)
+pub answer-within : (j : Job) (used : ℕ) (st : Stage) (d : Option Said) (fault : Judgement) → used ≤ j.retries → Within j used (after_answer j used st d fault)
 unfolding after_answer
-answer-within j used st (Said s m) fault h = status-within j used st s m h
-answer-within j used st Garbled fault h = within_none j used _ h
+answer-within j used st (Some said) fault h = status-within j used st said.status said.matches h
+answer-within j used st None fault h = within_none j used _ h
 
 pub heard-within : (j : Job) (used : ℕ) (st : Stage) (h : Heard) → used ≤ j.retries → Within j used (after_heard j used st h)
 unfolding after_heard

@@ -16,16 +16,13 @@ use Rattle.dock_job.specs.declared.Stage.TheVariants.{InBlock, Over, SetUp}
 use Rattle.dock_job.specs.declared.Work.{Work}
 use Rattle.dock_job.specs.declared.Work.TheVariants.{Blank, Erase, Program, ProgramPage, VerifyBlock, VerifyPage}
 use Rattle.frame.specs.declared.Footer.TheVariants.{Last}
-use Rattle.frame.specs.declared.Header.TheVariants as Header
-use Rattle.frame.specs.declared.wire.Wrote.TheVariants.{Long, NoRoom, UnfitPayload}
-use Rattle.dock_flow.specs.declared.frames.HandedOut.TheVariants.{Sent}
-use Rattle.dock_flow.specs.declared.frames.HandedOut.TheVariants as HandedOut
+use Rattle.frame.specs.declared.wire.WriteError.{WriteError}
+use Rattle.part.specs.declared.refusal.Refusal.{Refusal}
+use Rattle.std.specs.Prelude.{Err, Ok, Result}
+use Rattle.std.specs.Result.{result_unwrap_or}
 use Rattle.dock_job.specs.Refusals.{call_verdict}
 use Rattle.dock_job.specs.declared.Dock.{Dock}
 use Rattle.dock_job.specs.declared.refusals.Call.TheVariants.{Asks}
-use Rattle.part.specs.declared.refusal.Verdict.{Verdict}
-use Rattle.part.specs.declared.refusal.Verdict.TheVariants.{Accepted}
-use Rattle.part.specs.declared.refusal.Verdict.TheVariants as Verdict
 use mathlib.Core.List.{List}
 use Prim.Native.Nat.{◌*◌, ◌+◌, ◌-◌, ◌≤◌, ℕ}
 use native.Mathlib.Omega.{arith}
@@ -36,19 +33,18 @@ use Rattle.frame.specs.Frame.{data_frame, framed}
 use Rattle.frame.specs.Wire.{Writing, write_of, wrote}
 use Rattle.frame.specs.declared.Footer.{Footer}
 use Rattle.frame.specs.declared.Header.{Header}
-use Rattle.frame.specs.declared.wire.Wrote.{Wrote}
 use Rattle.dock_job.specs.Job.{range_length, size_of}
 use Rattle.dock_job.specs.declared.Job.{Job}
 use Rattle.part.specs.Part.{page_size}
 
 -- A frame that was written lies at the room's start.
-pub places : (room : List ℕ) (h : Header) (ds : List ℕ) (f : Footer) (l : List ℕ) (a : Wrote) (n : ℕ) → wrote a l ≡ write_of room h ds f → 1 ≤ length ds
+pub places : (room : List ℕ) (h : Header) (ds : List ℕ) (f : Footer) (l : List ℕ) (a : Result ℕ WriteError) (n : ℕ) → wrote a l ≡ write_of room h ds f → 1 ≤ length ds
     → length ds ≤ 256 → length ds + 4 ≤ length room → n ≡ length ds + 4 → placed n l ≡ placing (framed h ds f) room
 places room h ds f l a n e k m s w =
     rw (w, laid-lands room h ds f l a e k m s, framed-long h ds f)
 
 -- A page of the image, lent as a part and written, lies there too.
-pub page-placed : (j : Job) (image room l : List ℕ) (k p at g : ℕ) (f : Footer) (a : Wrote) → at ≡ k * size_of j + p * page_size → g ≡ page_size
+pub page-placed : (j : Job) (image room l : List ℕ) (k p at g : ℕ) (f : Footer) (a : Result ℕ WriteError) → at ≡ k * size_of j + p * page_size → g ≡ page_size
     → f ≡ page_footer j p → at + page_size ≤ range_length j → length image ≡ range_length j → 260 ≤ length room
     → wrote a l ≡ write_of room Header.Data (take (at + g - at) (drop at image)) f → placed 260 l ≡ placing (data_frame (page_bytes j image k p) (page_footer j p)) room
 page-placed j image room l k p at g f a e i o s m r w =
@@ -61,14 +57,14 @@ page-placed j image room l k p at g f a e i o s m r w =
     (w ∙ ap (λ (x : List ℕ). write_of room Header.Data x f) q ∙ ap (λ (x : Footer). write_of room Header.Data ds x) o) (omega arith) (omega arith) (omega arith) (omega arith)
 
 -- A frame that was handed out was asked for by an accepted call.
-pub sent-accepted : (j : Job) (image : List ℕ) (d : Dock) (room l : List ℕ) (n : ℕ) → handing (Sent n) l ≡ hand_of j image d room
-    → call_verdict j (length image) (Asks d (length room)) ≡ Accepted
+pub sent-accepted : (j : Job) (image : List ℕ) (d : Dock) (room l : List ℕ) (n : ℕ) → handing (Ok n) l ≡ hand_of j image d room
+    → call_verdict j (length image) (Asks d (length room)) ≡ Ok tt
 unfolding hand_of handed
 sent-accepted j image d room l n e = go (call_verdict j (length image) (Asks d (length room))) e
   where
-    go : (v : Verdict) → handing (Sent n) l ≡ handed v (placing (frame_at j image d.stage) room) room → v ≡ Accepted
-    go (Verdict.Refused r) e = let k : Sent n ≡ HandedOut.Refused r = ap (λ (x : Handing). x.answer) e in cc
-    go Accepted e = refl
+    go : (v : Result Unit Refusal) → handing (Ok n) l ≡ handed v (placing (frame_at j image d.stage) room) room → v ≡ Ok tt
+    go (Err r) e = let k : Ok n ≡ Err r = ap (λ (x : Handing). x.answer) e in cc
+    go (Ok _) e = refl
 
 -- Rate and supply change nothing of what is asked but the information of 9Ah.
 pub record Alike (q r : Query) : Type 0 where
@@ -121,27 +117,15 @@ unfolding frame_at
 block-frame j image room st k w q e f = rw (e, f)
 
 -- A command's frame lies in a room of 260 bytes, with its length.
-command-fits : (room l : List ℕ) (c : Command) (a : Wrote) → wrote a l ≡ write_of room Header.Command (payload_of c) Last → 260 ≤ length room
-    → a ≡ Long (length (payload_of c) + 4)
+command-fits : (room l : List ℕ) (c : Command) (a : Result ℕ WriteError) → wrote a l ≡ write_of room Header.Command (payload_of c) Last → 260 ≤ length room
+    → a ≡ Ok (length (payload_of c) + 4)
 command-fits room l c a e r =
     let most = payload-most c in
     ap (λ (x : Writing). x.answer) (e ∙ write-lands room Header.Command (payload_of c) Last (payload-some c) (omega arith) (omega arith))
 
-pub command-placed : (room l : List ℕ) (c : Command) (a : Wrote) (n : ℕ) → wrote a l ≡ write_of room Header.Command (payload_of c) Last → 260 ≤ length room
-    → a ≡ Long n → placed n l ≡ placing (frame_of c) room
+pub command-placed : (room l : List ℕ) (c : Command) (a : Result ℕ WriteError) (n : ℕ) → wrote a l ≡ write_of room Header.Command (payload_of c) Last → 260 ≤ length room
+    → n ≡ result_unwrap_or a 0 → placed n l ≡ placing (frame_of c) room
 command-placed room l c a n e r f =
     let most = payload-most c in
-    let g : Long n ≡ Long (length (payload_of c) + 4) = sym f ∙ command-fits room l c a e r in
-    places room Header.Command (payload_of c) Last l a n e (payload-some c) (omega arith) (omega arith) (cc)
-
-pub command-not-unfit : (room l : List ℕ) (c : Command) (a : Wrote) → wrote a l ≡ write_of room Header.Command (payload_of c) Last → 260 ≤ length room → a ≡ UnfitPayload → ⊥
-command-not-unfit room l c a e r f =
-    let g : UnfitPayload ≡ Long (length (payload_of c) + 4) = sym f ∙ command-fits room l c a e r in
-    let z : ◌≡◌ {A = ℕ} 0 1 = cc in
-    omega arith
-
-pub command-has-room : (room l : List ℕ) (c : Command) (a : Wrote) → wrote a l ≡ write_of room Header.Command (payload_of c) Last → 260 ≤ length room → a ≡ NoRoom → ⊥
-command-has-room room l c a e r f =
-    let g : NoRoom ≡ Long (length (payload_of c) + 4) = sym f ∙ command-fits room l c a e r in
-    let z : ◌≡◌ {A = ℕ} 0 1 = cc in
-    omega arith
+    let g : n ≡ length (payload_of c) + 4 = rw (command-fits room l c a e r) at f in
+    places room Header.Command (payload_of c) Last l a n e (payload-some c) (omega arith) (omega arith) g

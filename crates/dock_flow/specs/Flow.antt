@@ -1,17 +1,15 @@
 -- Document 01, "The dock's flow": which answer follows which frame and what it leads to; and from a job, its image and the history of answers the frames
 -- sent, the retries spent and the place. Which fault a failure names: document 02, §4.
-use Rattle.std.specs.Prelude.{Bool, List, [], ◌∷◌, ◌+◌, ℕ, eqb, ltb}
+use Rattle.std.specs.Prelude.{Bool, List, [], ◌∷◌, ◌+◌, ℕ, eqb, ltb, Err, None, Ok, Option, Some}
 use Rattle.commands.specs.Commands.{com_of}
 use Rattle.dock_answer.specs.Answer.{read_answer, wanted}
-use Rattle.dock_answer.specs.declared.Decoded.{Decoded}
-use Rattle.dock_answer.specs.declared.Decoded.TheVariants.{Garbled, Said}
+use Rattle.dock_answer.specs.declared.Said.{Said}
 use Rattle.dock_flow.specs.Frames.{frame_at, last_page, query_at}
 use Rattle.dock_flow.specs.declared.Turned.{Turned}
 use Rattle.dock_flow.specs.declared.frames.Query.{Query}
 use Rattle.dock_job.specs.Job.{blocks_of, is_over, setup}
 use Rattle.dock_job.specs.declared.Cause.{Cause}
 use Rattle.dock_job.specs.declared.Cause.TheVariants.{Mismatch, TimedOut, UnexpectedStatus, Unreadable}
-use Rattle.dock_job.specs.declared.Ending.TheVariants.{Failed, Finished}
 use Rattle.dock_job.specs.declared.Failure.{Failure}
 use Rattle.dock_job.specs.declared.Job.{Job}
 use Rattle.dock_job.specs.declared.Setup.{Setup}
@@ -25,7 +23,7 @@ use Rattle.words.specs.Words.{◌and◌, ◌or◌, if◌then◌otherwise◌}
 
 -- "Then per block, ascending": the first block that is left from k on, or the end.
 unfoldable pub block_from : Job → ℕ → Stage
-block_from j k = if ltb k (blocks_of j) then InBlock k Blank otherwise Over Finished
+block_from j k = if ltb k (blocks_of j) then InBlock k Blank otherwise Over (Ok tt)
 
 -- The first of the setup's commands that are left; after the last of them the first block.
 unfoldable pub setup_from : Job → List Setup → Stage
@@ -74,7 +72,7 @@ abbrev pub failing : Cause → ℕ → Judgement → Query → Failure
 failing c s fault q = record { cause = c; command = com_of q.command; page = q.page; status = s; block = q.block; fault = fault }
 
 abbrev pub fails : Job → Cause → ℕ → Judgement → Stage → Turned
-fails j c s fault st = leads (Over (Failed (failing c s fault (query_at j st)))) 0
+fails j c s fault st = leads (Over (Err (failing c s fault (query_at j st)))) 0
 
 -- "A status 07h or 15h spends one retry and restarts the block (or the setup command) ..; with none left the job fails."
 unfoldable pub retried : Job → ℕ → Stage → ℕ → Turned
@@ -89,9 +87,9 @@ after_status j used st s matches =
     otherwise fails j UnexpectedStatus s Good st
 
 -- "an unreadable reply or a reported timeout fails it": "00h if unreadable or timed out". The fault of what was decoded stands beside it.
-unfoldable pub after_answer : Job → ℕ → Stage → Decoded → Judgement → Turned
-after_answer j used st (Said s matches) fault = after_status j used st s matches
-after_answer j used st Garbled fault = fails j Unreadable 0x00 fault st
+unfoldable pub after_answer : Job → ℕ → Stage → Option Said → Judgement → Turned
+after_answer j used st (Some said) fault = after_status j used st said.status said.matches
+after_answer j used st None fault = fails j Unreadable 0x00 fault st
 
 abbrev pub after_timeout : Job → Stage → Turned
 after_timeout j st = fails j TimedOut 0x00 Good st

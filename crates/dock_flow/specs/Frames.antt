@@ -1,20 +1,16 @@
 -- Document 01, "The dock's flow", "Frames": which frame is sent at a stage, what its answer looks like, and how it is handed out.
-use Rattle.std.specs.Prelude.{Bool, List, [], ◌++◌, ◌*◌, ◌+◌, ◌-◌, ℕ, leb, drop, length, take}
+use Rattle.std.specs.Prelude.{Bool, List, [], ◌++◌, ◌*◌, ◌+◌, ◌-◌, ℕ, leb, drop, length, take, Err, None, Ok, Option, Result, Some}
 use Rattle.commands.specs.Commands.{payload_of}
 use Rattle.commands.specs.declared.Command.{Command}
 use Rattle.commands.specs.declared.Command.TheVariants.{BlankCheck, BlockErase, Programming, RateSet, Reset, SignatureGet, Verify}
 use Rattle.dock_answer.specs.declared.Form.{Form}
 use Rattle.dock_answer.specs.declared.Form.TheVariants.{OfLastPage, OfPage, OneStatus, WithRate, WithSignature}
-use Rattle.dock_flow.specs.declared.frames.HandedOut.{HandedOut}
-use Rattle.dock_flow.specs.declared.frames.HandedOut.TheVariants.{Sent}
-use Rattle.dock_flow.specs.declared.frames.HandedOut.TheVariants as HandedOut
+use Rattle.part.specs.declared.refusal.Refusal.{Refusal}
 use Rattle.dock_flow.specs.declared.frames.Query.{Query}
 use Rattle.dock_job.specs.Job.{pages_of, size_of}
 use Rattle.dock_job.specs.Refusals.{call_verdict}
 use Rattle.dock_job.specs.declared.Dock.{Dock}
 use Rattle.dock_job.specs.declared.Job.{Job}
-use Rattle.dock_job.specs.declared.Named.{Named}
-use Rattle.dock_job.specs.declared.Named.TheVariants.{It, Unnamed}
 use Rattle.dock_job.specs.declared.Setup.TheVariants.{BaudRate, ResetChip, SiliconSignature}
 use Rattle.dock_job.specs.declared.Stage.{Stage}
 use Rattle.dock_job.specs.declared.Stage.TheVariants.{InBlock, Over, SetUp}
@@ -25,9 +21,6 @@ use Rattle.frame.specs.declared.Footer.{Footer}
 use Rattle.frame.specs.declared.Footer.TheVariants.{Last, More}
 use Rattle.frame.specs.declared.Header.TheVariants as Header
 use Rattle.part.specs.Part.{page_size}
-use Rattle.part.specs.declared.refusal.Verdict.{Verdict}
-use Rattle.part.specs.declared.refusal.Verdict.TheVariants.{Accepted}
-use Rattle.part.specs.declared.refusal.Verdict.TheVariants as Verdict
 use Rattle.words.specs.Words.{if◌then◌otherwise◌}
 
 -- The block's last page is the one after which none is left.
@@ -47,20 +40,20 @@ last_of_block j k = first_of_block j k + (size_of j - 1)
 
 -- "Frames: 9Ah .., 00h, C0h .. Then per block ..: 32h with 00h; 22h ..; 40h and four pages; 13h and four pages.": the command at a stage (a page's is the one
 -- that it belongs to), the page and the block that a failure names, and what the answer looks like. The first command has rate and supply.
-abbrev pub query_of : Command → Named → Named → Form → Query
+abbrev pub query_of : Command → Option ℕ → Option ℕ → Form → Query
 query_of c page block form = record { command = c; page = page; block = block; form = form }
 
 unfoldable pub query_with : ℕ → ℕ → Job → Stage → Query
-query_with rate supply j (SetUp BaudRate) = query_of (RateSet rate supply) Unnamed Unnamed WithRate
-query_with rate supply j (SetUp ResetChip) = query_of Reset Unnamed Unnamed OneStatus
-query_with rate supply j (SetUp SiliconSignature) = query_of SignatureGet Unnamed Unnamed WithSignature
-query_with rate supply j (InBlock k Blank) = query_of (BlankCheck (first_of_block j k) (last_of_block j k) 0x00) Unnamed (It k) OneStatus
-query_with rate supply j (InBlock k Erase) = query_of (BlockErase (first_of_block j k)) Unnamed (It k) OneStatus
-query_with rate supply j (InBlock k Program) = query_of (Programming (first_of_block j k) (last_of_block j k)) Unnamed (It k) OneStatus
-query_with rate supply j (InBlock k (ProgramPage p)) = query_of (Programming (first_of_block j k) (last_of_block j k)) (It p) (It k) (stored_form j p)
-query_with rate supply j (InBlock k VerifyBlock) = query_of (Verify (first_of_block j k) (last_of_block j k)) Unnamed (It k) OneStatus
-query_with rate supply j (InBlock k (VerifyPage p)) = query_of (Verify (first_of_block j k) (last_of_block j k)) (It p) (It k) OfPage
-query_with rate supply j (Over e) = query_of Reset Unnamed Unnamed OneStatus
+query_with rate supply j (SetUp BaudRate) = query_of (RateSet rate supply) None None WithRate
+query_with rate supply j (SetUp ResetChip) = query_of Reset None None OneStatus
+query_with rate supply j (SetUp SiliconSignature) = query_of SignatureGet None None WithSignature
+query_with rate supply j (InBlock k Blank) = query_of (BlankCheck (first_of_block j k) (last_of_block j k) 0x00) None (Some k) OneStatus
+query_with rate supply j (InBlock k Erase) = query_of (BlockErase (first_of_block j k)) None (Some k) OneStatus
+query_with rate supply j (InBlock k Program) = query_of (Programming (first_of_block j k) (last_of_block j k)) None (Some k) OneStatus
+query_with rate supply j (InBlock k (ProgramPage p)) = query_of (Programming (first_of_block j k) (last_of_block j k)) (Some p) (Some k) (stored_form j p)
+query_with rate supply j (InBlock k VerifyBlock) = query_of (Verify (first_of_block j k) (last_of_block j k)) None (Some k) OneStatus
+query_with rate supply j (InBlock k (VerifyPage p)) = query_of (Verify (first_of_block j k) (last_of_block j k)) (Some p) (Some k) OfPage
+query_with rate supply j (Over e) = query_of Reset None None OneStatus
 
 abbrev pub query_at : Job → Stage → Query
 query_at j st = query_with j.rate j.supply j st
@@ -76,9 +69,9 @@ page_footer j p = if last_page j p then Last otherwise More
 abbrev pub frame_of : Command → List ℕ
 frame_of c = framed Header.Command (payload_of c) Last
 
-unfoldable pub work_frame : Job → List ℕ → ℕ → Named → Command → List ℕ
-work_frame j image k Unnamed c = frame_of c
-work_frame j image k (It p) c = data_frame (page_bytes j image k p) (page_footer j p)
+unfoldable pub work_frame : Job → List ℕ → ℕ → Option ℕ → Command → List ℕ
+work_frame j image k None c = frame_of c
+work_frame j image k (Some p) c = data_frame (page_bytes j image k p) (page_footer j p)
 
 unfoldable pub frame_at : Job → List ℕ → Stage → List ℕ
 frame_at j image (SetUp s) = frame_of (query_at j (SetUp s)).command
@@ -98,15 +91,15 @@ placing f room = placed (length f) (f ++ drop (length f) room)
 
 -- A frame that is asked for: refused, and the room stays; or the stage's frame.
 pub record Handing : Type 0 where
-  pub answer : HandedOut
+  pub answer : Result ℕ Refusal
   pub room : List ℕ
 
-abbrev pub handing : HandedOut → List ℕ → Handing
+abbrev pub handing : Result ℕ Refusal → List ℕ → Handing
 handing a r = record { answer = a; room = r }
 
-unfoldable pub handed : Verdict → Placed → List ℕ → Handing
-handed (Verdict.Refused r) f room = handing (HandedOut.Refused r) room
-handed Accepted f room = handing (Sent f.long) f.room
+unfoldable pub handed : Result Unit Refusal → Placed → List ℕ → Handing
+handed (Err r) f room = handing (Err r) room
+handed (Ok _) f room = handing (Ok f.long) f.room
 
 unfoldable pub hand_of : Job → List ℕ → Dock → List ℕ → Handing
 hand_of j image d room = handed (call_verdict j (length image) (Asks d (length room))) (placing (frame_at j image d.stage) room) room

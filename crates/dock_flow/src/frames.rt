@@ -11,27 +11,20 @@ ghost use Rattle.dock_flow.specs.Frames.{frame_at, placed, placing, handing, han
 use commands::Command;
 use dock_answer::Form;
 use dock_job::refusals::Call;
-use dock_job::{Dock, Job, Named, Setup, Stage, Work, refusals};
-use frame::wire::Wrote;
+use dock_job::{Dock, Job, Setup, Stage, Work, refusals};
 use frame::{Footer, wire};
-use part::refusal::{Refusal, Verdict};
+use part::refusal::Refusal;
 
 // The command of a stage's frame, the page and the block that a failure names, and what the answer looks like.
 #[derive(Clone, Copy)]
 pub struct Query {
     pub command: Command,
-    pub page: Named,
-    pub block: Named,
+    pub page: Option<u32>,
+    pub block: Option<u32>,
     pub form: Form,
 }
 
-// A frame of so many bytes lies at the start of the room, or none was handed out.
-#[derive(Clone, Copy)]
-pub enum HandedOut {
-    Sent(usize),
-    Refused(Refusal),
-}
-
+#[tactic(auto, unfolding(crate::specs::Frames::last_page))]
 pub(crate) fn is_last_page(job: Job, page: u32) -> bool
     ensures { result ≡ last_page job page }
 {
@@ -42,9 +35,10 @@ fn stored_form(job: Job, page: u32) -> Form
     ensures { result ≡ stored_form job page }
 {
     if is_last_page(job, page) {
-        return Form::OfLastPage;
+        Form::OfLastPage
+    } else {
+        Form::OfPage
     }
-    Form::OfPage
 }
 
 fn first_of_block(job: Job, block: u32) -> usize
@@ -59,7 +53,7 @@ fn last_of_block(job: Job, block: u32) -> usize
     first_of_block(job, block) + (job.block_size() - 1)
 }
 
-fn query_of(command: Command, page: Named, block: Named, form: Form) -> Query
+fn query_of(command: Command, page: Option<u32>, block: Option<u32>, form: Form) -> Query
     ensures { result ≡ query_of command page block form }
 {
     Query {
@@ -71,27 +65,27 @@ fn query_of(command: Command, page: Named, block: Named, form: Form) -> Query
 }
 
 // Rate and supply are beside the job, since those of one that is not accepted may be no bytes.
+#[tactic(auto, unfolding(crate::specs::Frames::query_with))]
 pub(crate) fn query_with(rate: u8, supply: u8, job: Job, stage: Stage) -> Query
     ensures { result ≡ query_with rate supply job stage }
 {
-    let none = Named::Unnamed;
     match stage {
         Stage::SetUp(s) => match s {
             Setup::BaudRate => {
                 query_of(
                     Command::RateSet { rate, supply },
-                    none,
-                    none,
+                    None,
+                    None,
                     Form::WithRate,
                 )
             }
-            Setup::ResetChip => query_of(Command::Reset, none, none, Form::OneStatus),
+            Setup::ResetChip => query_of(Command::Reset, None, None, Form::OneStatus),
             Setup::SiliconSignature => {
-                query_of(Command::SignatureGet, none, none, Form::WithSignature)
+                query_of(Command::SignatureGet, None, None, Form::WithSignature)
             }
         },
         Stage::InBlock { block, work } => {
-            let k = Named::It(block);
+            let k = Some(block);
             let start = first_of_block(job, block);
             let end = last_of_block(job, block);
             match work {
@@ -101,37 +95,37 @@ pub(crate) fn query_with(rate: u8, supply: u8, job: Job, stage: Stage) -> Query
                         end,
                         d01: 0x00,
                     },
-                    none,
+                    None,
                     k,
                     Form::OneStatus,
                 ),
-                Work::Erase => query_of(Command::BlockErase { start }, none, k, Form::OneStatus),
+                Work::Erase => query_of(Command::BlockErase { start }, None, k, Form::OneStatus),
                 Work::Program => {
                     query_of(
                         Command::Programming { start, end },
-                        none,
+                        None,
                         k,
                         Form::OneStatus,
                     )
                 }
                 Work::ProgramPage(page) => query_of(
                     Command::Programming { start, end },
-                    Named::It(page),
+                    Some(page),
                     k,
                     stored_form(job, page),
                 ),
                 Work::VerifyBlock => {
-                    query_of(Command::Verify { start, end }, none, k, Form::OneStatus)
+                    query_of(Command::Verify { start, end }, None, k, Form::OneStatus)
                 }
                 Work::VerifyPage(page) => query_of(
                     Command::Verify { start, end },
-                    Named::It(page),
+                    Some(page),
                     k,
                     Form::OfPage,
                 ),
             }
         }
-        Stage::Over(e) => query_of(Command::Reset, none, none, Form::OneStatus),
+        Stage::Over(_) => query_of(Command::Reset, None, None, Form::OneStatus),
     }
 }
 
@@ -139,21 +133,17 @@ fn page_footer(job: Job, page: u32) -> Footer
     ensures { result ≡ page_footer job page }
 {
     if is_last_page(job, page) {
-        return Footer::Last;
+        Footer::Last
+    } else {
+        Footer::More
     }
-    Footer::More
 }
 
 fn send_command(room: &mut [u8], command: Command) -> usize
     requires { longest ≤ length room.old }
     ensures { placed result room.new ≡ placing (frame_of command) room.old }
 {
-    let wrote = commands::write(room, command);
-    match wrote {
-        Wrote::Long(n) => n,
-        Wrote::UnfitPayload => 0,
-        Wrote::NoRoom => 0,
-    }
+    commands::write(room, command).unwrap_or(0)
 }
 
 // Where the page's bytes begin in the image.
@@ -171,7 +161,7 @@ fn send_page(job: Job, image: &[u8], block: u32, page: u32, room: &mut [u8]) -> 
     let at = page_start(job, block, page);
     let end = at + part::page_size();
     let footer = page_footer(job, page);
-    wire::write_data(room, &image[at..end], footer);
+    let _ = wire::write_data(room, &image[at..end], footer);
     frame::LONGEST
 }
 
@@ -179,7 +169,7 @@ fn send_work(
     job: Job,
     image: &[u8],
     block: u32,
-    page: Named,
+    page: Option<u32>,
     command: Command,
     room: &mut [u8],
 ) -> usize
@@ -187,8 +177,8 @@ fn send_work(
     ensures { placed result room.new ≡ placing (work_frame job image.now block page command) room.old }
 {
     match page {
-        Named::It(number) => send_page(job, image, block, number, room),
-        Named::Unnamed => send_command(room, command),
+        Some(number) => send_page(job, image, block, number, room),
+        None => send_command(room, command),
     }
 }
 
@@ -198,33 +188,26 @@ fn put(job: Job, image: &[u8], stage: Stage, room: &mut [u8]) -> usize
     ensures { placed result room.new ≡ placing (frame_at job image.now stage) room.old }
 {
     let query = query_with(job.rate as u8, job.supply as u8, job, stage);
-    let command = query.command;
-    let page = query.page;
     match stage {
-        Stage::SetUp(s) => send_command(room, command),
-        Stage::InBlock { block, work } => send_work(job, image, block, page, command, room),
-        Stage::Over(e) => 0,
+        Stage::SetUp(_) => send_command(room, query.command),
+        Stage::InBlock { block, .. } => {
+            send_work(job, image, block, query.page, query.command, room)
+        }
+        Stage::Over(_) => 0,
     }
 }
 
-// The frame that is due, put at the start of the room, where the dock accepts the call.
-pub fn hand(job: Job, image: &[u8], dock: Dock, room: &mut [u8]) -> HandedOut
+// The frame that is due, put at the start of the room, where the dock accepts the call; how many bytes it has.
+pub fn hand(job: Job, image: &[u8], dock: Dock, room: &mut [u8]) -> Result<usize, Refusal>
     ensures { handing result room.new ≡ hand_of job image.now dock room.old }
 {
-    let v = refusals::verdict(
+    refusals::verdict(
         job,
         image.len(),
         Call::Asks {
             dock,
             room: room.len(),
         },
-    );
-    match v {
-        Verdict::Refused(refusal) => HandedOut::Refused(refusal),
-        Verdict::Accepted => {
-            let stage = dock.stage;
-            let n = put(job, image, stage, room);
-            HandedOut::Sent(n)
-        }
-    }
+    )?;
+    Ok(put(job, image, dock.stage, room))
 }

@@ -6,8 +6,8 @@ ghost use Rattle.dock_job.specs.Job.{setup};
 ghost use Rattle.dock_flow.specs.Flow.{block_from, first_stage, after_setup, after_work, next, says_not_blank, in_block, fails, retried, after_status, after_answer};
 ghost use Rattle.dock_flow.specs.Flow.{answered, after_heard, after_timeout, wanted_at};
 
-use dock_answer::Decoded;
-use dock_job::{Cause, Ending, Failure, Job, Setup, Stage, Work};
+use dock_answer::Said;
+use dock_job::{Cause, Failure, Job, Setup, Stage, Work};
 use frame::judgement::Judgement;
 
 pub mod frames;
@@ -24,12 +24,13 @@ fn block_from(job: Job, block: usize) -> Stage
     ensures { result ≡ block_from job block }
 {
     if block < job.blocks() {
-        return Stage::InBlock {
+        Stage::InBlock {
             block: block as u32,
             work: Work::Blank,
-        };
+        }
+    } else {
+        Stage::Over(Ok(()))
     }
-    Stage::Over(Ending::Finished)
 }
 
 pub fn first_stage(job: Job) -> Stage
@@ -52,11 +53,7 @@ fn after_work(job: Job, block: u32, work: Work) -> Stage
     ensures { result ≡ after_work job block work }
 {
     match work {
-        Work::Blank => Stage::InBlock {
-            block,
-            work: Work::Program,
-        },
-        Work::Erase => Stage::InBlock {
+        Work::Blank | Work::Erase => Stage::InBlock {
             block,
             work: Work::Program,
         },
@@ -64,41 +61,36 @@ fn after_work(job: Job, block: u32, work: Work) -> Stage
             block,
             work: Work::ProgramPage(0),
         },
-        Work::ProgramPage(page) => {
-            if frames::is_last_page(job, page) {
-                return Stage::InBlock {
-                    block,
-                    work: Work::VerifyBlock,
-                };
-            }
-            Stage::InBlock {
-                block,
-                work: Work::ProgramPage(page + 1),
-            }
-        }
+        Work::ProgramPage(page) if frames::is_last_page(job, page) => Stage::InBlock {
+            block,
+            work: Work::VerifyBlock,
+        },
+        Work::ProgramPage(page) => Stage::InBlock {
+            block,
+            work: Work::ProgramPage(page + 1),
+        },
         Work::VerifyBlock => Stage::InBlock {
             block,
             work: Work::VerifyPage(0),
         },
-        Work::VerifyPage(page) => {
-            if frames::is_last_page(job, page) {
-                return block_from(job, (block as usize) + 1);
-            }
-            Stage::InBlock {
-                block,
-                work: Work::VerifyPage(page + 1),
-            }
+        Work::VerifyPage(page) if frames::is_last_page(job, page) => {
+            block_from(job, (block as usize) + 1)
         }
+        Work::VerifyPage(page) => Stage::InBlock {
+            block,
+            work: Work::VerifyPage(page + 1),
+        },
     }
 }
 
+#[tactic(auto, unfolding(crate::specs::Flow::next))]
 fn next(job: Job, stage: Stage) -> Stage
     ensures { result ≡ next job stage }
 {
     match stage {
         Stage::SetUp(s) => after_setup(job, s),
         Stage::InBlock { block, work } => after_work(job, block, work),
-        Stage::Over(e) => Stage::Over(e),
+        Stage::Over(_) => stage,
     }
 }
 
@@ -106,20 +98,16 @@ fn says_not_blank(job: Job, stage: Stage, status: u8) -> bool
     ensures { result ≡ says_not_blank job stage status }
 {
     let query = frames::query_with(0, 0, job, stage);
-    let command = query.command;
-    if commands::com(command) == 0x32 {
-        return status == 0x1B;
-    }
-    false
+    commands::com(query.command) == 0x32 && status == 0x1B
 }
 
+#[tactic(auto, unfolding(crate::specs::Flow::in_block))]
 fn in_block(to: Work, stage: Stage) -> Stage
     ensures { result ≡ in_block to stage }
 {
     match stage {
-        Stage::SetUp(s) => Stage::SetUp(s),
-        Stage::InBlock { block, work } => Stage::InBlock { block, work: to },
-        Stage::Over(e) => Stage::Over(e),
+        Stage::InBlock { block, .. } => Stage::InBlock { block, work: to },
+        Stage::SetUp(_) | Stage::Over(_) => stage,
     }
 }
 
@@ -128,19 +116,16 @@ fn fails(job: Job, cause: Cause, status: u8, fault: Judgement, stage: Stage) -> 
     ensures { result ≡ fails job cause status fault stage }
 {
     let query = frames::query_with(0, 0, job, stage);
-    let command = query.command;
-    let page = query.page;
-    let block = query.block;
     let failure = Failure {
         cause,
-        command: commands::com(command),
-        page,
+        command: commands::com(query.command),
+        page: query.page,
         status,
-        block,
+        block: query.block,
         fault,
     };
     Turned {
-        stage: Stage::Over(Ending::Failed(failure)),
+        stage: Stage::Over(Err(failure)),
         spent: 0,
     }
 }
@@ -149,9 +134,8 @@ fn retried(job: Job, used: u32, stage: Stage, status: u8) -> Turned
     ensures { result ≡ retried job used stage status }
 {
     if used < job.retries {
-        let again = in_block(Work::Blank, stage);
         return Turned {
-            stage: again,
+            stage: in_block(Work::Blank, stage),
             spent: 1,
         };
     }
@@ -161,37 +145,33 @@ fn retried(job: Job, used: u32, stage: Stage, status: u8) -> Turned
 fn after_status(job: Job, used: u32, stage: Stage, status: u8, matches: bool) -> Turned
     ensures { result ≡ after_status job used stage status matches }
 {
-    if status == 0x06 {
-        if matches {
-            let after = next(job, stage);
-            return Turned {
-                stage: after,
-                spent: 0,
-            };
-        }
-        return fails(job, Cause::Mismatch, 0x06, Judgement::Good, stage);
-    }
-    if says_not_blank(job, stage, status) {
-        let erase = in_block(Work::Erase, stage);
-        return Turned {
-            stage: erase,
+    match status {
+        0x06 if matches => Turned {
+            stage: next(job, stage),
             spent: 0,
-        };
+        },
+        0x06 => fails(job, Cause::Mismatch, 0x06, Judgement::Good, stage),
+        _ if says_not_blank(job, stage, status) => Turned {
+            stage: in_block(Work::Erase, stage),
+            spent: 0,
+        },
+        0x07 | 0x15 => retried(job, used, stage, status),
+        _ => fails(job, Cause::UnexpectedStatus, status, Judgement::Good, stage),
     }
-    if status == 0x07 {
-        return retried(job, used, stage, status);
-    }
-    if status == 0x15 {
-        return retried(job, used, stage, status);
-    }
-    fails(job, Cause::UnexpectedStatus, status, Judgement::Good, stage)
 }
 
 // The decoded reply is taken apart; the other case ends the job with frame, status and fault.
-fn after_reading(job: Job, used: u32, stage: Stage, decoded: Decoded, fault: Judgement) -> Turned
+#[tactic(auto, unfolding(crate::specs::Flow::after_answer))]
+fn after_reading(
+    job: Job,
+    used: u32,
+    stage: Stage,
+    decoded: Option<Said>,
+    fault: Judgement,
+) -> Turned
     ensures { result ≡ after_answer job used stage decoded fault }
 {
-    let Decoded::Said { status, matches } = decoded else {
+    let Some(Said { status, matches }) = decoded else {
         return fails(job, Cause::Unreadable, 0x00, fault, stage);
     };
     after_status(job, used, stage, status, matches)
@@ -202,12 +182,8 @@ pub fn after_answer(job: Job, used: u32, stage: Stage, bytes: &[u8]) -> Turned
     ensures { result ≡ after_heard job used stage (answered bytes.now) }
 {
     let query = frames::query_with(0, 0, job, stage);
-    let part = job.part;
-    let form = query.form;
-    let answer = dock_answer::read(part, job.supply, form, bytes);
-    let decoded = answer.decoded;
-    let fault = answer.fault;
-    after_reading(job, used, stage, decoded, fault)
+    let answer = dock_answer::read(job.part, job.supply, query.form, bytes);
+    after_reading(job, used, stage, answer.decoded, answer.fault)
 }
 
 pub fn after_timeout(job: Job, stage: Stage) -> Turned
@@ -221,6 +197,5 @@ pub fn wanted(job: Job, stage: Stage, bytes: &[u8]) -> usize
     ensures { result ≡ wanted_at job stage bytes.now }
 {
     let query = frames::query_with(0, 0, job, stage);
-    let form = query.form;
-    dock_answer::wanted(form, bytes)
+    dock_answer::wanted(query.form, bytes)
 }

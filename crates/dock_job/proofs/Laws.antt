@@ -13,7 +13,8 @@ use Rattle.dock_job.specs.Job.{area_of, blocks_in, blocks_of, bound, is_over, jo
 use Rattle.dock_job.specs.Refusals.{bad_job, bad_state, call_verdict, due, good_block, good_dock, good_named_page, good_page, good_stage, good_work, is_bad, out_of_turn, short_room, spent}
 use Rattle.dock_job.specs.declared.Dock.{Dock}
 use Rattle.dock_job.specs.declared.Job.{Job}
-use Rattle.dock_job.specs.declared.Named.TheVariants.{It, Unnamed}
+use Rattle.part.specs.declared.Range.{Range}
+use Rattle.std.specs.Prelude.{None, Ok, Option, Some}
 use Rattle.dock_job.specs.declared.Setup.TheVariants.{BaudRate, ResetChip, SiliconSignature}
 use Rattle.dock_job.specs.declared.Stage.TheVariants.{InBlock}
 use Rattle.dock_job.specs.declared.Work.{Work}
@@ -23,9 +24,6 @@ use Rattle.dock_job.specs.declared.refusals.Call.TheVariants.{Asks, Begins, Tell
 use Rattle.part.proofs.Laws.{block_size-pos, block_size-small, blocks-most, blocks-small, none-held, pages-small, pages-whole, passed, passes, range-good}
 use Rattle.part.specs.Part.{described, page_size}
 use Rattle.part.specs.Rate.{accepts_rate}
-use Rattle.part.specs.declared.Range.{Range}
-use Rattle.part.specs.declared.Range.TheVariants.{Bad, Blocks}
-use Rattle.part.specs.declared.refusal.Verdict.TheVariants.{Accepted}
 use Rattle.words.proofs.Laws.{and_both, and_left, and_right}
 use Rattle.words.specs.Words.{◌and◌, ◌or◌}
 
@@ -34,9 +32,9 @@ pub job-blocks-small : (j : Job) → j.part.code_blocks < 2 ^ 32 → j.part.data
 unfolding blocks_in
 job-blocks-small j h k = go (job_range j) refl
   where
-    go : (r : Range) → job_range j ≡ r → blocks_in r < 2 ^ 32
-    go (Blocks a b n) e = omega (arith, range-good j.part j.start j.end a b n e, blocks-small j.part a h k)
-    go Bad e = omega arith
+    go : (r : Option Range) → job_range j ≡ r → blocks_in r < 2 ^ 32
+    go (Some range) e = omega (arith, range-good j.part j.start j.end range.area range.block range.count e, blocks-small j.part range.area h k)
+    go None e = omega arith
 
 pub length-small : (j : Job) → j.part.code_blocks < 2 ^ 32 → j.part.data_blocks < 2 ^ 32 → range_length j ≤ 2 ^ 48
 length-small j h k =
@@ -80,7 +78,7 @@ good-job j e = go (described j.part) (accepts_rate j.part j.rate j.supply) e
     go true u e = not-false u e
     go false u e = absurd (true≢false e)
 
-pub accepts : (j : Job) (image : ℕ) (c : Call) → call_verdict j image c ≡ Accepted → Accepts j image c
+pub accepts : (j : Job) (image : ℕ) (c : Call) → call_verdict j image c ≡ Ok tt → Accepts j image c
 unfolding call_verdict
 accepts j image c e =
     let a = passed _ _ e in
@@ -106,7 +104,7 @@ fine-job : (j : Job) → described j.part ≡ true → accepts_rate j.part j.rat
 unfolding bad_job ◌or◌
 fine-job j d a = simp (d, a)
 
-pub accepted : {j : Job} {image : ℕ} {c : Call} → Accepts j image c → call_verdict j image c ≡ Accepted
+pub accepted : {j : Job} {image : ℕ} {c : Call} → Accepts j image c → call_verdict j image c ≡ Ok tt
 unfolding call_verdict
 accepted {j} {image} {c} a =
     passes _ _ (fine-job j a.described-part a.accepted-rate)
@@ -142,15 +140,15 @@ pub verified-is : (j : Job) (p : ℕ) → good_work j (VerifyPage p) ≡ true �
 unfolding good_work
 verified-is j p e = e
 
-pub named-page-is : (j : Job) (p : ℕ) → good_named_page j (It p) ≡ true → good_page j p ≡ true
+pub named-page-is : (j : Job) (p : ℕ) → good_named_page j (Some p) ≡ true → good_page j p ≡ true
 unfolding good_named_page
 named-page-is j p e = e
 
-pub named-page-yes : (j : Job) (p : ℕ) → good_page j p ≡ true → good_named_page j (It p) ≡ true
+pub named-page-yes : (j : Job) (p : ℕ) → good_page j p ≡ true → good_named_page j (Some p) ≡ true
 unfolding good_named_page
 named-page-yes j p e = e
 
-pub no-page-named : (j : Job) → good_named_page j Unnamed ≡ true
+pub no-page-named : (j : Job) → good_named_page j None ≡ true
 unfolding good_named_page
 no-page-named j = refl
 
@@ -232,9 +230,9 @@ pub blocks-few : (j : Job) → described j.part ≡ true → blocks_of j ≤ 64
 unfolding blocks_in
 blocks-few j d = go (job_range j) refl
   where
-    go : (r : Range) → job_range j ≡ r → blocks_in r ≤ 64
-    go (Blocks a b n) e = omega (arith, range-good j.part j.start j.end a b n e, blocks-most j.part a d)
-    go Bad e = omega arith
+    go : (r : Option Range) → job_range j ≡ r → blocks_in r ≤ 64
+    go (Some range) e = omega (arith, range-good j.part j.start j.end range.area range.block range.count e, blocks-most j.part range.area d)
+    go None e = omega arith
 
 pub bound-few : (j : Job) → described j.part ≡ true → j.retries ≤ 15 → bound j ≤ 2 ^ 20
 bound-few j d r =
@@ -263,7 +261,7 @@ not-spent j d h = go (due d)
     go true = lt-leb (bound j) d.frames h
     go false = refl
 
-pub ask-accepted : (j : Job) (image : ℕ) (d : Dock) (room : ℕ) → Accepts j image Begins → Asked j d room → call_verdict j image (Asks d room) ≡ Accepted
+pub ask-accepted : (j : Job) (image : ℕ) (d : Dock) (room : ℕ) → Accepts j image Begins → Asked j d room → call_verdict j image (Asks d room) ≡ Ok tt
 unfolding bad_state short_room out_of_turn ◌or◌
 ask-accepted j image d room b a =
     accepted (record {
@@ -277,7 +275,7 @@ ask-accepted j image d room b a =
       in-turn = simp (a.going, a.free);
     })
 
-pub tell-accepted : (j : Job) (image : ℕ) (d : Dock) → Accepts j image Begins → Told j d → call_verdict j image (Tells d) ≡ Accepted
+pub tell-accepted : (j : Job) (image : ℕ) (d : Dock) → Accepts j image Begins → Told j d → call_verdict j image (Tells d) ≡ Ok tt
 unfolding bad_state short_room out_of_turn ◌or◌
 tell-accepted j image d b w =
     accepted (record {

@@ -1,5 +1,5 @@
 -- Document 01, "The dock's flow": a job's range, its blocks and their pages, and the most frames that it can take.
-use Rattle.std.specs.Prelude.{Bool, false, true, List, [], ◌∷◌, ◌*◌, ◌+◌, ℕ, length}
+use Rattle.std.specs.Prelude.{Bool, false, true, List, [], ◌∷◌, ◌*◌, ◌+◌, ℕ, length, None, Option, Some}
 use Rattle.dock_job.specs.declared.Job.{Job}
 use Rattle.dock_job.specs.declared.Setup.{Setup}
 use Rattle.dock_job.specs.declared.Setup.TheVariants.{BaudRate, ResetChip, SiliconSignature}
@@ -9,18 +9,17 @@ use Rattle.part.specs.Part.{block_size, pages, range_of}
 use Rattle.part.specs.declared.Area.{Area}
 use Rattle.part.specs.declared.Area.TheVariants.{CodeFlash}
 use Rattle.part.specs.declared.Range.{Range}
-use Rattle.part.specs.declared.Range.TheVariants.{Bad, Blocks}
 
 -- "a range of whole blocks": its area, and how many blocks it is long; none where it is bad.
-unfoldable pub area_in : Range → Area
-area_in (Blocks a block count) = a
-area_in Bad = CodeFlash
+unfoldable pub area_in : Option Range → Area
+area_in (Some range) = range.area
+area_in None = CodeFlash
 
-unfoldable pub blocks_in : Range → ℕ
-blocks_in (Blocks a block count) = count
-blocks_in Bad = 0
+unfoldable pub blocks_in : Option Range → ℕ
+blocks_in (Some range) = range.count
+blocks_in None = 0
 
-abbrev pub job_range : Job → Range
+abbrev pub job_range : Job → Option Range
 job_range j = range_of j.part j.start j.end
 
 abbrev pub area_of : Job → Area

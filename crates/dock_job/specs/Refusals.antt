@@ -1,13 +1,11 @@
 -- Document 01, "Refusal numbers", for the dock: each exactly when the table says, in the order 1, 5, 6, 7, 9, 4, 8.
-use Rattle.std.specs.Prelude.{Bool, false, not, true, [], ◌∷◌, ℕ, eqb, leb, ltb}
+use Rattle.std.specs.Prelude.{Bool, false, not, true, [], ◌∷◌, ℕ, eqb, leb, ltb, Err, None, Ok, Option, Result, Some}
 use Rattle.dock_job.specs.Job.{blocks_of, bound, is_over, job_range, range_length, pages_of}
 use Rattle.dock_job.specs.declared.Dock.{Dock}
-use Rattle.dock_job.specs.declared.Ending.{Ending}
-use Rattle.dock_job.specs.declared.Ending.TheVariants.{Failed, Finished}
+use Rattle.part.specs.declared.refusal.Refusal.{Refusal}
+use Rattle.part.specs.declared.Range.{Range}
 use Rattle.dock_job.specs.declared.Failure.{Failure}
 use Rattle.dock_job.specs.declared.Job.{Job}
-use Rattle.dock_job.specs.declared.Named.{Named}
-use Rattle.dock_job.specs.declared.Named.TheVariants.{It, Unnamed}
 use Rattle.dock_job.specs.declared.Stage.{Stage}
 use Rattle.dock_job.specs.declared.Stage.TheVariants.{InBlock, Over, SetUp}
 use Rattle.dock_job.specs.declared.Work.{Work}
@@ -17,10 +15,7 @@ use Rattle.dock_job.specs.declared.refusals.Call.TheVariants.{Asks, Begins, Tell
 use Rattle.part.specs.Part.{described}
 use Rattle.part.specs.Rate.{accepts_rate}
 use Rattle.part.specs.Refusal.{◌when◌, first_of}
-use Rattle.part.specs.declared.Range.{Range}
-use Rattle.part.specs.declared.Range.TheVariants.{Bad, Blocks}
 use Rattle.part.specs.declared.refusal.Refusal.TheVariants.{BadPart, BadRange, BadState, ImageLength, ManyRetries, OutOfTurn, ShortRoom}
-use Rattle.part.specs.declared.refusal.Verdict.{Verdict}
 use Rattle.words.specs.Words.{◌and◌, ◌or◌}
 
 -- 1: "part description outside the numbers above, or rate or supply of a job outside 9Ah's"
@@ -28,9 +23,9 @@ unfoldable pub bad_job : Job → Bool
 bad_job j = not (described j.part) or not (accepts_rate j.part j.rate j.supply)
 
 -- 5: "job range bad"
-unfoldable pub is_bad : Range → Bool
-is_bad (Blocks a block count) = false
-is_bad Bad = true
+unfoldable pub is_bad : Option Range → Bool
+is_bad (Some range) = false
+is_bad None = true
 
 abbrev pub bad_range : Job → Bool
 bad_range j = is_bad (job_range j)
@@ -42,20 +37,20 @@ good_block j k = ltb k (blocks_of j)
 unfoldable pub good_page : Job → ℕ → Bool
 good_page j p = ltb p (pages_of j)
 
-unfoldable pub good_named_block : Job → Named → Bool
-good_named_block j (It k) = good_block j k
-good_named_block j Unnamed = true
+unfoldable pub good_named_block : Job → Option ℕ → Bool
+good_named_block j (Some k) = good_block j k
+good_named_block j None = true
 
-unfoldable pub good_named_page : Job → Named → Bool
-good_named_page j (It p) = good_page j p
-good_named_page j Unnamed = true
+unfoldable pub good_named_page : Job → Option ℕ → Bool
+good_named_page j (Some p) = good_page j p
+good_named_page j None = true
 
 unfoldable pub good_failure : Job → Failure → Bool
 good_failure j f = good_named_block j f.block and good_named_page j f.page
 
-unfoldable pub good_ending : Job → Ending → Bool
-good_ending j Finished = true
-good_ending j (Failed f) = good_failure j f
+unfoldable pub good_ending : Job → Result Unit Failure → Bool
+good_ending j (Ok _) = true
+good_ending j (Err f) = good_failure j f
 
 unfoldable pub good_work : Job → Work → Bool
 good_work j Blank = true
@@ -100,7 +95,7 @@ out_of_turn (Asks d room) = is_over d.stage or d.awaited
 out_of_turn (Tells d) = is_over d.stage or not d.awaited
 
 -- "Order .. for the dock: 1, 5, 6, 7, 9, 4, 8", given the length of the image.
-unfoldable pub call_verdict : Job → ℕ → Call → Verdict
+unfoldable pub call_verdict : Job → ℕ → Call → Result Unit Refusal
 call_verdict j image c =
     first_of
     (BadPart when bad_job j

@@ -38,28 +38,15 @@ pub enum Cause {
     TimedOut,
 }
 
-// A block or a page that is named, or none.
-#[derive(Clone, Copy)]
-pub enum Named {
-    It(u32),
-    Unnamed,
-}
-
 // A failure names its cause, the frame (its command, and its page if it is one), the status and the block; and the fault of an unreadable reply, else Good.
 #[derive(Clone, Copy)]
 pub struct Failure {
     pub cause: Cause,
     pub command: u8,
-    pub page: Named,
+    pub page: Option<u32>,
     pub status: u8,
-    pub block: Named,
+    pub block: Option<u32>,
     pub fault: Judgement,
-}
-
-#[derive(Clone, Copy)]
-pub enum Ending {
-    Finished,
-    Failed(Failure),
 }
 
 // The frames of a block, each page with its number.
@@ -78,7 +65,7 @@ pub enum Work {
 pub enum Stage {
     SetUp(Setup),
     InBlock { block: u32, work: Work },
-    Over(Ending),
+    Over(Result<(), Failure>),
 }
 
 // The stage, whether the answer to its frame is awaited, and the retries and frames used.
@@ -91,45 +78,36 @@ pub struct Dock {
 }
 
 impl Job {
-    fn range(self) -> Range
+    fn range(self) -> Option<Range>
         ensures { result ≡ range_of self.part self.start self.end }
     {
-        let part = self.part;
-        part.range(self.start as usize, self.end as usize)
+        self.part.range(self.start as usize, self.end as usize)
     }
 
+    #[tactic(auto, unfolding(crate::specs::Job::area_in))]
     pub fn area(self) -> Area
         ensures { result ≡ area_of self }
     {
-        let range = self.range();
-        match range {
-            Range::Blocks { area, block, count } => area,
-            Range::Bad => Area::CodeFlash,
-        }
+        self.range().map_or(Area::CodeFlash, |range| range.area)
     }
 
+    #[tactic(auto, unfolding(crate::specs::Job::blocks_in))]
     pub fn blocks(self) -> usize
         ensures { result ≡ blocks_of self }
     {
-        let range = self.range();
-        match range {
-            Range::Blocks { area, block, count } => count,
-            Range::Bad => 0,
-        }
+        self.range().map_or(0, |range| range.count)
     }
 
     pub fn block_size(self) -> usize
         ensures { result ≡ size_of self }
     {
-        let part = self.part;
-        part.block_size(self.area())
+        self.part.block_size(self.area())
     }
 
     pub fn pages(self) -> usize
         ensures { result ≡ pages_of self }
     {
-        let part = self.part;
-        part.pages(self.area())
+        self.part.pages(self.area())
     }
 
     fn range_length(self) -> usize
@@ -147,13 +125,10 @@ impl Job {
 }
 
 impl Stage {
+    #[tactic(auto, unfolding(crate::specs::Job::is_over))]
     pub fn is_over(self) -> bool
         ensures { result ≡ is_over self }
     {
-        match self {
-            Stage::SetUp(s) => false,
-            Stage::InBlock { block, work } => false,
-            Stage::Over(e) => true,
-        }
+        matches!(self, Stage::Over(_))
     }
 }

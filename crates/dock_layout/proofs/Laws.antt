@@ -1,22 +1,25 @@
 -- Laws about the layouts: the literal that the code writes is the layout, bytes are compared one by one, and a job is read.
 -- Assumes nothing.
-use mathlib.Core.Bool.{Bool, false, true}
+use mathlib.Core.Bool.{◌&&◌, Bool}
 use mathlib.Core.List.{List, [], ◌++◌, ◌∷◌, append_assoc}
-use mathlib.Core.Path.{◌≡◌, ap, sym}
-use Prim.Native.Nat.{◌+◌, ◌<◌, ℕ}
+use mathlib.Core.Path.{◌∙◌, ◌≡◌, ap, refl, sym}
+use Prim.Native.Nat.{ℕ}
 use lib.ListN.{get_or, length}
-use borrow.Author.Tests.{eq-eqb, ne_eqb}
 use Rattle.dock_layout.specs.Layout.{bytes_with, fault_at, flat, flat_in, is_named, named, named_in}
 use Rattle.dock_layout.specs.Job.{job_in}
 use Rattle.dock_layout.specs.declared.Flat.{Flat}
-use Rattle.dock_job.specs.declared.Named.{Named}
+use Rattle.std.specs.Prelude.{Option}
 use Rattle.frame.specs.declared.judgement.Fault.{Fault}
-use Rattle.lent.proofs.Laws.{SameFrom, same_turn}
+use Rattle.lent.proofs.Laws.{same_is_pointwise}
+use Rattle.lent.specs.Lent.{same}
+use Rattle.std.specs.Cmp.Lexicographic.{pointwise}
+use Rattle.std.specs.List.{list_all, zip}
+use lib.Dec.{eqb}
+use native.Mathlib.Omega.{arith}
 use Rattle.numbers.proofs.Laws.{low-2, low-4-each}
 use Rattle.numbers.specs.Numbers.{low_first, number_at}
 use Rattle.part.specs.declared.Part.{Part}
 use Rattle.part_layout.specs.Layout.{part_in}
-use Rattle.words.specs.Words.{◌and◌}
 
 -- Four bytes taken one by one.
 abbrev four : List ℕ → List ℕ → List ℕ
@@ -41,17 +44,21 @@ bytes-are f awaited retries frames r k b p at m n x y g h i j l o z q s =
     (ap (λ (u : List ℕ). f.stage ∷ awaited ∷ u)
     (four_low retries _ _ g (four_low frames _ _ h (named-low x _ m _ _ _ q i j (named-low y _ n _ _ _ s l o (ap (λ (u : List ℕ). f.cause ∷ f.command ∷ f.status ∷ f.fault.number ∷ u) (two-low f.fault.place z)))))))
 
--- Two lists compared byte by byte, up to the first that differs.
-pub same-goes : {t : Bool} {bs cs : List ℕ} {i : ℕ} → SameFrom true bs cs i t → get_or bs i 0 ≡ get_or cs i 0 → i < length bs → i < length cs → SameFrom true bs cs (i + 1) t
-unfolding ◌and◌
-same-goes {t} {bs} {cs} {i} f e h k = same_turn f (sym (eq-eqb (get_or bs i 0) (get_or cs i 0) e)) h k
+-- Two lists of one length, compared pair by pair.
+abbrev pub equal_pair : ℕ × ℕ → Bool
+equal_pair p = eqb p.0 p.1
 
-pub same-stops : {t : Bool} {bs cs : List ℕ} {i : ℕ} → SameFrom true bs cs i t → (get_or bs i 0 ≡ get_or cs i 0 → ⊥) → i < length bs → i < length cs → false ≡ t
-unfolding ◌and◌
-same-stops {t} {bs} {cs} {i} f e h k = (same_turn {r = false} f (sym (ne_eqb (get_or bs i 0) (get_or cs i 0) e)) h k).rest
+paired : (bs cs : List ℕ) → length bs ≡ length cs → list_all equal_pair (zip bs cs) ≡ pointwise eqb bs cs
+paired [] [] e = refl
+paired [] (c ∷ cs) e = absurd (omega arith)
+paired (b ∷ bs) [] e = absurd (omega arith)
+paired (b ∷ bs) (c ∷ cs) e = ap (λ (t : Bool). eqb b c && t) (paired bs cs (omega arith))
+
+pub same-paired : (bs cs : List ℕ) → length bs ≡ length cs → list_all equal_pair (zip bs cs) ≡ same bs cs
+same-paired bs cs e = paired bs cs e ∙ sym (same_is_pointwise bs cs)
 
 -- The record that the code makes of a state's bytes is the stage in numbers.
-pub flat-is : {n g k h l cause cmd status : ℕ} {b p : Named} {x : Fault} (bs : List ℕ) → n ≡ get_or bs 0 0
+pub flat-is : {n g k h l cause cmd status : ℕ} {b p : Option ℕ} {x : Fault} (bs : List ℕ) → n ≡ get_or bs 0 0
     → g ≡ get_or bs 10 0 → k ≡ number_at 4 11 bs → b ≡ named_in g k → h ≡ get_or bs 15 0 → l ≡ number_at 4 16 bs → p ≡ named_in h l
     → cause ≡ get_or bs 20 0 → cmd ≡ get_or bs 21 0 → status ≡ get_or bs 22 0 → x ≡ fault_at bs → flat n b p cause cmd status x ≡ flat_in bs
 unfolding flat_in

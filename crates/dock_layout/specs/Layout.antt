@@ -1,13 +1,10 @@
 -- How a dock's state crosses the door as bytes: one layout of 26 bytes. Numbers cross as the crate `numbers` says.
-use Rattle.std.specs.Prelude.{Bool, List, ◌++◌, ◌∷◌, ℕ, eqb, ltb, get_or}
+use Rattle.std.specs.Prelude.{Bool, List, ◌++◌, ◌∷◌, ℕ, eqb, ltb, get_or, Err, None, Ok, Option, Result, Some}
 use Rattle.dock_layout.specs.declared.Flat.{Flat}
 use Rattle.dock_job.specs.declared.Cause.{Cause}
 use Rattle.dock_job.specs.declared.Cause.TheVariants.{Mismatch, TimedOut, UnexpectedStatus, Unreadable}
 use Rattle.dock_job.specs.declared.Dock.{Dock}
-use Rattle.dock_job.specs.declared.Ending.{Ending}
-use Rattle.dock_job.specs.declared.Ending.TheVariants.{Failed, Finished}
-use Rattle.dock_job.specs.declared.Named.{Named}
-use Rattle.dock_job.specs.declared.Named.TheVariants.{It, Unnamed}
+use Rattle.dock_job.specs.declared.Failure.{Failure}
 use Rattle.dock_job.specs.declared.Setup.{Setup}
 use Rattle.dock_job.specs.declared.Setup.TheVariants.{BaudRate, ResetChip, SiliconSignature}
 use Rattle.dock_job.specs.declared.Stage.{Stage}
@@ -43,11 +40,11 @@ judgement_in n at =
 
 -- A stage in numbers: which it is, 1 to 11 in the flow's order; the block and the page that it names; of a failure the cause, the command, the status and the
 -- fault, else 0.
-abbrev pub flat : ℕ → Named → Named → ℕ → ℕ → ℕ → Fault → Flat
+abbrev pub flat : ℕ → Option ℕ → Option ℕ → ℕ → ℕ → ℕ → Fault → Flat
 flat n block page cause cmd status fault =
     record { stage = n; block = block; page = page; cause = cause; command = cmd; status = status; fault = fault }
 
-abbrev pub plain : ℕ → Named → Named → Flat
+abbrev pub plain : ℕ → Option ℕ → Option ℕ → Flat
 plain n block page = flat n block page 0 0x00 0x00 (fault 0 0)
 
 abbrev pub setup_number : Setup → ℕ
@@ -56,30 +53,30 @@ setup_number ResetChip = 2
 setup_number SiliconSignature = 3
 
 unfoldable pub flat_work : ℕ → Work → Flat
-flat_work k Blank = plain 4 (It k) Unnamed
-flat_work k Erase = plain 5 (It k) Unnamed
-flat_work k Program = plain 6 (It k) Unnamed
-flat_work k (ProgramPage p) = plain 7 (It k) (It p)
-flat_work k VerifyBlock = plain 8 (It k) Unnamed
-flat_work k (VerifyPage p) = plain 9 (It k) (It p)
+flat_work k Blank = plain 4 (Some k) None
+flat_work k Erase = plain 5 (Some k) None
+flat_work k Program = plain 6 (Some k) None
+flat_work k (ProgramPage p) = plain 7 (Some k) (Some p)
+flat_work k VerifyBlock = plain 8 (Some k) None
+flat_work k (VerifyPage p) = plain 9 (Some k) (Some p)
 
-unfoldable pub flat_ending : Ending → Flat
-flat_ending Finished = plain 10 Unnamed Unnamed
-flat_ending (Failed f) = flat 11 f.block f.page (cause_number f.cause) f.command f.status (fault_of f.fault)
+unfoldable pub flat_ending : Result Unit Failure → Flat
+flat_ending (Ok _) = plain 10 None None
+flat_ending (Err f) = flat 11 f.block f.page (cause_number f.cause) f.command f.status (fault_of f.fault)
 
 unfoldable pub flat_of : Stage → Flat
-flat_of (SetUp s) = plain (setup_number s) Unnamed Unnamed
+flat_of (SetUp s) = plain (setup_number s) None None
 flat_of (InBlock k w) = flat_work k w
 flat_of (Over e) = flat_ending e
 
 -- A block or a page: whether one is named, and which.
-unfoldable pub is_named : Named → ℕ
-is_named (It n) = 1
-is_named Unnamed = 0
+unfoldable pub is_named : Option ℕ → ℕ
+is_named (Some n) = 1
+is_named None = 0
 
-unfoldable pub named : Named → ℕ
-named (It n) = n
-named Unnamed = 0
+unfoldable pub named : Option ℕ → ℕ
+named (Some n) = n
+named None = 0
 
 -- Byte 0 the stage, 1 whether its answer is awaited; retries and frames used (from 2 and 6 on, four bytes each); the block (10, and four bytes from 11 on)
 -- and the page (15, and four from 16 on); of a failure the cause (20), the command (21), the status (22) and the fault: its number (23), and its place (two
@@ -104,8 +101,8 @@ unfoldable pub dock_bytes : Dock → List ℕ
 dock_bytes d = bytes_with (flat_of d.stage) (bit d.awaited) d.retries d.frames
 
 -- And back.
-unfoldable pub named_in : ℕ → ℕ → Named
-named_in given n = if eqb given 1 then It n otherwise Unnamed
+unfoldable pub named_in : ℕ → ℕ → Option ℕ
+named_in given n = if eqb given 1 then Some n otherwise None
 
 unfoldable pub fault_at : List ℕ → Fault
 fault_at bs = fault (get_or bs 23 0) (number_at 2 24 bs)
@@ -127,10 +124,10 @@ work_in n page =
     otherwise if eqb n 8 then VerifyBlock
     otherwise VerifyPage page
 
-unfoldable pub ending_in : Flat → Ending
+unfoldable pub ending_in : Flat → Result Unit Failure
 ending_in f =
-    if eqb f.stage 10 then Finished
-    otherwise Failed
+    if eqb f.stage 10 then Ok tt
+    otherwise Err
     (record {
       cause = cause_in f.cause;
       command = f.command;

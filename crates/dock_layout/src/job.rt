@@ -9,10 +9,10 @@ pub fn job_in(part: &[u8; 19], bytes: &[u8; 11]) -> Job
 {
     Job {
         part: part_layout::part_in(part),
-        start: numbers::number4(bytes, 0),
-        end: numbers::number4(bytes, 4),
-        rate: part_layout::wide(bytes[8]),
-        supply: part_layout::wide(bytes[9]),
-        retries: part_layout::wide(bytes[10]),
+        start: u32::from_le_bytes(numbers::bytes_at(bytes, 0)),
+        end: u32::from_le_bytes(numbers::bytes_at(bytes, 4)),
+        rate: u32::from(bytes[8]),
+        supply: u32::from(bytes[9]),
+        retries: u32::from(bytes[10]),
     }
 }

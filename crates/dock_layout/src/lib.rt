@@ -7,7 +7,7 @@ ghost use Rattle.dock_layout.specs.Layout.{bytes_with, cause_in, cause_number, d
 ghost use Rattle.dock_layout.specs.Layout.{flat_ending, flat_in, flat_of, flat_work, is_dock, is_named, named, named_in, plain, setup_in, setup_number};
 ghost use Rattle.dock_layout.specs.Layout.{stage_in, work_in};
 
-use dock_job::{Cause, Dock, Ending, Failure, Named, Setup, Stage, Work};
+use dock_job::{Cause, Dock, Failure, Setup, Stage, Work};
 use frame::judgement::{Fault, Judgement};
 
 pub mod job;
@@ -16,14 +16,15 @@ pub mod job;
 #[derive(Clone, Copy)]
 pub struct Flat {
     pub stage: u8,
-    pub block: Named,
-    pub page: Named,
+    pub block: Option<u32>,
+    pub page: Option<u32>,
     pub cause: u8,
     pub command: u8,
     pub status: u8,
     pub fault: Fault,
 }
 
+#[tactic(auto, unfolding(crate::specs::Layout::cause_number))]
 fn cause_number(cause: Cause) -> u8
     ensures { result ≡ cause_number cause }
 {
@@ -38,34 +39,24 @@ fn cause_number(cause: Cause) -> u8
 fn cause_in(n: u8) -> Cause
     ensures { result ≡ cause_in n }
 {
-    if n == 1 {
-        return Cause::UnexpectedStatus;
+    match n {
+        1 => Cause::UnexpectedStatus,
+        2 => Cause::Mismatch,
+        3 => Cause::Unreadable,
+        _ => Cause::TimedOut,
     }
-    if n == 2 {
-        return Cause::Mismatch;
-    }
-    if n == 3 {
-        return Cause::Unreadable;
-    }
-    Cause::TimedOut
 }
 
 fn judgement_in(n: u8, at: u16) -> Judgement
     ensures { result ≡ judgement_in n at }
 {
-    if n == 1 {
-        return Judgement::WrongFooter(at);
+    match n {
+        1 => Judgement::WrongFooter(at),
+        2 => Judgement::WrongSum(at),
+        3 => Judgement::UnfitLength,
+        4 => Judgement::WrongFirst,
+        _ => Judgement::Good,
     }
-    if n == 2 {
-        return Judgement::WrongSum(at);
-    }
-    if n == 3 {
-        return Judgement::UnfitLength;
-    }
-    if n == 4 {
-        return Judgement::WrongFirst;
-    }
-    Judgement::Good
 }
 
 fn setup_number(setup: Setup) -> u8
@@ -78,7 +69,7 @@ fn setup_number(setup: Setup) -> u8
     }
 }
 
-fn plain(stage: u8, block: Named, page: Named) -> Flat
+fn plain(stage: u8, block: Option<u32>, page: Option<u32>) -> Flat
     ensures { result ≡ plain stage block page }
 {
     Flat {
@@ -95,81 +86,71 @@ fn plain(stage: u8, block: Named, page: Named) -> Flat
     }
 }
 
+#[tactic(auto, unfolding(crate::specs::Layout::flat_work))]
 fn flat_work(block: u32, work: Work) -> Flat
     ensures { result ≡ flat_work block work }
 {
     match work {
-        Work::Blank => plain(4, Named::It(block), Named::Unnamed),
-        Work::Erase => plain(5, Named::It(block), Named::Unnamed),
-        Work::Program => plain(6, Named::It(block), Named::Unnamed),
-        Work::ProgramPage(page) => plain(7, Named::It(block), Named::It(page)),
-        Work::VerifyBlock => plain(8, Named::It(block), Named::Unnamed),
-        Work::VerifyPage(page) => plain(9, Named::It(block), Named::It(page)),
+        Work::Blank => plain(4, Some(block), None),
+        Work::Erase => plain(5, Some(block), None),
+        Work::Program => plain(6, Some(block), None),
+        Work::ProgramPage(page) => plain(7, Some(block), Some(page)),
+        Work::VerifyBlock => plain(8, Some(block), None),
+        Work::VerifyPage(page) => plain(9, Some(block), Some(page)),
     }
 }
 
-fn flat_ending(ending: Ending) -> Flat
+#[tactic(auto, unfolding(crate::specs::Layout::flat_ending))]
+fn flat_ending(ending: Result<(), Failure>) -> Flat
     ensures { result ≡ flat_ending ending }
 {
     match ending {
-        Ending::Finished => plain(10, Named::Unnamed, Named::Unnamed),
-        Ending::Failed(failure) => {
-            let block = failure.block;
-            let page = failure.page;
-            let cause = failure.cause;
-            let fault = failure.fault;
-            Flat {
-                stage: 11,
-                block,
-                page,
-                cause: cause_number(cause),
-                command: failure.command,
-                status: failure.status,
-                fault: fault.fault(),
-            }
-        }
+        Ok(()) => plain(10, None, None),
+        Err(failure) => Flat {
+            stage: 11,
+            block: failure.block,
+            page: failure.page,
+            cause: cause_number(failure.cause),
+            command: failure.command,
+            status: failure.status,
+            fault: failure.fault.fault(),
+        },
     }
 }
 
+#[tactic(auto, unfolding(crate::specs::Layout::flat_of))]
 fn flat_of(stage: Stage) -> Flat
     ensures { result ≡ flat_of stage }
 {
     match stage {
-        Stage::SetUp(setup) => plain(setup_number(setup), Named::Unnamed, Named::Unnamed),
+        Stage::SetUp(setup) => plain(setup_number(setup), None, None),
         Stage::InBlock { block, work } => flat_work(block, work),
         Stage::Over(ending) => flat_ending(ending),
     }
 }
 
-fn is_named(given: Named) -> u8
+#[tactic(auto, unfolding(crate::specs::Layout::is_named))]
+fn is_named(given: Option<u32>) -> u8
     ensures { result ≡ is_named given }
 {
-    match given {
-        Named::It(n) => 1,
-        Named::Unnamed => 0,
-    }
+    u8::from(given.is_some())
 }
 
-fn named(given: Named) -> u32
+#[tactic(auto, unfolding(crate::specs::Layout::named))]
+fn named(given: Option<u32>) -> u32
     ensures { result ≡ named given }
 {
-    match given {
-        Named::It(n) => n,
-        Named::Unnamed => 0,
-    }
+    given.unwrap_or(0)
 }
 
 fn bytes_with(flat: Flat, awaited: u8, retries: u32, frames: u32) -> [u8; 26]
     ensures { result ≡ bytes_with flat awaited retries frames }
 {
-    let r = numbers::low4(retries);
-    let f = numbers::low4(frames);
-    let block = flat.block;
-    let b = numbers::low4(named(block));
-    let page = flat.page;
-    let p = numbers::low4(named(page));
-    let fault = flat.fault;
-    let place = numbers::low2(fault.place);
+    let r = retries.to_le_bytes();
+    let f = frames.to_le_bytes();
+    let b = named(flat.block).to_le_bytes();
+    let p = named(flat.page).to_le_bytes();
+    let place = flat.fault.place.to_le_bytes();
     [
         flat.stage,
         awaited,
@@ -181,12 +162,12 @@ fn bytes_with(flat: Flat, awaited: u8, retries: u32, frames: u32) -> [u8; 26]
         f[1],
         f[2],
         f[3],
-        is_named(block),
+        is_named(flat.block),
         b[0],
         b[1],
         b[2],
         b[3],
-        is_named(page),
+        is_named(flat.page),
         p[0],
         p[1],
         p[2],
@@ -194,49 +175,54 @@ fn bytes_with(flat: Flat, awaited: u8, retries: u32, frames: u32) -> [u8; 26]
         flat.cause,
         flat.command,
         flat.status,
-        fault.number,
+        flat.fault.number,
         place[0],
         place[1],
     ]
 }
 
+#[tactic(auto, unfolding(crate::specs::Layout::dock_bytes))]
 fn dock_bytes(dock: Dock) -> [u8; 26]
     ensures { result ≡ dock_bytes dock }
 {
-    let stage = dock.stage;
     bytes_with(
-        flat_of(stage),
-        numbers::bit(dock.awaited),
+        flat_of(dock.stage),
+        u8::from(dock.awaited),
         dock.retries,
         dock.frames,
     )
 }
 
-fn named_in(given: u8, n: u32) -> Named
+fn named_in(given: u8, n: u32) -> Option<u32>
     ensures { result ≡ named_in given n }
 {
-    if given == 1 {
-        return Named::It(n);
-    }
-    Named::Unnamed
+    (given == 1).then_some(n)
 }
 
+#[tactic(auto, unfolding(crate::specs::Layout::fault_at))]
 fn fault_at(state: &[u8]) -> Fault
     ensures { result ≡ fault_at state.now }
 {
     Fault {
         number: lent::byte_at(state, 23),
-        place: numbers::number2(state, 24),
+        place: u16::from_le_bytes(numbers::bytes_at(state, 24)),
     }
 }
 
+#[tactic(auto, unfolding(crate::specs::Layout::flat_in))]
 fn flat_in(state: &[u8]) -> Flat
     ensures { result ≡ flat_in state.now }
 {
     Flat {
         stage: lent::byte_at(state, 0),
-        block: named_in(lent::byte_at(state, 10), numbers::number4(state, 11)),
-        page: named_in(lent::byte_at(state, 15), numbers::number4(state, 16)),
+        block: named_in(
+            lent::byte_at(state, 10),
+            u32::from_le_bytes(numbers::bytes_at(state, 11)),
+        ),
+        page: named_in(
+            lent::byte_at(state, 15),
+            u32::from_le_bytes(numbers::bytes_at(state, 16)),
+        ),
         cause: lent::byte_at(state, 20),
         command: lent::byte_at(state, 21),
         status: lent::byte_at(state, 22),
@@ -247,52 +233,39 @@ fn flat_in(state: &[u8]) -> Flat
 fn setup_in(n: u8) -> Setup
     ensures { result ≡ setup_in n }
 {
-    if n == 1 {
-        return Setup::BaudRate;
+    match n {
+        1 => Setup::BaudRate,
+        2 => Setup::ResetChip,
+        _ => Setup::SiliconSignature,
     }
-    if n == 2 {
-        return Setup::ResetChip;
-    }
-    Setup::SiliconSignature
 }
 
 fn work_in(n: u8, page: u32) -> Work
     ensures { result ≡ work_in n page }
 {
-    if n == 4 {
-        return Work::Blank;
+    match n {
+        4 => Work::Blank,
+        5 => Work::Erase,
+        6 => Work::Program,
+        7 => Work::ProgramPage(page),
+        8 => Work::VerifyBlock,
+        _ => Work::VerifyPage(page),
     }
-    if n == 5 {
-        return Work::Erase;
-    }
-    if n == 6 {
-        return Work::Program;
-    }
-    if n == 7 {
-        return Work::ProgramPage(page);
-    }
-    if n == 8 {
-        return Work::VerifyBlock;
-    }
-    Work::VerifyPage(page)
 }
 
-fn ending_in(flat: Flat) -> Ending
+fn ending_in(flat: Flat) -> Result<(), Failure>
     ensures { result ≡ ending_in flat }
 {
     if flat.stage == 10 {
-        return Ending::Finished;
+        return Ok(());
     }
-    let page = flat.page;
-    let block = flat.block;
-    let fault = flat.fault;
-    Ending::Failed(Failure {
+    Err(Failure {
         cause: cause_in(flat.cause),
         command: flat.command,
-        page,
+        page: flat.page,
         status: flat.status,
-        block,
-        fault: judgement_in(fault.number, fault.place),
+        block: flat.block,
+        fault: judgement_in(flat.fault.number, flat.fault.place),
     })
 }
 
@@ -303,24 +276,23 @@ fn stage_in(flat: Flat) -> Stage
         return Stage::SetUp(setup_in(flat.stage));
     }
     if flat.stage < 10 {
-        let block = flat.block;
-        let page = flat.page;
         return Stage::InBlock {
-            block: named(block),
-            work: work_in(flat.stage, named(page)),
+            block: named(flat.block),
+            work: work_in(flat.stage, named(flat.page)),
         };
     }
     Stage::Over(ending_in(flat))
 }
 
+#[tactic(auto, unfolding(crate::specs::Layout::dock_in))]
 pub fn dock_in(state: &[u8; 26]) -> Dock
     ensures { result ≡ dock_in state.now }
 {
     Dock {
         stage: stage_in(flat_in(state)),
         awaited: lent::byte_at(state, 1) == 1,
-        retries: numbers::number4(state, 2),
-        frames: numbers::number4(state, 6),
+        retries: u32::from_le_bytes(numbers::bytes_at(state, 2)),
+        frames: u32::from_le_bytes(numbers::bytes_at(state, 6)),
     }
 }
 
@@ -328,17 +300,10 @@ pub fn dock_in(state: &[u8; 26]) -> Dock
 fn is_laid(back: &[u8], state: &[u8]) -> bool
     ensures { result ≡ same back.now state.now }
 {
-    if back.len() != state.len() {
-        return false;
-    }
-    for i in 0..back.len() {
-        if back[i] != state[i] {
-            return false;
-        }
-    }
-    true
+    back.len() == state.len() && back.iter().zip(state).all(|(a, b)| a == b)
 }
 
+#[tactic(auto, unfolding(crate::specs::Layout::is_dock))]
 pub fn is_dock(state: &[u8; 26]) -> bool
     ensures { result ≡ is_dock state.now }
 {

@@ -14,19 +14,19 @@ use Rattle.chip_core.specs.declared.Done.{Done}
 use Rattle.chip_frame.specs.Does.{frame_does}
 use Rattle.chip_options.specs.declared.Options.{Options}
 use Rattle.chip_reply.proofs.Laws.{frames-long, reply-long, said-lands, send-said}
-use Rattle.chip_reply.specs.Reply.{Said, fault_in, frames_of, payloads, said, send_of}
+use Rattle.chip_reply.specs.Reply.{Said, fault_in, frames_of, payloads, said, send_of, sent_as}
 use Rattle.chip_reply.specs.declared.Reply.{Reply}
 use Rattle.chip_reply.specs.declared.Sent.{Sent}
 use Rattle.engine.specs.Engine.{after_frame}
 use Rattle.engine.specs.declared.ToldSoFar.{ToldSoFar}
-use Rattle.engine.specs.declared.EngineAnswer.TheVariants.{Replied}
+use Rattle.lent.specs.declared.Short.{Short}
+use Rattle.std.specs.Prelude.{Ok, Result}
 use Rattle.engine.specs.declared.Played.{Played}
 use Rattle.engine.specs.Inner.Answering.{Past, RoomAhead, ended_of, stand_of}
 use Rattle.frame.proofs.Laws.Collector.{written-holds}
 use Rattle.frame.specs.declared.collector.Collector.{Collector}
 use Rattle.lent.proofs.Laws.{written-put, written_start}
 use Rattle.lent.specs.Lent.{left, put_of}
-use Rattle.lent.specs.declared.Room.{Room}
 use Rattle.frame.specs.Judgement.{is_good}
 use Rattle.frame.specs.declared.judgement.Judgement.{Judgement}
 use Rattle.part.specs.Part.{Arrays, described}
@@ -111,13 +111,13 @@ grown p o r t room l s j g n se ne de a h =
     few false e = omega arith
 
 -- What is handed back: the chip with what is held.
-pub ended_is : (k : Core) (t : ToldSoFar) (c : Collector) (hs l : List ℕ) (a : Room) → left a l ≡ put_of c.bytes 0 hs → length hs ≤ length c.bytes
+pub ended_is : (k : Core) (t : ToldSoFar) (c : Collector) (hs l : List ℕ) (a : Result Unit Short) → left a l ≡ put_of c.bytes 0 hs → length hs ≤ length c.bytes
     → ◌≡◌ {A = Played} (record {
-      answer = Replied t.bytes t.frames;
+      answer = Ok (sent_as t.bytes t.frames);
       faults = t.faults;
       first = t.first;
       chip = record { core = k; collector = record { bytes = l; len = length hs } };
     }) (ended_of k t c hs)
 ended_is k t c hs l a e h =
-    ap {B = Played} (λ (x : Collector). record { answer = Replied t.bytes t.frames; faults = t.faults; first = t.first; chip = record { core = k; collector = x } })
+    ap {B = Played} (λ (x : Collector). record { answer = Ok (sent_as t.bytes t.frames); faults = t.faults; first = t.first; chip = record { core = k; collector = x } })
     (written-holds c hs l (length hs) (written-put 0 hs (written_start c.bytes) e refl (omega arith)) refl)

@@ -30,9 +30,9 @@ use Rattle.frame.specs.declared.Header.TheVariants.{Command, Data}
 use Rattle.frame.specs.declared.collector.Collector.{Collector}
 use Rattle.lent.proofs.Laws.{Written, written-put}
 use Rattle.lent.specs.Lent.{left, put_of}
-use Rattle.lent.specs.declared.Room.{Room}
+use Rattle.lent.specs.declared.Short.{Short}
+use Rattle.std.specs.Prelude.{Ok, Result}
 use Rattle.part.specs.declared.Part.{Part}
-use Rattle.part.specs.declared.refusal.Verdict.TheVariants.{Accepted}
 use Rattle.words.specs.Words.{if◌then◌otherwise◌}
 
 -- A part is lent from its start.
@@ -58,7 +58,7 @@ heard-lies c h =
     let n : length (heard c) ≡ c.len = length-heard c h in
     record { is = sym (ap (λ (x : List ℕ). x ++ drop (length (heard c)) c.bytes) (heard-is c) ∙ ap (λ (x : ℕ). take c.len c.bytes ++ drop x c.bytes) n ∙ take-append-drop c.len c.bytes); room = omega arith; long = refl }
 
-pub joined_is : (c : Collector) (bs l : List ℕ) (k : ℕ) (a : Room) → length c.bytes ≡ 260 → c.len + k ≤ 260 → k ≤ length bs → left a l ≡ put_of c.bytes c.len (take k bs)
+pub joined_is : (c : Collector) (bs l : List ℕ) (k : ℕ) (a : Result Unit Short) → length c.bytes ≡ 260 → c.len + k ≤ 260 → k ≤ length bs → left a l ≡ put_of c.bytes c.len (take k bs)
     → take (c.len + k) l ≡ heard c ++ take k bs
 joined_is c bs l k a h p t e =
     let n : length (heard c) ≡ c.len = length-heard c (omega arith) in
@@ -71,7 +71,7 @@ whole_is : (xs : List ℕ) → complete xs ≡ true → whole_of xs ≡ counted 
 unfolding whole_of if◌then◌otherwise◌
 whole_is xs e = rw e
 
-pub joined-ahead : (c : Collector) (bs l : List ℕ) (k : ℕ) (a : Room) → length c.bytes ≡ 260 → c.len ≤ 260 → Joins c.len (length bs) k
+pub joined-ahead : (c : Collector) (bs l : List ℕ) (k : ℕ) (a : Result Unit Short) → length c.bytes ≡ 260 → c.len ≤ 260 → Joins c.len (length bs) k
     → left a l ≡ put_of c.bytes c.len (take k bs) → take (c.len + k) l ≡ take 260 (heard c ++ bs)
 joined-ahead c bs l k a h p j e =
     let n : length (heard c) ≡ c.len = length-heard c (omega arith) in
@@ -122,12 +122,12 @@ none-whole xs e c = go (dec_lt (length xs) 260)
     go (no k) = absurd (let z = sym (whole_is xs (complete-is xs ∙ full_at _ _ c (omega arith))) ∙ sym e in omega arith)
 
 -- What a chip that is accepted holds, where it holds anything, is the front of a frame that is awaited.
-pub held-front : (p : Part) (c : Chip) (code d : ℕ) → verdict_on p c code d 32 ≡ Accepted → (c.collector.len ≡ 0 → ⊥)
+pub held-front : (p : Part) (c : Chip) (code d : ℕ) → verdict_on p c code d 32 ≡ Ok tt → (c.collector.len ≡ 0 → ⊥)
     → FrontFor (hearing c.core.phase) c.collector.len (get_or c.collector.bytes 0 0) (get_or c.collector.bytes 1 0)
 held-front p c code d a z =
     front-for (hearing c.core.phase) _ _ _ (omega arith) (state-collected p c.core _ _ _ (hearing c.core.phase) (accepts a).state refl)
 
-pub held-within : (p : Part) (c : Chip) (code d : ℕ) → verdict_on p c code d 32 ≡ Accepted → c.collector.len < 260
+pub held-within : (p : Part) (c : Chip) (code d : ℕ) → verdict_on p c code d 32 ≡ Ok tt → c.collector.len < 260
 held-within p c code d a = good-within (hearing c.core.phase) _ _ _ (state-collected p c.core _ _ _ (hearing c.core.phase) (accepts a).state refl)
 
 -- With more bytes behind it that front is held, or the frame is whole.
@@ -157,7 +157,7 @@ longer f n head len m x h e w = go (dec_lt n m)
         absurd (let z : ◌≡◌ {A = Bool} true false = sym (full-yes n len (omega arith) (omega arith)) ∙ lacking-of f n head len h in let y : ◌≡◌ {A = ℕ} 0 1 = cc in omega arith)
 
 -- The bytes held with those that follow lie ahead, and in the array l as far as the longest frame reaches; n is how long the frame is that lies whole there.
-module _ (p : Part) (c : Chip) (bs l : List ℕ) (e n code d : ℕ) (accepted : verdict_on p c code d 32 ≡ Accepted) (places : length c.collector.bytes ≡ 260)
+module _ (p : Part) (c : Chip) (bs l : List ℕ) (e n code d : ℕ) (accepted : verdict_on p c code d 32 ≡ Ok tt) (places : length c.collector.bytes ≡ 260)
     (some : c.collector.len ≡ 0 → ⊥) (laid : take e l ≡ take 260 (heard c.collector ++ bs)) (placed : e ≤ 260) (whole : n ≡ whole_of (take e l))
     (counts : counted (get_or (take e l) 1 0) ≤ 256) where
   abbrev ahead : List ℕ
@@ -229,7 +229,7 @@ pub record Joined (p : Part) (c : Chip) (bs l : List ℕ) (e n : ℕ) : Type 0 w
   pub on : (n ≡ 0 → ⊥) → (s : Stand) → s.core ≡ c.core
       → played_out p (facing (heard c.collector ++ bs) s) ≡ played_out p (facing (drop (n - c.collector.len) bs) (after_frame p (take n l) s))
 
-pub joined : (p : Part) (c : Chip) (bs l : List ℕ) (e n code d : ℕ) → verdict_on p c code d 32 ≡ Accepted → length c.collector.bytes ≡ 260
+pub joined : (p : Part) (c : Chip) (bs l : List ℕ) (e n code d : ℕ) → verdict_on p c code d 32 ≡ Ok tt → length c.collector.bytes ≡ 260
     → (c.collector.len ≡ 0 → ⊥) → take e l ≡ take 260 (heard c.collector ++ bs) → e ≤ 260 → n ≡ whole_of (take (e - 0) l) → counted (get_or (take (e - 0) l) 1 0) ≤ 256
     → Joined p c bs l e n
 joined p c bs l e n code d a b o t k w v =

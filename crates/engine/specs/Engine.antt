@@ -1,18 +1,19 @@
 -- A plain engine: document 02, §7. A second software chip, to be read before the first. All bytes of a stretch lie ahead at once, those that the chip held from
 -- before first; turn by turn the front of them is taken: a mode byte, a byte before a header, or a whole frame where it lies. Nothing is collected.
-use Rattle.std.specs.Prelude.{not, List, [], ◌++◌, ◌∷◌, ◌+◌, ◌/◌, suc, zero, ℕ, eqb, ltb, drop, get_or, length, take}
+use Rattle.std.specs.Prelude.{not, List, [], ◌++◌, ◌∷◌, ◌+◌, ◌/◌, suc, zero, ℕ, eqb, ltb, drop, get_or, length, take, Err, Ok, Result}
 use Rattle.chip_core.specs.Effect.{Memory}
 use Rattle.chip_core.specs.Hearing.{hearing}
 use Rattle.chip_core.specs.declared.Core.{Core}
 use Rattle.chip_core.specs.declared.Hearing.{Hearing}
 use Rattle.chip_core.specs.declared.Hearing.TheVariants.{HearsCommands, HearsData, HearsNothing}
 use Rattle.chip_frame.specs.Does.{frame_does, mode_byte}
-use Rattle.chip_reply.specs.Reply.{fault_in, frames_of, payloads}
+use Rattle.chip_reply.specs.Reply.{fault_in, frames_of, payloads, sent_as}
 use Rattle.chip_state.specs.Refusals.{verdict_on}
 use Rattle.chip_state.specs.declared.Chip.{Chip}
-use Rattle.engine.specs.declared.EngineAnswer.{EngineAnswer}
-use Rattle.engine.specs.declared.EngineAnswer.TheVariants.{NoRoom, Replied}
-use Rattle.engine.specs.declared.EngineAnswer.TheVariants as EngineAnswer
+use Rattle.part.specs.declared.refusal.Refusal.{Refusal}
+use Rattle.engine.specs.declared.EngineRefusal.TheVariants.{NoRoom}
+use Rattle.engine.specs.declared.EngineRefusal.{EngineRefusal}
+use Rattle.chip_reply.specs.declared.Sent.{Sent}
 use Rattle.engine.specs.declared.Front.{Front}
 use Rattle.engine.specs.declared.Front.TheVariants.{Held, Mode, Skipped, Whole}
 use Rattle.engine.specs.declared.Played.{Played}
@@ -24,8 +25,6 @@ use Rattle.frame.specs.declared.Header.TheVariants.{Command, Data}
 use Rattle.frame.specs.declared.judgement.Judgement.{Judgement}
 use Rattle.frame.specs.declared.judgement.Judgement.TheVariants.{Good}
 use Rattle.part.specs.declared.Part.{Part}
-use Rattle.part.specs.declared.refusal.Verdict.{Verdict}
-use Rattle.part.specs.declared.refusal.Verdict.TheVariants.{Accepted, Refused}
 use Rattle.words.specs.Words.{if◌then◌otherwise◌}
 
 -- What lies at the front of the bytes ahead, by what the phase hears. Before the header that is awaited bytes are skipped; from it on a frame is whole at LEN + 4
@@ -98,7 +97,7 @@ played_out p x = turns (length x.ahead) p x
 
 -- What is left: the answer, the faults, the chip and all that was lent.
 pub record EngineLeft : Type 0 where
-  pub answer : EngineAnswer
+  pub answer : Result Sent EngineRefusal
   pub faults : ℕ
   pub first : Judgement
   pub chip : Chip
@@ -115,7 +114,7 @@ begins c bs m = facing (heard c.collector ++ bs) (record { core = c.core; memory
 unfoldable pub leaves : Plain → Chip → List ℕ → EngineLeft
 leaves x c room =
     record {
-      answer = Replied (length x.stands.said) x.stands.frames;
+      answer = Ok (sent_as (length x.stands.said) x.stands.frames);
       faults = x.stands.faults;
       first = x.stands.first;
       chip = record { core = x.stands.core; collector = holding c.collector x.ahead };
@@ -123,14 +122,14 @@ leaves x c room =
       room = x.stands.said ++ drop (length x.stands.said) room;
     }
 
-abbrev pub refused_with : EngineAnswer → Chip → Memory → List ℕ → EngineLeft
+abbrev pub refused_with : Result Sent EngineRefusal → Chip → Memory → List ℕ → EngineLeft
 refused_with a c m room = record { answer = a; faults = 0; first = Good; chip = c; memory = m; room = room }
 
 -- "12 if the reply room is shorter than 32 bytes for each byte fed, in place of 4": after 1, 2, 3 and 9, which are a byte's in enough room.
-unfoldable pub engine_by : Verdict → Part → List ℕ → Chip → Memory → List ℕ → EngineLeft
-engine_by (Refused r) p bs c m room = refused_with (EngineAnswer.Refused r) c m room
-engine_by Accepted p bs c m room =
-    if ltb (length room / 32) (length bs) then refused_with NoRoom c m room
+unfoldable pub engine_by : Result Unit Refusal → Part → List ℕ → Chip → Memory → List ℕ → EngineLeft
+engine_by (Err r) p bs c m room = refused_with (Err (EngineRefusal.Refused r)) c m room
+engine_by (Ok _) p bs c m room =
+    if ltb (length room / 32) (length bs) then refused_with (Err NoRoom) c m room
     otherwise leaves (played_out p (begins c bs m)) c room
 
 unfoldable pub engine_of : Part → List ℕ → Chip → Memory → List ℕ → EngineLeft

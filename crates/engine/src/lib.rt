@@ -2,7 +2,7 @@
 // frame that the chip held the begin of is joined first. What a frame does is one definition for both chips.
 #![tactic(auto)]
 
-ghost use Rattle.std.specs.Prelude.{◌≡◌, true, ◌++◌, ◌+◌, ◌-◌, ◌*◌, ◌≤◌, ◌<◌, ltb, drop, get_or, length, take};
+ghost use Rattle.std.specs.Prelude.{◌≡◌, true, ◌++◌, ◌+◌, ◌-◌, ◌*◌, ◌≤◌, ◌<◌, ltb, drop, get_or, length, take, Ok};
 ghost use Rattle.chip_core.specs.Effect.{memory};
 ghost use Rattle.chip_state.specs.Refusals.{verdict_on};
 ghost use Rattle.engine.specs.Engine.{after_frame, begins, engine_left, engine_of, front_for, front_of, leaves, facing, played_out};
@@ -12,20 +12,19 @@ ghost use Rattle.frame.specs.Frame.{counted};
 ghost use Rattle.frame.specs.Judgement.{is_good};
 ghost use Rattle.words.specs.Words.{if◌then◌otherwise◌};
 ghost use Rattle.part.specs.Part.{described};
-ghost use Rattle.part.specs.declared.refusal.Verdict.TheVariants.{Accepted};
 
 use chip_core::{Core, Hearing};
+use chip_reply::Sent;
 use chip_state::{Chip, Handed};
 use frame::Header;
 use frame::collector::Collector;
 use frame::judgement::Judgement;
 use part::Part;
-use part::refusal::{Refusal, Verdict};
+use part::refusal::Refusal;
 
-// What the engine answers: so many bytes and frames of replies, or that it is refused, for a chip's reason or for want of room.
-#[derive(Clone, Copy)]
-pub enum EngineAnswer {
-    Replied { bytes: usize, frames: usize },
+// Why the engine refuses: for a chip's reason, or for want of room.
+#[derive(Clone, Copy, Debug, PartialEq, Eq)]
+pub enum EngineRefusal {
     Refused(Refusal),
     NoRoom,
 }
@@ -33,7 +32,7 @@ pub enum EngineAnswer {
 // What a stretch leaves beside what is lent: the answer, how many of its frames were judged bad, the judgement of the first of them, and the chip.
 #[derive(Clone, Copy)]
 pub struct Played {
-    pub answer: EngineAnswer,
+    pub answer: Result<Sent, EngineRefusal>,
     pub faults: usize,
     pub first: Judgement,
     pub chip: Chip,
@@ -219,15 +218,15 @@ fn ended(reached: Reached, collector: Collector, held: &[u8]) -> Played
     ensures { result ≡ ended_of reached.core reached.told collector held.now }
 {
     let mut bytes = collector.bytes;
-    lent::put(&mut bytes, 0, held);
+    let _ = lent::put(&mut bytes, 0, held);
     let core = reached.core;
     let told = reached.told;
     let first = told.first;
     Played {
-        answer: EngineAnswer::Replied {
+        answer: Ok(Sent {
             bytes: told.bytes,
             frames: told.frames,
-        },
+        }),
         faults: told.faults,
         first,
         chip: Chip {
@@ -265,7 +264,7 @@ fn begin(collector: Collector, bytes: &[u8]) -> Begun
     let count = collector.len;
     let k = room_behind(count, bytes.len());
     let mut begun = collector.bytes;
-    lent::put(&mut begun, count, &bytes[0..k]);
+    let _ = lent::put(&mut begun, count, &bytes[0..k]);
     Begun {
         bytes: begun,
         len: count + k,
@@ -283,7 +282,7 @@ fn play_stretch(
     sums: &mut [u16; 72],
     room: &mut [u8],
 ) -> Played
-    requires { (verdict_on part chip (length code.old) (length «data».old) 32 ≡ Accepted) × (32 * length bytes.now ≤ length room.old) }
+    requires { (verdict_on part chip (length code.old) (length «data».old) 32 ≡ Ok tt) × (32 * length bytes.now ≤ length room.old) }
     ensures { engine_left result (memory code.new «data».new sums.new) room.new
         ≡ leaves (played_out part (begins chip bytes.now (memory code.old «data».old sums.old))) chip room.old }
 {
@@ -350,16 +349,16 @@ pub fn play(
     };
     let v = chip_state::verdict(part, core, handed);
     match v {
-        Verdict::Refused(refusal) => Played {
-            answer: EngineAnswer::Refused(refusal),
+        Err(refusal) => Played {
+            answer: Err(EngineRefusal::Refused(refusal)),
             faults: 0,
             first: Judgement::Good,
             chip,
         },
-        Verdict::Accepted => {
+        Ok(()) => {
             if room.len() / 32 < bytes.len() {
                 return Played {
-                    answer: EngineAnswer::NoRoom,
+                    answer: Err(EngineRefusal::NoRoom),
                     faults: 0,
                     first: Judgement::Good,
                     chip,

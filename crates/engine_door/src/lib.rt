@@ -7,8 +7,7 @@ ghost use Rattle.engine_door.specs.Calls.{engine_through, engine_told};
 ghost use Rattle.part_layout.specs.Layout.{part_in};
 
 use chip_layout::admission;
-use engine::EngineAnswer;
-use part::refusal::Verdict;
+use engine::EngineRefusal;
 
 // All bytes of the stretch are taken. The replies lie end to end at the start of the room: told are their bytes and frames, how many frames were judged bad, and the
 // fault of the first of them with its place.
@@ -29,24 +28,21 @@ pub fn zc_engine(
     let p = part_layout::part_in(part);
     let v = admission::chip_admission(p, state, code.len(), data.len());
     match v {
-        Verdict::Refused(refusal) => refusal.number() as u32,
-        Verdict::Accepted => {
+        Err(refusal) => refusal.number() as u32,
+        Ok(()) => {
             let chip = chip_layout::chip_in(state);
             let played = engine::play(p, chip, fed, code, data, sums, room);
             let answer = played.answer;
             match answer {
-                EngineAnswer::Refused(refusal) => refusal.number() as u32,
-                EngineAnswer::NoRoom => 12,
-                EngineAnswer::Replied {
-                    bytes: n,
-                    frames: k,
-                } => {
+                Err(EngineRefusal::Refused(refusal)) => refusal.number() as u32,
+                Err(EngineRefusal::NoRoom) => 12,
+                Ok(sent) => {
                     chip_layout::lay_chip(played.chip, state);
                     let first = played.first;
                     let fault = first.fault();
                     *told = [
-                        n as u64,
-                        k as u64,
+                        sent.bytes as u64,
+                        sent.frames as u64,
                         played.faults as u64,
                         fault.number as u64,
                         fault.place as u64,

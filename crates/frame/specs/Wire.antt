@@ -1,5 +1,5 @@
 -- Frames written into lent room: document 01, "Frames"; and reply frames judged: "The dock's flow" (what makes a reply frame readable) and document 02, §4.
-use Rattle.std.specs.Prelude.{ℕ, ◌+◌, Bool, not, ltb, List, ◌++◌, length, take, drop, ◌==◌, nat_lt, slice_index}
+use Rattle.std.specs.Prelude.{ℕ, ◌+◌, Bool, not, ltb, List, ◌++◌, length, take, drop, ◌==◌, nat_lt, slice_index, Err, Ok, Result}
 use Rattle.frame.specs.Frame.{counted, framed, header_byte, overhead}
 use Rattle.frame.specs.Judgement.{judge_of}
 use Rattle.frame.specs.declared.Footer.{Footer}
@@ -8,16 +8,16 @@ use Rattle.frame.specs.declared.Header.{Header}
 use Rattle.frame.specs.declared.Header.TheVariants.{Data}
 use Rattle.frame.specs.declared.judgement.Judgement.{Judgement}
 use Rattle.frame.specs.declared.judgement.Judgement.TheVariants.{UnfitLength, WrongFirst}
-use Rattle.frame.specs.declared.wire.Wrote.{Wrote}
-use Rattle.frame.specs.declared.wire.Wrote.TheVariants.{Long, NoRoom, UnfitPayload}
+use Rattle.frame.specs.declared.wire.WriteError.TheVariants.{NoRoom, UnfitPayload}
+use Rattle.frame.specs.declared.wire.WriteError.{WriteError}
 use Rattle.words.specs.Words.{◌and◌, ◌from◌to◌, ◌or◌, if◌then◌otherwise◌}
 
 -- What writing leaves: its answer, and the whole room.
 pub record Writing : Type 0 where
-  pub answer : Wrote
+  pub answer : Result ℕ WriteError
   pub room : List ℕ
 
-abbrev pub wrote : Wrote → List ℕ → Writing
+abbrev pub wrote : Result ℕ WriteError → List ℕ → Writing
 wrote a r = record { answer = a; room = r }
 
 -- The frame lies at the start of the room, and the room past it stays.
@@ -27,9 +27,9 @@ laid room h ds f = framed h ds f ++ drop (length ds + overhead) room
 -- A payload is 1 to 256 bytes.
 unfoldable pub write_of : List ℕ → Header → List ℕ → Footer → Writing
 write_of room h ds f =
-    if not (length ds from 1 to 256) then wrote UnfitPayload room
-    otherwise if nat_lt (length room) (length ds + overhead) then wrote NoRoom room
-    otherwise wrote (Long (length ds + overhead)) (laid room h ds f)
+    if not (length ds from 1 to 256) then wrote (Err UnfitPayload) room
+    otherwise if nat_lt (length room) (length ds + overhead) then wrote (Err NoRoom) room
+    otherwise wrote (Ok (length ds + overhead)) (laid room h ds f)
 
 -- "a frame cut short, overlong or without LEN is an unfit LEN" (document 02, §4), at the front of these bytes: its LEN is not that of the n bytes that are
 -- expected of it, or it has not come whole, or, of the last frame of an answer, something follows. Where LEN has not come the frame is not whole.

@@ -3,8 +3,6 @@ ghost use Rattle.std.specs.Prelude.{◌≡◌, ◌<◌};
 ghost use Rattle.frame.specs.Collector.{added, add_of, adding, collecting, fresh, byte_of, dropped};
 ghost use Rattle.frame.specs.Inner.Collector.{stored};
 
-use lent::Room;
-
 // The bytes past `len` are spare: no method touches them.
 #[derive(Clone, Copy)]
 pub struct Collector {
@@ -13,6 +11,7 @@ pub struct Collector {
 }
 
 impl Collector {
+    #[tactic(auto, unfolding(crate::specs::Collector::fresh))]
     pub fn new() -> Collector
         ensures { result ≡ fresh }
     {
@@ -29,73 +28,64 @@ impl Collector {
         Collector { bytes, len }
     }
 
-    fn put(self, b: u8) -> Collector
+    #[tactic(auto, unfolding(crate::specs::Inner::Collector::stored))]
+    fn put(mut self, b: u8) -> Collector
         requires { self.len < 260 }
         ensures { result ≡ stored self b }
     {
-        let at = self.len;
-        let mut next = self;
-        next.bytes[at] = b;
-        next.len = at + 1;
-        next
+        self.bytes[self.len] = b;
+        self.len += 1;
+        self
     }
 
+    #[tactic(auto, using(crate::proofs::Laws::Collector::ways))]
     pub fn byte(self, header: super::Header, b: u8) -> Collector
         ensures { result ≡ byte_of self header b }
     {
-        let at = self.len;
-        if at == 0 {
-            if b == header.byte() {
-                return self.put(b);
-            }
+        if self.len == 0 && b != header.byte() {
             return self;
         }
-        if at == 1 {
-            return self.put(b);
-        }
-        if super::needed(self.bytes[1]) <= at {
+        if super::is_full(self.len, self.bytes[1]) {
             return self;
         }
         self.put(b)
     }
 
     // A byte that is only added. The caller lends an array for the work: one of this function's own would be copied once more (docs/BENCH.md).
+    #[tactic(auto, using(crate::proofs::Laws::Collector::adding_one), unfolding(crate::specs::Inner::Collector::stored))]
     pub fn add(self, b: u8, work: &mut [u8; 260]) -> Collector
         ensures { adding result work.new ≡ add_of self b }
     {
-        let at = self.len;
         let old = self.bytes;
         *work = old;
-        if at < 260 {
-            work[at] = b;
+        if self.len < 260 {
+            work[self.len] = b;
             let bytes = *work;
-            return Collector { bytes, len: at + 1 };
+            return Collector {
+                bytes,
+                len: self.len + 1,
+            };
         }
         self
     }
 
     // Bytes that are only added, at once.
-    pub fn add_all(self, s: &[u8]) -> Collector
+    pub fn add_all(mut self, s: &[u8]) -> Collector
         ensures { result ≡ added self s.now }
     {
-        let mut len = self.len;
-        let mut bytes = self.bytes;
-        let done = lent::put(&mut bytes, len, s);
-        match done {
-            Room::Enough => {
-                len = len + s.len();
-            }
-            Room::Short => {}
+        let at = self.len;
+        match lent::put(&mut self.bytes, at, s) {
+            Ok(()) => self.len = at + s.len(),
+            Err(_) => {}
         }
-        Collector { bytes, len }
+        self
     }
 
+    #[tactic(auto, unfolding(crate::specs::Collector::dropped, crate::specs::Collector::holding))]
     pub fn gap(self) -> Collector
         ensures { result ≡ dropped self }
     {
-        let mut next = self;
-        next.len = 0;
-        next
+        Collector { len: 0, ..self }
     }
 
     pub fn power_on(self) -> Collector

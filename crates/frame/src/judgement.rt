@@ -25,13 +25,7 @@ impl Judgement {
     pub fn is_good(self) -> bool
         ensures { result ≡ is_good self }
     {
-        match self {
-            Judgement::Good => true,
-            Judgement::WrongFooter(at) => false,
-            Judgement::WrongSum(at) => false,
-            Judgement::UnfitLength => false,
-            Judgement::WrongFirst => false,
-        }
+        matches!(self, Judgement::Good)
     }
 
     pub fn status(self) -> u8
@@ -39,67 +33,50 @@ impl Judgement {
     {
         match self {
             Judgement::Good => 0x06,
-            Judgement::WrongFooter(at) => 0x15,
-            Judgement::WrongSum(at) => 0x07,
-            Judgement::UnfitLength => 0x15,
-            Judgement::WrongFirst => 0x15,
+            Judgement::WrongSum(_) => 0x07,
+            Judgement::WrongFooter(_) | Judgement::UnfitLength | Judgement::WrongFirst => 0x15,
         }
     }
 
     pub fn fault(self) -> Fault
         ensures { result ≡ fault_of self }
     {
-        match self {
-            Judgement::Good => Fault {
-                number: 0,
-                place: 0,
-            },
-            Judgement::WrongFooter(at) => Fault {
-                number: 1,
-                place: at,
-            },
-            Judgement::WrongSum(at) => Fault {
-                number: 2,
-                place: at,
-            },
-            Judgement::UnfitLength => Fault {
-                number: 3,
-                place: 1,
-            },
-            Judgement::WrongFirst => Fault {
-                number: 4,
-                place: 0,
-            },
-        }
+        let (number, place) = match self {
+            Judgement::Good => (0, 0),
+            Judgement::WrongFooter(at) => (1, at),
+            Judgement::WrongSum(at) => (2, at),
+            Judgement::UnfitLength => (3, 1),
+            Judgement::WrongFirst => (4, 0),
+        };
+        Fault { number, place }
     }
 }
 
 // Given the footer that the state expects.
+#[tactic(auto, using(crate::proofs::Laws::Judgement::judged))]
 pub fn judge(footer: Footer, bytes: &[u8]) -> Judgement
     ensures { result ≡ judge_of footer bytes.now }
 {
     let n = bytes.len();
-    if super::is_frame(bytes) {
-        if bytes[n - 1] == footer.byte() {
-            if bytes[n - 2] == sum::sum8(0x00, &bytes[1..n - 2]) {
-                return Judgement::Good;
-            }
-            return Judgement::WrongSum((n - 2) as u16);
-        }
+    if !super::is_frame(bytes) {
+        return Judgement::UnfitLength;
+    }
+    if bytes[n - 1] != footer.byte() {
         return Judgement::WrongFooter((n - 1) as u16);
     }
-    Judgement::UnfitLength
+    if bytes[n - 2] != sum::sum8(0x00, &bytes[1..n - 2]) {
+        return Judgement::WrongSum((n - 2) as u16);
+    }
+    Judgement::Good
 }
 
 // Given the footer and the length that the state expects.
+#[tactic(auto, using(crate::proofs::Laws::Judgement::fitted))]
 pub fn judge_fit(footer: Footer, length: usize, bytes: &[u8]) -> Judgement
     ensures { result ≡ fitting length bytes.now (judge_of footer bytes.now) }
 {
     let j = judge(footer, bytes);
-    if j.is_good() {
-        if bytes.len() - super::OVERHEAD == length {
-            return j;
-        }
+    if j.is_good() && bytes.len() - super::OVERHEAD != length {
         return Judgement::UnfitLength;
     }
     j

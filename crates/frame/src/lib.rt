@@ -62,67 +62,54 @@ pub fn len_byte(n: usize) -> u8
 }
 
 // How many bytes a LEN counts.
+#[tactic(auto, using(crate::proofs::Laws::Frame::counts))]
 pub fn counted(len: u8) -> usize
     ensures { result ≡ counted len }
 {
-    if len == 0x00 {
-        return 256;
+    match len {
+        0x00 => 256,
+        _ => usize::from(len),
     }
-    len as usize
 }
 
 // How many bytes a frame of this LEN has, at most 260.
+#[tactic(auto, using(crate::proofs::Laws::Frame::counts))]
 fn needed(len: u8) -> usize
     ensures { (result ≡ counted len + 4) × (counted len ≤ 256) }
 {
-    counted(len) + 4
+    counted(len) + OVERHEAD
 }
 
 // Whether so many bytes are as many as a frame of this LEN needs.
+#[tactic(auto, using(crate::proofs::Laws::Frame::full_is))]
 pub fn is_full(count: usize, len: u8) -> bool
     ensures { result ≡ full count len }
 {
-    if count < 2 {
-        return false;
-    }
-    needed(len) <= count
+    2 <= count && needed(len) <= count
 }
 
 // How many of the bytes still to come are added without completing the frame, its header and LEN having come.
+#[tactic(auto, using(crate::proofs::Laws::Frame::lacks_by_tests))]
 pub fn lacking(count: usize, len: u8, rest: usize) -> usize
     ensures { result ≡ lacking_of count len rest }
 {
     if count < 2 {
         return 0;
     }
-    let last = counted(len) + BEFORE_LAST;
-    if last <= count {
-        return 0;
-    }
-    let n = last - count;
-    if rest < n {
-        return rest;
-    }
-    n
+    rest.min((counted(len) + BEFORE_LAST).saturating_sub(count))
 }
 
+#[tactic(auto, using(crate::proofs::Laws::Frame::frame_is))]
 pub fn is_frame(bytes: &[u8]) -> bool
     ensures { result ≡ is_frame bytes.now }
 {
-    let n = bytes.len();
-    if n < 2 {
-        return false;
-    }
-    n == needed(bytes[1])
+    2 <= bytes.len() && bytes.len() == needed(bytes[1])
 }
 
 // The payload of a complete frame; what is too short to be one has none.
+#[tactic(auto, unfolding(crate::specs::Frame::payload))]
 pub fn payload(bytes: &[u8]) -> &[u8]
     ensures { result.now ≡ payload bytes.now }
 {
-    let n = bytes.len();
-    if n < 4 {
-        return &bytes[n..n];
-    }
-    &bytes[2..n - 2]
+    lent::span(bytes, PAYLOAD_AT, bytes.len().saturating_sub(OVERHEAD))
 }

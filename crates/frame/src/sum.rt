@@ -2,34 +2,28 @@
 ghost use Rattle.std.specs.Prelude.{◌≡◌};
 ghost use Rattle.frame.specs.Sum.{less, less_all};
 
+#[tactic(auto, using(crate::proofs::Laws::Sum::less_is))]
 pub fn less8(sum: u8, byte: u8) -> u8
     ensures { result ≡ less 256 sum byte }
 {
-    std::num::wrapping_sub_u8(sum, byte)
+    sum.wrapping_sub(byte)
 }
 
+#[tactic(auto, using(crate::proofs::Laws::Sum::less_is))]
 pub fn less16(sum: u16, byte: u8) -> u16
     ensures { result ≡ less 65536 sum byte }
 {
-    std::num::wrapping_sub_u16(sum, byte as u16)
+    sum.wrapping_sub(u16::from(byte))
 }
 
 pub fn sum8(start: u8, bytes: &[u8]) -> u8
     ensures { result ≡ less_all 256 start bytes.now }
 {
-    let mut sum = start;
-    for i in 0..bytes.len() {
-        sum = less8(sum, bytes[i]);
-    }
-    sum
+    bytes.iter().fold(start, |sum, &b| less8(sum, b))
 }
 
 pub fn sum16(start: u16, bytes: &[u8]) -> u16
     ensures { result ≡ less_all 65536 start bytes.now }
 {
-    let mut sum = start;
-    for i in 0..bytes.len() {
-        sum = less16(sum, bytes[i]);
-    }
-    sum
+    bytes.iter().fold(start, |sum, &b| less16(sum, b))
 }

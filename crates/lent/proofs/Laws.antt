@@ -1,6 +1,6 @@
 -- Laws about bytes put into lent room and bytes compared, and about a frame or a reply that is written from the room's start, piece by piece.
 -- Assumes nothing.
-use mathlib.Core.Bool.{Bool, false, false≢true, true}
+use mathlib.Core.Bool.{◌&&◌, Bool, false, false≢true, true}
 use mathlib.Core.List.{List, [], ◌++◌, ◌∷◌, append_assoc, append-nil}
 use mathlib.Core.Path.{◌∙◌, ◌≡◌, ap, refl, sym}
 use Prim.Native.Nat.{◌+◌, ◌-◌, ◌<◌, ◌≤◌, suc, ℕ}
@@ -8,26 +8,29 @@ use native.Mathlib.Decide.{dec_le}
 use native.Mathlib.Numerals.{add-one}
 use native.Mathlib.Omega.{arith}
 use lib.Dec.{eqb}
-use lib.ListN.{drop, drop_of_length-le, get_or, length, length-append, length-drop, length-take, replicate, set, take}
-use lib.Seq.{append_snoc, drop-append-add, drop-cons, drop-drop, drop-length, length-take-le, set-append_seam, take_all, take-append_seam, take-length, take-nil}
+use lib.ListN.{drop, drop_of_length-le, get_or, length, length-append, length-drop, replicate, set, take}
+use lib.Seq.{append_snoc, drop-append-add, drop-cons, drop-drop, length-take-le, set-append_seam, take_all, take-append_seam, take-length}
 use borrow.Author.Tests.{eq-eqb, eqb-true, le-leb, lt-leb}
 use native.Mathlib.Nat.{add-zero}
+use Rattle.std.specs.Cmp.Lexicographic.{pointwise}
+use Rattle.std.specs.List.{list_all}
+use Rattle.std.proofs.lemmas.List.Folds.{list_all_more}
 use Rattle.lent.specs.Lent.{Left, all_are, left, put_at, put_of, same}
-use Rattle.lent.specs.declared.Room.{Room}
-use Rattle.lent.specs.declared.Room.TheVariants.{Enough, Short}
-use Rattle.words.proofs.Laws.{and_assoc, and_both, and-false, and_left, and_right, and-true}
+use Rattle.lent.specs.declared.Short.{Short}
+use Rattle.std.specs.Prelude.{Err, Ok, Result}
+use Rattle.words.proofs.Laws.{and_both, and-false, and_left, and_right}
 use Rattle.words.specs.Words.{◌and◌, if◌then◌otherwise◌}
 
-pub put-short : (l : List ℕ) (at : ℕ) (s : List ℕ) → length l < at + length s → left Short l ≡ put_of l at s
+pub put-short : (l : List ℕ) (at : ℕ) (s : List ℕ) → length l < at + length s → left (Err (record {})) l ≡ put_of l at s
 unfolding put_of if◌then◌otherwise◌
 put-short l at s h = simp (lt-leb _ _ h)
 
-pub put-lands : (l : List ℕ) (at : ℕ) (s : List ℕ) → at + length s ≤ length l → put_of l at s ≡ left Enough (put_at l at s)
+pub put-lands : (l : List ℕ) (at : ℕ) (s : List ℕ) → at + length s ≤ length l → put_of l at s ≡ left (Ok tt) (put_at l at s)
 unfolding put_of if◌then◌otherwise◌
 put-lands l at s h = simp (le-leb _ _ h)
 
 -- Neither answer changes how many bytes there are.
-pub put-long : {a : Room} {d : List ℕ} (l : List ℕ) (at : ℕ) (s : List ℕ) → left a d ≡ put_of l at s → length d ≡ length l
+pub put-long : {a : Result Unit Short} {d : List ℕ} (l : List ℕ) (at : ℕ) (s : List ℕ) → left a d ≡ put_of l at s → length d ≡ length l
 unfolding put_at
 put-long {a} {d} l at s e = go (dec_le (at + length s) (length l))
   where
@@ -47,14 +50,14 @@ put-nothing l at h = go (dec_le (at + 0) (length l))
     go (no k) = ap (λ (x : Left). x.bytes) (put-short l at [] (omega arith))
 
 -- A part of n bytes from at on, lent and changed to t, comes back in this form.
-pub part-put : (l : List ℕ) (at n : ℕ) (t : List ℕ) → at + n ≤ length l → length t ≡ n → left Enough (take at l ++ (t ++ drop n (drop at l))) ≡ put_of l at t
+pub part-put : (l : List ℕ) (at n : ℕ) (t : List ℕ) → at + n ≤ length l → length t ≡ n → left (Ok tt) (take at l ++ (t ++ drop n (drop at l))) ≡ put_of l at t
 unfolding put_at
 part-put l at n t h e = rw (put-lands l at t (omega arith), e, drop-drop, append_assoc)
 
 -- A part from at to the end, lent to `bytes::copy`, comes back in this form.
 pub copied : (l : List ℕ) (at : ℕ) (s t : List ℕ) → at + length s ≤ length l
     → t ≡ take (length s) s ++ drop (length s) (take (length l - at) (drop at l))
-    → left Enough (take at l ++ (t ++ drop (length l - at) (drop at l))) ≡ put_of l at s
+    → left (Ok tt) (take at l ++ (t ++ drop (length l - at) (drop at l))) ≡ put_of l at s
 unfolding put_at
 copied l at s t h e =
     let long : length (drop at l) ≤ length l - at = rw length-drop (omega arith) in
@@ -83,23 +86,23 @@ written_byte {w} {r} {l} at b p e h =
     rw (n, p.is, e, drop-cons r (length w) 0 (omega arith), set-append_seam, append_snoc) in
     record { is = i; room = m; long = ap length i ∙ is-long (w ++ b ∷ []) r m }
 
-pub written-put : {w r l l' : List ℕ} {a : Room} (at : ℕ) (s : List ℕ) → Written w r l → left a l' ≡ put_of l at s → at ≡ length w
+pub written-put : {w r l l' : List ℕ} {a : Result Unit Short} (at : ℕ) (s : List ℕ) → Written w r l → left a l' ≡ put_of l at s → at ≡ length w
     → at + length s ≤ length r → Written (w ++ s) r l'
 unfolding put_at
 written-put {w} {r} {l} {l'} {a} at s p e f h =
     let n : length (w ++ s) ≡ length w + length s = length-append w s in
     let m : length (w ++ s) ≤ length r = omega arith in
-    let v : left a l' ≡ left Enough (put_at l at s) = e ∙ put-lands l at s (omega (arith, p.long)) in
+    let v : left a l' ≡ left (Ok tt) (put_at l at s) = e ∙ put-lands l at s (omega (arith, p.long)) in
     let i : l' ≡ (w ++ s) ++ drop (length (w ++ s)) r =
     ap (λ (x : Left). x.bytes) v ∙ rw (n, p.is, f, take-append_seam, drop-append-add, drop-drop) in
     record { is = i; room = m; long = ap length i ∙ is-long (w ++ s) r m }
 
 -- What is written from the room's start was put there.
-pub written-laid : {w r l : List ℕ} → Written w r l → left Enough l ≡ put_of r 0 w
+pub written-laid : {w r l : List ℕ} → Written w r l → left (Ok tt) l ≡ put_of r 0 w
 unfolding put_at
 written-laid {w} {r} {l} p =
     let z : 0 + length w ≡ length w = omega arith in
-    ap (left Enough) (p.is ∙ ap (λ (n : ℕ). w ++ drop n r) (sym z)) ∙ sym (put-lands r 0 w (omega (arith, p.room)))
+    ap (left (Ok tt)) (p.is ∙ ap (λ (n : ℕ). w ++ drop n r) (sym z)) ∙ sym (put-lands r 0 w (omega (arith, p.room)))
 
 -- Bytes that are all v are so many bytes v, and nothing else.
 pub all-is : (v : ℕ) (bs : List ℕ) → all_are v bs ≡ true → bs ≡ replicate (length bs) v
@@ -107,40 +110,29 @@ unfolding all_are
 all-is v [] t = refl
 all-is v (b ∷ bs) t = ap (λ (x : ℕ). x ∷ bs) (eqb-true b v (and_left _ _ t)) ∙ ap (λ (r : List ℕ). v ∷ r) (all-is v bs (and_right (eqb b v) _ t))
 
--- How far a test that each byte is v has come: t is what the flag makes of the rest.
-pub record AllFrom (v : ℕ) (ok : Bool) (bs : List ℕ) (i : ℕ) (t : Bool) : Type 0 where
-  pub rest : ok and all_are v (drop i bs) ≡ t
-
-pub all_start : (v : ℕ) (bs : List ℕ) → AllFrom v true bs 0 (all_are v bs)
+-- std's `&&` is the word `and`.
+pub both_is : (a b : Bool) → (a && b) ≡ a and b
 unfolding ◌and◌
-all_start v bs = record { rest = refl }
+both_is true b = refl
+both_is false b = refl
 
-pub all-turn : {v : ℕ} {ok r t : Bool} {bs : List ℕ} {i : ℕ} → AllFrom v ok bs i t → r ≡ (ok and eqb (get_or bs i 0) v) → i < length bs
-    → AllFrom v r bs (i + 1) t
+-- A test of each byte is std's.
+pub all_is_listed : (v : ℕ) (bs : List ℕ) → all_are v bs ≡ list_all (λ b. eqb b v) bs
 unfolding all_are
-all-turn {v} {ok} {r} {t} {bs} {i} f e h = record { rest = rw (e, add-one, and_assoc) (rw (drop-cons bs i 0 h) at f.rest) }
+all_is_listed v [] = refl
+all_is_listed v (b ∷ bs) = rw (all_is_listed v bs, both_is)
 
-pub all_end : {v : ℕ} {ok t : Bool} {bs : List ℕ} {i : ℕ} → AllFrom v ok bs i t → length bs ≤ i → ok ≡ t
-unfolding all_are
-all_end {v} {ok} {t} {bs} {i} f h = rw (drop_of_length-le bs h, and-true) at f.rest
+-- One more byte, as at a turn of a loop.
+pub all_are_more : (v : ℕ) (bs : List ℕ) (i : ℕ) → i < length bs → all_are v (take (i + 1) bs) ≡ (all_are v (take i bs) && eqb (get_or bs i 0) v)
+all_are_more v bs i h = rw (all_is_listed v (take (i + 1) bs), all_is_listed v (take i bs)) (list_all_more (λ b. eqb b v) bs i 0 h)
 
--- How far a test of two lists of one length has come: t is what the flag makes of the rest.
-pub record SameFrom (ok : Bool) (bs cs : List ℕ) (i : ℕ) (t : Bool) : Type 0 where
-  pub rest : ok and same (drop i bs) (drop i cs) ≡ t
-
-pub same_start : (bs cs : List ℕ) → SameFrom true bs cs 0 (same bs cs)
-unfolding ◌and◌
-same_start bs cs = record { rest = refl }
-
-pub same_turn : {ok r t : Bool} {bs cs : List ℕ} {i : ℕ} → SameFrom ok bs cs i t → r ≡ (ok and eqb (get_or bs i 0) (get_or cs i 0)) → i < length bs
-    → i < length cs → SameFrom r bs cs (i + 1) t
+-- What `==` says of two stretches.
+pub same_is_pointwise : (bs cs : List ℕ) → same bs cs ≡ pointwise eqb bs cs
 unfolding same
-same_turn {ok} {r} {t} {bs} {cs} {i} f e h k =
-    record { rest = rw (e, add-one, and_assoc) (rw (drop-cons bs i 0 h, drop-cons cs i 0 k) at f.rest) }
-
-pub same_end : {ok t : Bool} {bs cs : List ℕ} {i : ℕ} → SameFrom ok bs cs i t → length bs ≤ i → length cs ≤ i → ok ≡ t
-unfolding same
-same_end {ok} {t} {bs} {cs} {i} f h k = rw (drop_of_length-le bs h, drop_of_length-le cs k, and-true) at f.rest
+same_is_pointwise [] [] = refl
+same_is_pointwise [] (c ∷ cs) = refl
+same_is_pointwise (b ∷ bs) [] = refl
+same_is_pointwise (b ∷ bs) (c ∷ cs) = rw (same_is_pointwise bs cs, both_is)
 
 pub same-is : (bs cs : List ℕ) → same bs cs ≡ true → bs ≡ cs
 unfolding same
@@ -165,29 +157,9 @@ same-apart (b ∷ bs) (c ∷ cs) d = and-false (eqb b c) (same-apart bs cs (λ e
 pub written-full : {w r l : List ℕ} → Written w r l → length r ≤ length w → l ≡ w
 written-full {w} {r} {l} p h = p.is ∙ rw (drop_of_length-le r h, append-nil)
 
--- Fewer bytes from a place on than the others are.
-pub same-fewer : (bs cs : List ℕ) (at : ℕ) → length bs < at + length cs → 1 ≤ length cs → false ≡ same (take (length cs) (drop at bs)) cs
-same-fewer bs cs at h k =
-    let l : length (take (length cs) (drop at bs)) ≤ length bs - at = simp (length-take, length-drop) (omega arith) in
-    same-apart (take (length cs) (drop at bs)) cs (λ e. omega arith)
-
-pub same_none : (bs cs : List ℕ) (at : ℕ) → length cs ≡ 0 → true ≡ same (take (length cs) (drop at bs)) cs
-unfolding same
-same_none bs [] at e = refl
-same_none bs (c ∷ cs) at e = absurd (omega arith)
-
--- A stretch that may run past the end.
-pub past_end : (l : List ℕ) (at n : ℕ) → length l ≤ at → take (length l - length l) (drop (length l) l) ≡ take n (drop at l)
-past_end l at n h = rw (drop-length, take-nil, drop_of_length-le l h, take-nil)
-
-pub to_end : (l : List ℕ) (at n : ℕ) → length l - at ≤ n → take (length l - at) (drop at l) ≡ take n (drop at l)
-to_end l at n h =
-    let k : length (drop at l) ≡ length l - at = length-drop at l in
-    take_all (length l - at) (drop at l) (omega arith) ∙ sym (take_all n (drop at l) (omega arith))
-
 pub amid : (l : List ℕ) (at n : ℕ) → take (at + n - at) (drop at l) ≡ take n (drop at l)
 amid l at n = let e : at + n - at ≡ n = omega arith in rw e
 
 -- Bytes put into an array of their own length are the array.
-pub put_whole : (r l s : List ℕ) (a : Room) → left a l ≡ put_of r 0 s → length s ≡ length r → l ≡ s
+pub put_whole : (r l s : List ℕ) (a : Result Unit Short) → left a l ≡ put_of r 0 s → length s ≡ length r → l ≡ s
 put_whole r l s a e h = written-full (written-put 0 s (written_start r) e refl (omega arith)) (omega arith)

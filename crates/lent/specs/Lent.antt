@@ -1,7 +1,6 @@
 -- Bytes put at a place in lent room: what is there afterwards, and the answer. Bytes that all have one value; whether two stretches are equal.
-use Rattle.std.specs.Prelude.{Bool, false, true, List, [], ◌++◌, ◌∷◌, ◌+◌, ℕ, eqb, leb, drop, length, take}
-use Rattle.lent.specs.declared.Room.{Room}
-use Rattle.lent.specs.declared.Room.TheVariants.{Enough, Short}
+use Rattle.std.specs.Prelude.{Bool, false, true, List, [], ◌++◌, ◌∷◌, ◌+◌, ℕ, eqb, leb, drop, length, take, Err, Ok, Result}
+use Rattle.lent.specs.declared.Short.{Short}
 use Rattle.words.specs.Words.{◌and◌, if◌then◌otherwise◌}
 
 -- l with the bytes s from the place at on; every other byte stays.
@@ -10,14 +9,14 @@ put_at l at s = take at l ++ s ++ drop (at + length s) l
 
 -- What a call leaves: its answer, and all of the lent bytes.
 pub record Left : Type 0 where
-  pub answer : Room
+  pub answer : Result Unit Short
   pub bytes : List ℕ
 
-abbrev pub left : Room → List ℕ → Left
+abbrev pub left : Result Unit Short → List ℕ → Left
 left a l = record { answer = a; bytes = l }
 
 unfoldable pub put_of : List ℕ → ℕ → List ℕ → Left
-put_of l at s = if leb (at + length s) (length l) then left Enough (put_at l at s) otherwise left Short l
+put_of l at s = if leb (at + length s) (length l) then left (Ok tt) (put_at l at s) otherwise left (Err (record {})) l
 
 -- Each of these bytes is v.
 unfoldable pub all_are : ℕ → List ℕ → Bool

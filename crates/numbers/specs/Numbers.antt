@@ -10,6 +10,11 @@ unfoldable pub number_at : ℕ → ℕ → List ℕ → ℕ
 number_at zero at bs = 0
 number_at (suc k) at bs = get_or bs at 0 + 256 * number_at k (at + 1) bs
 
+-- These k bytes.
+unfoldable pub bytes_at : ℕ → ℕ → List ℕ → List ℕ
+bytes_at zero at bs = []
+bytes_at (suc k) at bs = get_or bs at 0 ∷ bytes_at k (at + 1) bs
+
 -- Yes or no as one byte.
 abbrev pub bit : Bool → ℕ
 bit true = 1

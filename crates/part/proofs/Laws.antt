@@ -1,5 +1,7 @@
 -- Laws about a part's areas, addresses and ranges: what chip and dock use instead of the definitions' text.
 -- Assumes nothing.
+use Rattle.part.specs.declared.Place.{Place}
+use Rattle.part.specs.declared.Range.{Range}
 use mathlib.Core.Bool.{Bool, false, true}
 use mathlib.Core.List.{List, [], ◌++◌, ◌∷◌}
 use mathlib.Core.Path.{◌∙◌, ◌≡◌, ap, refl, sym}
@@ -11,17 +13,15 @@ use lib.Dec.{leb-zero, ltb}
 use lib.ListN.{replicate}
 use borrow.Author.Tests.{eq-eqb, eqb-true, le-leb, le-ltb, leb-true, lt-ltb, ltb-false, ltb-true}
 use Rattle.part.proofs.Blocks.{Whole, below, whole, whole-inside, whole-read}
-use Rattle.part.specs.Part.{bare, block_of, block_size, blocks, described, ends_block, first, lies_in, page_of, page_size, pages, place_in, place_of, range_of, size, starts_block, stretch, whole_blocks}
+use Rattle.part.specs.Part.{bare, block_of, block_size, blocks, described, ends_block, first, lies_in, page_of, page_size, pages, place_in, place_of, range_of, size, starts_block, stretch, whole_blocks, place_at, range_at}
 use Rattle.part.specs.Rate.{accepts_rate}
 use Rattle.part.specs.Refusal.{Condition, ◌when◌, first_of, number}
 use Rattle.part.specs.declared.Area.{Area}
 use Rattle.part.specs.declared.Area.TheVariants.{CodeFlash, DataFlash}
 use Rattle.part.specs.declared.Part.{Part}
-use Rattle.part.specs.declared.Place.TheVariants.{In, Outside}
-use Rattle.part.specs.declared.Range.TheVariants.{Bad, Blocks}
+use Rattle.std.specs.Prelude.{Err, None, Ok, Some, Result}
 use Rattle.part.specs.declared.refusal.Refusal.{Refusal}
 use Rattle.part.specs.declared.refusal.Refusal.TheVariants.{BadPart, BadRange, BadState, CodeLength, DataLength, ImageLength, ManyRetries, OutOfTurn, ShortRoom}
-use Rattle.part.specs.declared.refusal.Verdict.TheVariants.{Accepted, Refused}
 use Rattle.words.proofs.Laws.{and_both, and_left, and_right}
 use Rattle.words.specs.Words.{◌and◌, ◌from◌to◌, if◌then◌otherwise◌}
 
@@ -113,28 +113,26 @@ stretch-law p a start end h w =
       inside = whole-inside s pos (blocks p a) x y (x / s) (y / s + 1 - x / s) v (omega (arith, w.ends));
     }
 
-same-range : (p : Part) (start end : ℕ) (a b : Area) (i j m n : ℕ) → Blocks a i m ≡ Blocks b j n → Stretch p start end a i m → Stretch p start end b j n
+same-range : (p : Part) (start end : ℕ) (a b : Area) (i j m n : ℕ) → (Some (range_at a i m)) ≡ Some (range_at b j n) → Stretch p start end a i m → Stretch p start end b j n
 same-range p start end a b i j m n e s =
-    let u : a ≡ b = cc in
-    let v : i ≡ j = cc in
-    let w : m ≡ n = cc in
-    rw (← u, ← v, ← w) s
+    let r : range_at a i m ≡ range_at b j n = cc in
+    rw (← ap (λ (r : Range). r.area) r, ← ap (λ (r : Range). r.block) r, ← ap (λ (r : Range). r.count) r) s
 
-bad-good : (a : Area) (i m : ℕ) → Bad ≡ Blocks a i m → ⊥
+bad-good : (a : Area) (i m : ℕ) → None ≡ Some (range_at a i m) → ⊥
 bad-good a i m e = let z : ◌≡◌ {A = ℕ} 0 1 = cc in omega arith
 
-pub range-good : (p : Part) (start end : ℕ) (a : Area) (block count : ℕ) → range_of p start end ≡ Blocks a block count → Stretch p start end a block count
+pub range-good : (p : Part) (start end : ℕ) (a : Area) (block count : ℕ) → range_of p start end ≡ Some (range_at a block count) → Stretch p start end a block count
 unfolding range_of if◌then◌otherwise◌ stretch
 range-good p start end a block count e = go (ltb end start) refl (whole_blocks p CodeFlash start end) refl (whole_blocks p DataFlash start end) refl e
   where
     in_area : (b : Area) → ltb end start ≡ false → whole_blocks p b start end ≡ true
-        → Blocks b (block_of p b start) (block_of p b end + 1 - block_of p b start) ≡ Blocks a block count → Stretch p start end a block count
+        → (Some (range_at b (block_of p b start) (block_of p b end + 1 - block_of p b start))) ≡ Some (range_at a block count) → Stretch p start end a block count
     in_area b h w e =
         same-range p start end b a (block_of p b start) block (block_of p b end + 1 - block_of p b start) count e
         (stretch-law p b start end (ltb-false end start h) (whole_in p b start end w))
 
     go : (t : Bool) → ltb end start ≡ t → (u : Bool) → whole_blocks p CodeFlash start end ≡ u → (v : Bool) → whole_blocks p DataFlash start end ≡ v
-        → (if t then Bad otherwise if u then stretch p CodeFlash start end otherwise if v then stretch p DataFlash start end otherwise Bad) ≡ Blocks a block count
+        → (if t then None otherwise if u then stretch p CodeFlash start end otherwise if v then stretch p DataFlash start end otherwise None) ≡ Some (range_at a block count)
         → Stretch p start end a block count
     go true h u w v x e = absurd (bad-good a block count e)
     go false h true w v x e = in_area CodeFlash h w e
@@ -180,7 +178,7 @@ module _ (p : Part) (start end : ℕ) (a : Area) (block count : ℕ) (st : Stret
       (and_both (lies-yes (record { low = omega (arith, st.begins, in_order); high = omega (arith, st.ends) }))
       (and_both (eq-eqb _ _ r.start) (eq-eqb _ _ (ap (λ (n : ℕ). n % s) e ∙ r.end))))
 
-  stretch-is : stretch p a start end ≡ Blocks a block count
+  stretch-is : stretch p a start end ≡ Some (range_at a block count)
   unfolding stretch block_of
   stretch-is =
       let r = whole-read (block_size p a) (block_size-pos p a) (start - first a) (end - first a) block count the-whole in
@@ -188,7 +186,7 @@ module _ (p : Part) (start end : ℕ) (a : Area) (block count : ℕ) (st : Stret
 
 -- A range is good exactly when it is such a stretch.
 pub good-range : (p : Part) (start end : ℕ) (a : Area) (block count : ℕ) → described p ≡ true → Stretch p start end a block count
-    → range_of p start end ≡ Blocks a block count
+    → range_of p start end ≡ Some (range_at a block count)
 unfolding range_of if◌then◌otherwise◌
 good-range p start end CodeFlash block count d st =
     simp (le-ltb _ _ (in_order p start end CodeFlash block count st), whole-yes p start end CodeFlash block count st, stretch-is p start end CodeFlash block count st)
@@ -215,20 +213,17 @@ spot-law p a at l =
       block-below = below s (block_size-pos p a) (blocks p a) x (omega (arith, l.low, l.high));
     }
 
-pub place-lies : (p : Part) (at : ℕ) (a : Area) (offset block page : ℕ) → place_of p at ≡ In a offset block page → Spot p at a offset block page
+pub place-lies : (p : Part) (at : ℕ) (a : Area) (offset block page : ℕ) → place_of p at ≡ Some (place_at a offset block page) → Spot p at a offset block page
 unfolding place_of place_in if◌then◌otherwise◌
 place-lies p at a offset block page e = go (lies_in p CodeFlash at) refl (lies_in p DataFlash at) refl e
   where
-    in_area : (b : Area) → lies_in p b at ≡ true → In b (at - first b) (block_of p b at) (page_of p b at) ≡ In a offset block page → Spot p at a offset block page
+    in_area : (b : Area) → lies_in p b at ≡ true → (Some (place_at b (at - first b) (block_of p b at) (page_of p b at))) ≡ Some (place_at a offset block page) → Spot p at a offset block page
     in_area b l e =
-        let u : b ≡ a = cc in
-        let v : at - first b ≡ offset = cc in
-        let w : block_of p b at ≡ block = cc in
-        let x : page_of p b at ≡ page = cc in
-        rw (← x, ← w, ← v, ← u) (spot-law p b at (lies p b at l))
+        let r : place_at b (at - first b) (block_of p b at) (page_of p b at) ≡ place_at a offset block page = cc in
+        rw (← ap (λ (r : Place). r.page) r, ← ap (λ (r : Place). r.block) r, ← ap (λ (r : Place). r.offset) r, ← ap (λ (r : Place). r.area) r) (spot-law p b at (lies p b at l))
 
     go : (t : Bool) → lies_in p CodeFlash at ≡ t → (u : Bool) → lies_in p DataFlash at ≡ u
-        → (if t then place_in p CodeFlash at otherwise if u then place_in p DataFlash at otherwise Outside) ≡ In a offset block page → Spot p at a offset block page
+        → (if t then place_in p CodeFlash at otherwise if u then place_in p DataFlash at otherwise None) ≡ Some (place_at a offset block page) → Spot p at a offset block page
     go true l u m e = in_area CodeFlash l e
     go false l true m e = in_area DataFlash m e
     go false l false m e = absurd (let z : ◌≡◌ {A = ℕ} 0 1 = cc in omega arith)
@@ -280,11 +275,11 @@ blocks-most p CodeFlash d = (described-is p d).code-most
 blocks-most p DataFlash d = omega (arith, described-is p d)
 
 -- A row of refusals, condition by condition: the first that holds decides, one that does not hold leaves it to the rest, and a row of none accepts.
-pub first-row : (x : Condition) (xs : List Condition) → first_of (x ∷ xs) ≡ (if x.holds then Refused x.refusal otherwise first_of xs)
+pub first-row : (x : Condition) (xs : List Condition) → first_of (x ∷ xs) ≡ (if x.holds then Err x.refusal otherwise first_of xs)
 unfolding first_of
 first-row x xs = refl
 
-pub first-here : (r : Refusal) (t : Bool) (xs : List Condition) → t ≡ true → first_of (r when t ∷ xs) ≡ Refused r
+pub first-here : (r : Refusal) (t : Bool) (xs : List Condition) → t ≡ true → first_of (r when t ∷ xs) ≡ Err r
 unfolding if◌then◌otherwise◌
 first-here r t xs h = rw (first-row, h)
 
@@ -292,41 +287,41 @@ pub first_on : (r : Refusal) (t : Bool) (xs : List Condition) → t ≡ false �
 unfolding if◌then◌otherwise◌
 first_on r t xs h = rw (first-row, h)
 
-pub none-held : first_of [] ≡ Accepted
+pub none-held : first_of [] ≡ Ok tt
 unfolding first_of
 none-held = refl
 
 -- What accepts holds in no condition of the row, and a row of which no condition holds accepts.
 pub record Passed (x : Condition) (xs : List Condition) : Type 0 where
   pub not-held : x.holds ≡ false
-  pub rest : first_of xs ≡ Accepted
+  pub rest : first_of xs ≡ Ok tt
 
-barred : (r : Refusal) → Refused r ≡ Accepted → ⊥
+barred : (r : Refusal) → ◌≡◌ {A = Result Unit Refusal} (Err r) (Ok tt) → ⊥
 barred r e = let z : ◌≡◌ {A = ℕ} 0 1 = cc in omega arith
 
-pub passed : (x : Condition) (xs : List Condition) → first_of (x ∷ xs) ≡ Accepted → Passed x xs
+pub passed : (x : Condition) (xs : List Condition) → first_of (x ∷ xs) ≡ Ok tt → Passed x xs
 unfolding if◌then◌otherwise◌
 passed x xs e = go x.holds refl (sym (first-row x xs) ∙ e)
   where
-    go : (t : Bool) → x.holds ≡ t → (if t then Refused x.refusal otherwise first_of xs) ≡ Accepted → Passed x xs
+    go : (t : Bool) → x.holds ≡ t → (if t then Err x.refusal otherwise first_of xs) ≡ Ok tt → Passed x xs
     go true h e = absurd (barred x.refusal e)
     go false h e = record { not-held = h; rest = e }
 
-pub passes : (x : Condition) (xs : List Condition) → x.holds ≡ false → first_of xs ≡ Accepted → first_of (x ∷ xs) ≡ Accepted
+pub passes : (x : Condition) (xs : List Condition) → x.holds ≡ false → first_of xs ≡ Ok tt → first_of (x ∷ xs) ≡ Ok tt
 passes x xs h e = first_on x.refusal x.holds xs h ∙ e
 
 -- A row before another: where one of its conditions holds, the other is not reached; where none does, the other decides.
-pub row_ends : (xs ys : List Condition) (r : Refusal) → first_of xs ≡ Refused r → first_of (xs ++ ys) ≡ Refused r
+pub row_ends : (xs ys : List Condition) (r : Refusal) → first_of xs ≡ Err r → first_of (xs ++ ys) ≡ Err r
 unfolding first_of if◌then◌otherwise◌
 row_ends [] ys r e = absurd (barred r (sym e))
 row_ends (x ∷ xs) ys r e = go x.holds e (row_ends xs ys r)
   where
-    go : (t : Bool) → (if t then Refused x.refusal otherwise first_of xs) ≡ Refused r → (first_of xs ≡ Refused r → first_of (xs ++ ys) ≡ Refused r)
-        → (if t then Refused x.refusal otherwise first_of (xs ++ ys)) ≡ Refused r
+    go : (t : Bool) → (if t then Err x.refusal otherwise first_of xs) ≡ Err r → (first_of xs ≡ Err r → first_of (xs ++ ys) ≡ Err r)
+        → (if t then Err x.refusal otherwise first_of (xs ++ ys)) ≡ Err r
     go true e f = e
     go false e f = f e
 
-pub row-goes-on : (xs ys : List Condition) → first_of xs ≡ Accepted → first_of (xs ++ ys) ≡ first_of ys
+pub row-goes-on : (xs ys : List Condition) → first_of xs ≡ Ok tt → first_of (xs ++ ys) ≡ first_of ys
 row-goes-on [] ys e = refl
 row-goes-on (x ∷ xs) ys e =
     let a = passed x xs e in

@@ -7,21 +7,20 @@ use native.Mathlib.Omega.{arith}
 use lib.ListN.{length, length-append}
 use Rattle.lent.proofs.Laws.{Written, written-full, written-put, written_start}
 use Rattle.lent.specs.Lent.{left, put_of}
-use Rattle.lent.specs.declared.Room.{Room}
+use Rattle.lent.specs.declared.Short.{Short}
+use Rattle.std.specs.Prelude.{None, Option, Result, Some}
 use Rattle.numbers.proofs.Laws.{low-long}
 use Rattle.part.specs.Part.{last_of}
 use Rattle.part.specs.Signature.{last_bytes, signature}
 use Rattle.part.specs.declared.Area.TheVariants.{CodeFlash, DataFlash}
-use Rattle.part.specs.declared.LastAddress.{LastAddress}
-use Rattle.part.specs.declared.LastAddress.TheVariants.{At, Nothing}
 use Rattle.part.specs.declared.Part.{Part}
 
-last-bytes-long : (x : LastAddress) → length (last_bytes x) ≡ 3
-last-bytes-long (At n) = low-long 3 n
-last-bytes-long Nothing = refl
+last-bytes-long : (x : Option ℕ) → length (last_bytes x) ≡ 3
+last-bytes-long (Some n) = low-long 3 n
+last-bytes-long None = refl
 
 -- The pieces of a signature, put one after the other, are the signature.
-pub signature-is : (p : Part) (cs es r k l m n o : List ℕ) (a b c d e : Room) → left a k ≡ put_of r 0 p.device → left b l ≡ put_of k 3 p.name
+pub signature-is : (p : Part) (cs es r k l m n o : List ℕ) (a b c d e : Result Unit Short) → left a k ≡ put_of r 0 p.device → left b l ≡ put_of k 3 p.name
     → left c m ≡ put_of l 13 cs → left d n ≡ put_of m 16 es → left e o ≡ put_of n 19 p.version → cs ≡ last_bytes (last_of p CodeFlash)
     → es ≡ last_bytes (last_of p DataFlash) → length r ≡ 22 → length p.device ≡ 3 → length p.name ≡ 10 → length p.version ≡ 3 → o ≡ signature p
 unfolding signature

@@ -1,15 +1,11 @@
 -- Document 01, "The part": the description, the two areas of flash, their blocks and pages; and from "Commands" what a good range is.
-use Rattle.std.specs.Prelude.{ℕ, ◌+◌, ◌-◌, ◌*◌, ◌/◌, ◌%◌, Bool, ◌≡◌, leb, ltb, eqb, length, replicate}
+use Rattle.std.specs.Prelude.{ℕ, ◌+◌, ◌-◌, ◌*◌, ◌/◌, ◌%◌, Bool, ◌≡◌, leb, ltb, eqb, length, replicate, None, Option, Some}
 use Rattle.words.specs.Words.{◌and◌, ◌from◌to◌, if◌then◌otherwise◌}
 use Rattle.part.specs.declared.Part.{Part}
 use Rattle.part.specs.declared.Area.{Area}
 use Rattle.part.specs.declared.Area.TheVariants.{CodeFlash, DataFlash}
-use Rattle.part.specs.declared.LastAddress.{LastAddress}
-use Rattle.part.specs.declared.LastAddress.TheVariants.{At, Nothing}
-use Rattle.part.specs.declared.Place.{Place}
-use Rattle.part.specs.declared.Place.TheVariants.{In, Outside}
 use Rattle.part.specs.declared.Range.{Range}
-use Rattle.part.specs.declared.Range.TheVariants.{Blocks, Bad}
+use Rattle.part.specs.declared.Place.{Place}
 
 -- "Code flash: 8 to 64 blocks .. Data flash: 0 to 8 blocks .. Clock 1 to 32." Device code, name and firmware version are any bytes.
 unfoldable pub described : Part → Bool
@@ -58,8 +54,8 @@ abbrev pub size : Part → Area → ℕ
 size p a = blocks p a * block_size p a
 
 -- The last address of an area; none where it has no blocks.
-unfoldable pub last_of : Part → Area → LastAddress
-last_of p a = if eqb (size p a) 0 then Nothing otherwise At (first a + size p a - 1)
+unfoldable pub last_of : Part → Area → Option ℕ
+last_of p a = if eqb (size p a) 0 then None otherwise Some (first a + size p a - 1)
 
 -- An address lies in an area from its first address to its last.
 unfoldable pub lies_in : Part → Area → ℕ → Bool
@@ -72,14 +68,17 @@ block_of p a at = (at - first a) / block_size p a
 unfoldable pub page_of : Part → Area → ℕ → ℕ
 page_of p a at = (at - first a) % block_size p a / page_size
 
-unfoldable pub place_in : Part → Area → ℕ → Place
-place_in p a at = In a (at - first a) (block_of p a at) (page_of p a at)
+abbrev pub place_at : Area → ℕ → ℕ → ℕ → Place
+place_at a offset block page = record { area = a; offset = offset; block = block; page = page }
 
-unfoldable pub place_of : Part → ℕ → Place
+unfoldable pub place_in : Part → Area → ℕ → Option Place
+place_in p a at = Some (place_at a (at - first a) (block_of p a at) (page_of p a at))
+
+unfoldable pub place_of : Part → ℕ → Option Place
 place_of p at =
     if lies_in p CodeFlash at then place_in p CodeFlash at
     otherwise if lies_in p DataFlash at then place_in p DataFlash at
-    otherwise Outside
+    otherwise None
 
 -- The first address of a block, and the last.
 unfoldable pub starts_block : Part → Area → ℕ → Bool
@@ -92,13 +91,16 @@ ends_block p a at = eqb ((at + 1 - first a) % block_size p a) 0
 unfoldable pub whole_blocks : Part → Area → ℕ → ℕ → Bool
 whole_blocks p a start end = lies_in p a start and lies_in p a end and starts_block p a start and ends_block p a end
 
-unfoldable pub stretch : Part → Area → ℕ → ℕ → Range
-stretch p a start end = Blocks a (block_of p a start) (block_of p a end + 1 - block_of p a start)
+abbrev pub range_at : Area → ℕ → ℕ → Range
+range_at a block count = record { area = a; block = block; count = count }
+
+unfoldable pub stretch : Part → Area → ℕ → ℕ → Option Range
+stretch p a start end = Some (range_at a (block_of p a start) (block_of p a end + 1 - block_of p a start))
 
 -- "A range is bad (05h) if start exceeds end, either end is outside flash, it crosses from code to data, or it is not whole blocks."
-unfoldable pub range_of : Part → ℕ → ℕ → Range
+unfoldable pub range_of : Part → ℕ → ℕ → Option Range
 range_of p start end =
-    if ltb end start then Bad
+    if ltb end start then None
     otherwise if whole_blocks p CodeFlash start end then stretch p CodeFlash start end
     otherwise if whole_blocks p DataFlash start end then stretch p DataFlash start end
-    otherwise Bad
+    otherwise None

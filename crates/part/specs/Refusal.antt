@@ -1,9 +1,7 @@
 -- Document 01, "Refusal numbers": the number of each refusal.
-use Rattle.std.specs.Prelude.{Bool, List, [], ◌∷◌, ℕ}
+use Rattle.std.specs.Prelude.{Bool, List, [], ◌∷◌, ℕ, Err, Ok, Result}
 use Rattle.part.specs.declared.refusal.Refusal.{Refusal}
 use Rattle.part.specs.declared.refusal.Refusal.TheVariants.{BadPart, BadRange, BadState, CodeLength, DataLength, ImageLength, ManyRetries, OutOfTurn, ShortRoom}
-use Rattle.part.specs.declared.refusal.Verdict.{Verdict}
-use Rattle.part.specs.declared.refusal.Verdict.TheVariants.{Accepted, Refused}
 use Rattle.words.specs.Words.{if◌then◌otherwise◌}
 
 abbrev pub number : Refusal → ℕ
@@ -26,6 +24,6 @@ infix 70 ◌when◌
 abbrev pub ◌when◌ : Refusal → Bool → Condition
 r when t = record { refusal = r; holds = t }
 
-unfoldable pub first_of : List Condition → Verdict
-first_of [] = Accepted
-first_of (x ∷ xs) = if x.holds then Refused x.refusal otherwise first_of xs
+unfoldable pub first_of : List Condition → Result Unit Refusal
+first_of [] = Ok tt
+first_of (x ∷ xs) = if x.holds then Err x.refusal otherwise first_of xs

@@ -3,7 +3,6 @@
 #![tactic(auto)]
 
 ghost use Rattle.std.specs.Prelude.{◌≡◌, true, ◌≤◌};
-ghost use Rattle.words.specs.Words.{◌from◌to◌};
 ghost use Rattle.part.specs.Part.{described, blocks, first, block_size, page_size, pages, size, last_of, lies_in, place_in, place_of, whole_blocks, stretch, range_of};
 
 pub mod rate;
@@ -21,49 +20,27 @@ pub struct Part {
     pub version: [u8; 3],
 }
 
-#[derive(Clone, Copy)]
+#[derive(Clone, Copy, Debug, PartialEq, Eq)]
 pub enum Area {
     CodeFlash,
     DataFlash,
 }
 
-// The last address of an area, or none where it has no blocks.
-#[derive(Clone, Copy)]
-pub enum LastAddress {
-    At(usize),
-    Nothing,
-}
-
 // Where an address lies: its area, its offset there, the number of its block in the area and of its page in the block.
 #[derive(Clone, Copy)]
-pub enum Place {
-    In {
-        area: Area,
-        offset: usize,
-        block: usize,
-        page: usize,
-    },
-    Outside,
+pub struct Place {
+    pub area: Area,
+    pub offset: usize,
+    pub block: usize,
+    pub page: usize,
 }
 
 // A good range has its area, the number of its first block there, and how many blocks it is long.
 #[derive(Clone, Copy)]
-pub enum Range {
-    Blocks {
-        area: Area,
-        block: usize,
-        count: usize,
-    },
-    Bad,
-}
-
-fn within(n: u32, low: u32, high: u32) -> bool
-    ensures { result ≡ n from low to high }
-{
-    if n < low {
-        return false;
-    }
-    n <= high
+pub struct Range {
+    pub area: Area,
+    pub block: usize,
+    pub count: usize,
 }
 
 impl Area {
@@ -88,12 +65,9 @@ impl Part {
     pub fn is_described(self) -> bool
         ensures { result ≡ described self }
     {
-        if within(self.code_blocks, 8, 64) {
-            if within(self.data_blocks, 0, 8) {
-                return within(self.clock, 1, 32);
-            }
-        }
-        false
+        (8..=64).contains(&self.code_blocks)
+            && (0..=8).contains(&self.data_blocks)
+            && (1..=32).contains(&self.clock)
     }
 
     pub fn blocks(self, area: Area) -> usize
@@ -124,41 +98,39 @@ impl Part {
         self.blocks(area) * self.block_size(area)
     }
 
-    pub fn last(self, area: Area) -> LastAddress
+    // The last address of an area, where it has blocks.
+    pub fn last(self, area: Area) -> Option<usize>
         ensures { result ≡ last_of self area }
     {
         let size = self.size(area);
         if size == 0 {
-            return LastAddress::Nothing;
+            return None;
         }
-        LastAddress::At(area.first() + size - 1)
+        Some(area.first() + size - 1)
     }
 
     fn lies_in(self, area: Area, address: usize) -> bool
         ensures { result ≡ lies_in self area address }
     {
         let first = area.first();
-        if address < first {
-            return false;
-        }
-        address < first + self.size(area)
+        first <= address && address < first + self.size(area)
     }
 
-    fn place_in(self, area: Area, address: usize) -> Place
+    fn place_in(self, area: Area, address: usize) -> Option<Place>
         requires { lies_in self area address ≡ true }
         ensures { result ≡ place_in self area address }
     {
         let offset = address - area.first();
         let size = self.block_size(area);
-        Place::In {
+        Some(Place {
             area,
             offset,
             block: offset / size,
             page: offset % size / page_size(),
-        }
+        })
     }
 
-    pub fn place(self, address: usize) -> Place
+    pub fn place(self, address: usize) -> Option<Place>
         ensures { result ≡ place_of self address }
     {
         if self.lies_in(Area::CodeFlash, address) {
@@ -167,43 +139,39 @@ impl Part {
         if self.lies_in(Area::DataFlash, address) {
             return self.place_in(Area::DataFlash, address);
         }
-        Place::Outside
+        None
     }
 
     fn is_whole_blocks(self, area: Area, start: usize, end: usize) -> bool
         ensures { result ≡ whole_blocks self area start end }
     {
-        if self.lies_in(area, start) {
-            if self.lies_in(area, end) {
-                let first = area.first();
-                let size = self.block_size(area);
-                if (start - first) % size == 0 {
-                    return (end + 1 - first) % size == 0;
-                }
-            }
-        }
-        false
+        let first = area.first();
+        let size = self.block_size(area);
+        self.lies_in(area, start)
+            && self.lies_in(area, end)
+            && (start - first) % size == 0
+            && (end + 1 - first) % size == 0
     }
 
-    fn stretch(self, area: Area, start: usize, end: usize) -> Range
+    fn stretch(self, area: Area, start: usize, end: usize) -> Option<Range>
         requires { (whole_blocks self area start end ≡ true) × (start ≤ end) }
         ensures { result ≡ stretch self area start end }
     {
         let first = area.first();
         let size = self.block_size(area);
         let block = (start - first) / size;
-        Range::Blocks {
+        Some(Range {
             area,
             block,
             count: (end - first) / size + 1 - block,
-        }
+        })
     }
 
-    pub fn range(self, start: usize, end: usize) -> Range
+    pub fn range(self, start: usize, end: usize) -> Option<Range>
         ensures { result ≡ range_of self start end }
     {
         if end < start {
-            return Range::Bad;
+            return None;
         }
         if self.is_whole_blocks(Area::CodeFlash, start, end) {
             return self.stretch(Area::CodeFlash, start, end);
@@ -211,6 +179,6 @@ impl Part {
         if self.is_whole_blocks(Area::DataFlash, start, end) {
             return self.stretch(Area::DataFlash, start, end);
         }
-        Range::Bad
+        None
     }
 }

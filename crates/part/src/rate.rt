@@ -8,17 +8,11 @@ use super::Part;
 pub fn accepts(part: Part, rate: u32, supply: u32) -> bool
     ensures { result ≡ accepts_rate part rate supply }
 {
-    if rate <= 0x03 {
-        return super::within(supply, 18, 55);
-    }
-    false
+    rate <= 0x03 && (18..=55).contains(&supply)
 }
 
 pub fn mode(part: Part, supply: u32) -> u8
     ensures { result ≡ mode_of part supply }
 {
-    if 27 <= supply {
-        return 0x00;
-    }
-    0x01
+    if 27 <= supply { 0x00 } else { 0x01 }
 }

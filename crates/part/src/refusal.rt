@@ -2,7 +2,7 @@
 ghost use Rattle.std.specs.Prelude.{◌≡◌};
 ghost use Rattle.part.specs.Refusal.{number};
 
-#[derive(Clone, Copy)]
+#[derive(Clone, Copy, Debug, PartialEq, Eq)]
 pub enum Refusal {
     BadPart,
     CodeLength,
@@ -31,11 +31,4 @@ impl Refusal {
             Refusal::BadState => 9,
         }
     }
-}
-
-// What a row of refusals comes to.
-#[derive(Clone, Copy)]
-pub enum Verdict {
-    Accepted,
-    Refused(Refusal),
 }

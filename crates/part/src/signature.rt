@@ -2,30 +2,27 @@
 ghost use Rattle.std.specs.Prelude.{◌≡◌};
 ghost use Rattle.part.specs.Signature.{last_bytes, signature};
 
-use super::{Area, LastAddress, Part};
+use super::{Area, Part};
 
-fn last_bytes(last: LastAddress) -> [u8; 3]
+fn last_bytes(last: Option<usize>) -> [u8; 3]
     ensures { result ≡ last_bytes last }
 {
     match last {
-        LastAddress::At(n) => numbers::low3(n),
-        LastAddress::Nothing => [0x00, 0x00, 0x00],
+        Some(n) => numbers::low3(n),
+        None => [0x00, 0x00, 0x00],
     }
 }
 
 pub fn bytes(part: Part) -> [u8; 22]
     ensures { result ≡ signature part }
 {
-    let device = part.device;
-    let name = part.name;
-    let version = part.version;
     let code = last_bytes(part.last(Area::CodeFlash));
     let extra = last_bytes(part.last(Area::DataFlash));
     let mut d = [0u8; 22];
-    lent::put(&mut d, 0, &device);
-    lent::put(&mut d, 3, &name);
-    lent::put(&mut d, 13, &code);
-    lent::put(&mut d, 16, &extra);
-    lent::put(&mut d, 19, &version);
+    let _ = lent::put(&mut d, 0, &part.device);
+    let _ = lent::put(&mut d, 3, &part.name);
+    let _ = lent::put(&mut d, 13, &code);
+    let _ = lent::put(&mut d, 16, &extra);
+    let _ = lent::put(&mut d, 19, &part.version);
     d
 }

@@ -9,7 +9,7 @@ use chip_state::Chip;
 use console::Progress;
 use part::Part;
 use replay_capture::Form;
-use replay_records::Ended;
+use replay_records::Halt;
 use std::fs::File;
 use std::io;
 use std::io::{ErrorKind, Read, Write};
@@ -49,24 +49,23 @@ fn show<W: Write>(out: &mut W, frames: &[u8], text: &mut [u8]) -> io::Result<()>
         }
         let from = room_for(out, 3 * n, text, used)?;
         let end = at + n;
-        replay_hex::line(&frames[at..end], &mut text[from..]);
+        let _ = replay_hex::line(&frames[at..end], &mut text[from..]);
         used = from + 3 * n;
         at = end;
     }
     out.write_all(&text[0..used])
 }
 
-// How a buffer of the capture went: on to the next; up to a record that is not good; or no further.
+// Why a buffer of the capture is the last one: a record that is not good, or what was told where it was met.
 #[derive(Clone, Copy)]
-enum Going {
-    On,
+enum Stop {
     Bad,
     Lost,
 }
 
 #[derive(Drop)]
 struct Went {
-    going: Going,
+    ended: Result<(), Stop>,
     chip: Chip,
     records: usize,
     frames: usize,
@@ -74,19 +73,18 @@ struct Went {
 }
 
 // Neither a refusal nor want of output occurs: the output is long enough for the buffer's records, and then it is proved (claims_replay).
-fn going_on(rt: &impl Eprint, ended: Ended, progress: Progress) -> Going {
-    match ended {
-        Ended::Whole => Going::On,
-        Ended::AtBadRecord => Going::Bad,
-        Ended::OutputFull => {
+fn halted(rt: &impl Eprint, halt: Halt, progress: Progress) -> Stop {
+    match halt {
+        Halt::AtBadRecord => Stop::Bad,
+        Halt::OutputFull => {
             console::say(
                 rt,
                 progress,
                 "replay: the output was too short, which should not occur\n",
             );
-            Going::Lost
+            Stop::Lost
         }
-        Ended::Refused(refusal) => {
+        Halt::Refused(refusal) => {
             console::say(
                 rt,
                 progress,
@@ -94,25 +92,15 @@ fn going_on(rt: &impl Eprint, ended: Ended, progress: Progress) -> Going {
             );
             let number = refusal.number();
             let _ = eprintln!(rt; "{number}");
-            Going::Lost
+            Stop::Lost
         }
     }
 }
 
-fn told(
-    rt: &(impl Eprint + Alloc),
-    shown: io::Result<()>,
-    going: Going,
-    progress: Progress,
-) -> Going {
-    match shown {
-        Ok(()) => going,
-        Err(error) => {
-            console::erase(rt, progress);
-            console::fail(rt, "replay", "standard output", error);
-            Going::Lost
-        }
-    }
+fn unwritten(rt: &(impl Eprint + Alloc), error: io::Error, progress: Progress) -> Stop {
+    console::erase(rt, progress);
+    console::fail(rt, "replay", "standard output", error);
+    Stop::Lost
 }
 
 // The records of one buffer, and the lines of their replies.
@@ -143,7 +131,7 @@ fn turn<W: Write>(
             "replay: more replies than room for them, which should not occur\n",
         );
         return Went {
-            going: Going::Lost,
+            ended: Err(Stop::Lost),
             chip: after,
             records: 0,
             frames: 0,
@@ -152,9 +140,11 @@ fn turn<W: Write>(
     }
     let progress = console::make_way(rt, progress, n);
     let shown = show(out, &output[0..n], text);
-    let going = going_on(rt, played.ended, progress);
+    let ended = played.ended.map_err(|halt| halted(rt, halt, progress));
     Went {
-        going: told(rt, shown, going, progress),
+        ended: shown
+            .map_err(|error| unwritten(rt, error, progress))
+            .and(ended),
         chip: after,
         records: played.records,
         frames: played.frames,
@@ -192,7 +182,7 @@ fn replay<R: Read, W: Write>(
     let mut code = [0xFFu8; 16384];
     let mut data = [0xFFu8; 4096];
     let mut sums = [0u16; 72];
-    chip_sums::work_out(part, &code, &data, &mut sums);
+    let _ = chip_sums::work_out(part, &code, &data, &mut sums);
     let mut room = [0u8; 32];
     let mut capture = [0u8; 2048];
     let mut output = [0u8; 65536];
@@ -226,21 +216,19 @@ fn replay<R: Read, W: Write>(
         chip = went.chip;
         records = records.wrapping_add(went.records as u64);
         frames = frames.wrapping_add(went.frames as u64);
-        match went.going {
-            Going::On => {
+        match went.ended {
+            Ok(()) => {
                 if n < 2048 {
                     last_line(rt, out, went.progress, "END", frames);
                     return;
                 }
                 progress = console::show_progress(rt, went.progress, "replay", records);
             }
-            Going::Bad => {
+            Err(Stop::Bad) => {
                 last_line(rt, out, went.progress, "BAD", records);
                 return;
             }
-            Going::Lost => {
-                return;
-            }
+            Err(Stop::Lost) => return,
         }
     }
 }

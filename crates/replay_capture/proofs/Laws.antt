@@ -12,7 +12,10 @@ use borrow.Author.Tests.{eqb-true, leb-true}
 use Rattle.replay_capture.specs.Capture.{carried_bytes, count, data_size, good_count, head_size, good_record, kind, record_of, record_size, records_in, records_of, seat_of, spare_of, unused}
 use Rattle.replay_capture.specs.declared.Form.{Form}
 use Rattle.replay_capture.specs.declared.Form.TheVariants.{New, Old}
-use Rattle.replay_capture.specs.declared.Record.TheVariants.{BadRecord, BytesRecord, GapRecord, OtherSeat}
+use Rattle.replay_capture.specs.declared.Record.TheVariants.{BytesRecord, GapRecord, OtherSeat}
+use Rattle.replay_capture.specs.declared.BadRecord.{BadRecord}
+use Rattle.replay_capture.specs.declared.Record.{Record}
+use Rattle.std.specs.Prelude.{Err, Ok, Result}
 use Rattle.lent.specs.Lent.{all_are}
 use Rattle.words.proofs.Laws.{and_left, and_right}
 use Rattle.words.specs.Words.{◌and◌, ◌from◌to◌, if◌then◌otherwise◌}
@@ -109,11 +112,11 @@ pub record Carries (form : Form) (n : ℕ) (bs : List ℕ) : Type 0 where
   pub least : 1 ≤ n
   pub most : n ≤ data_size form
 
-pub carries-is : (form : Form) (n : ℕ) (bs : List ℕ) → record_of form bs ≡ BytesRecord n → Carries form n bs
+pub carries-is : (form : Form) (n : ℕ) (bs : List ℕ) → record_of form bs ≡ Ok (BytesRecord n) → Carries form n bs
 unfolding record_of if◌then◌otherwise◌
 carries-is form n bs e = judged (good_record form bs) refl e
   where
-    kinds : (t : Bool) → eqb (kind bs) 0x00 ≡ t → Sound form bs → (if t then GapRecord otherwise BytesRecord (count bs)) ≡ BytesRecord n → Carries form n bs
+    kinds : (t : Bool) → eqb (kind bs) 0x00 ≡ t → Sound form bs → ◌≡◌ {A = Result Record BadRecord} (if t then Ok GapRecord otherwise Ok (BytesRecord (count bs))) (Ok (BytesRecord n)) → Carries form n bs
     kinds true h s k = absurd (let z : ◌≡◌ {A = ℕ} 0 1 = cc in omega arith)
     kinds false h s k =
         let c : count bs ≡ n = cc in
@@ -123,12 +126,13 @@ carries-is form n bs e = judged (good_record form bs) refl e
           most = rw (sym c) (count_most form (kind bs) (count bs) s.counted);
         }
 
-    seats : (t : Bool) → Sound form bs → (if not t then OtherSeat otherwise if eqb (kind bs) 0x00 then GapRecord otherwise BytesRecord (count bs)) ≡ BytesRecord n → Carries form n bs
+    seats : (t : Bool) → Sound form bs → ◌≡◌ {A = Result Record BadRecord} (if not t then Ok OtherSeat otherwise if eqb (kind bs) 0x00 then Ok GapRecord otherwise Ok (BytesRecord (count bs))) (Ok (BytesRecord n)) → Carries form n bs
     seats true s k = kinds (eqb (kind bs) 0x00) refl s k
     seats false s k = absurd (let z : ◌≡◌ {A = ℕ} 0 1 = cc in omega arith)
 
     judged : (t : Bool) → good_record form bs ≡ t
-        → (if not t then BadRecord otherwise if not (eqb (seat_of form bs) 0) then OtherSeat otherwise if eqb (kind bs) 0x00 then GapRecord otherwise BytesRecord (count bs)) ≡ BytesRecord n → Carries form n bs
+        → ◌≡◌ {A = Result Record BadRecord} (if not t then Err (record {}) otherwise if not (eqb (seat_of form bs) 0) then Ok OtherSeat
+        otherwise if eqb (kind bs) 0x00 then Ok GapRecord otherwise Ok (BytesRecord (count bs))) (Ok (BytesRecord n)) → Carries form n bs
     judged true h k = seats (eqb (seat_of form bs) 0) (good-is form bs h) k
     judged false h k = absurd (let z : ◌≡◌ {A = ℕ} 0 1 = cc in omega arith)
 

@@ -1,12 +1,12 @@
 -- The records of a capture where they lie, over their size: where one ends, and that the bytes up to there are the record, and those from there on the rest.
 -- Assumes nothing.
-use mathlib.Core.List.{List, ◌∷◌}
-use mathlib.Core.Path.{◌∙◌, ◌≡◌, ap, sym}
-use Prim.Native.Nat.{◌+◌, ◌-◌, ◌<◌, ◌≤◌, ℕ}
+use mathlib.Core.List.{List, ◌++◌, ◌∷◌}
+use mathlib.Core.Path.{◌∙◌, ◌≡◌, ap, refl, sym}
+use Prim.Native.Nat.{◌+◌, ◌-◌, ◌<◌, ◌≤◌, min, ℕ}
 use native.Mathlib.Decide.{dec_le}
 use native.Mathlib.Omega.{arith}
-use lib.ListN.{drop, drop_of_length-le, length, length-drop, take}
-use lib.Seq.{drop-drop, drop-length, take_all}
+use lib.ListN.{drop, drop_of_length-le, length, length-append, length-drop, take}
+use lib.Seq.{drop_at, drop-drop, drop-length, take_all, take_at}
 use borrow.Author.Tests.{le-leb, lt-leb}
 use Rattle.replay_capture.proofs.Laws.{records-next}
 use Rattle.replay_capture.specs.Capture.{record_end, records_in}
@@ -66,3 +66,29 @@ module _ (size at : ℕ) (bs : List ℕ) where
       records-next size most (drop at bs) (omega arith) (omega arith)
       ∙ ap (λ (l : List ℕ). l ∷ records_in size (most - 1) (drop size (drop at bs))) (sym cut_record)
       ∙ ap (λ (l : List ℕ). take (end - at) (drop at bs) ∷ records_in size (most - 1) l) cut-rest
+
+-- A chunk off the front of the bytes that are left is their first record.
+pub chunk_is : (size : ℕ) (x next : List ℕ) → length x ≡ min size (length (x ++ next)) → (take size (x ++ next) ≡ x) × (drop size (x ++ next) ≡ next)
+chunk_is size x next l = go (dec_le size (length (x ++ next)))
+  where
+    go : Dec (size ≤ length (x ++ next)) → (take size (x ++ next) ≡ x) × (drop size (x ++ next) ≡ next)
+    go (yes h) = let e : length x ≡ size = omega (arith, l) in (take_at x next size e, drop_at x next size e)
+    go (no h) =
+        let e : length x ≡ length (x ++ next) = omega (arith, l) in (
+          take_all size (x ++ next) (omega arith) ∙ sym (take_all (length x) (x ++ next) (omega arith)) ∙ take_at x next (length x) refl,
+          drop_of_length-le (x ++ next) (omega arith) ∙ sym (drop_of_length-le (x ++ next) {i = length x} (omega arith)) ∙ drop_at x next (length x) refl,
+        )
+
+pub chunk_first : (size most : ℕ) {rest : List ℕ} (x next : List ℕ) → rest ≡ x ++ next → length x ≡ min size (length rest) → 0 < length rest → length rest ≤ most
+    → records_in size most rest ≡ x ∷ records_in size (most - 1) next
+chunk_first size most {rest} x next e l g h =
+    let c = chunk_is size x next (rw (← e) l) in
+    let a : take size rest ≡ x = rw e c.0 in
+    let b : drop size rest ≡ next = rw e c.1 in
+    records-next size most rest g (omega (arith, h)) ∙ ap (λ (y : List ℕ). y ∷ records_in size (most - 1) (drop size rest)) a ∙ ap (λ (y : List ℕ). x ∷ records_in size (most - 1) y) b
+
+-- It has bytes, and those behind it are fewer.
+pub chunk_less : (size : ℕ) {rest : List ℕ} (x next : List ℕ) → rest ≡ x ++ next → length x ≡ min size (length rest) → 0 < length rest → 1 ≤ size → length next + 1 ≤ length rest
+chunk_less size {rest} x next e l g s =
+    let n : length rest ≡ length x + length next = rw (e, length-append) in
+    omega (arith, n, l, g, s)

@@ -1,10 +1,11 @@
 -- Capture records, of the old form and of the new: document 01, "Replay", and 02, section 5. What a good record is, over its form and its bytes; its seat and its
 -- tick; what it is to a replay, and what it carries.
-use Rattle.std.specs.Prelude.{Bool, not, List, [], ◌∷◌, ◌+◌, ◌-◌, suc, zero, ℕ, eqb, leb, drop, get_or, length, take}
+use Rattle.std.specs.Prelude.{Bool, not, List, [], ◌∷◌, ◌+◌, ◌-◌, suc, zero, ℕ, eqb, leb, drop, get_or, length, take, Err, Ok, Result}
 use Rattle.replay_capture.specs.declared.Form.{Form}
 use Rattle.replay_capture.specs.declared.Form.TheVariants.{New, Old}
+use Rattle.replay_capture.specs.declared.Record.TheVariants.{BytesRecord, GapRecord, OtherSeat}
+use Rattle.replay_capture.specs.declared.BadRecord.{BadRecord}
 use Rattle.replay_capture.specs.declared.Record.{Record}
-use Rattle.replay_capture.specs.declared.Record.TheVariants.{BadRecord, BytesRecord, GapRecord, OtherSeat}
 use Rattle.lent.specs.Lent.{all_are}
 use Rattle.numbers.specs.Numbers.{number_at}
 use Rattle.words.specs.Words.{◌and◌, ◌from◌to◌, if◌then◌otherwise◌}
@@ -63,12 +64,12 @@ good_record form bs =
     and unused form (count bs) bs
 
 -- What a record is to a replay, which "skips seat 1".
-unfoldable pub record_of : Form → List ℕ → Record
+unfoldable pub record_of : Form → List ℕ → Result Record BadRecord
 record_of form bs =
-    if not (good_record form bs) then BadRecord
-    otherwise if not (eqb (seat_of form bs) 0) then OtherSeat
-    otherwise if eqb (kind bs) 0x00 then GapRecord
-    otherwise BytesRecord (count bs)
+    if not (good_record form bs) then Err (record {})
+    otherwise if not (eqb (seat_of form bs) 0) then Ok OtherSeat
+    otherwise if eqb (kind bs) 0x00 then Ok GapRecord
+    otherwise Ok (BytesRecord (count bs))
 
 -- "Refusals: 10 for a bad record": its number wherever one is told.
 abbrev pub bad_record_number : ℕ

@@ -12,14 +12,17 @@ pub enum Form {
     New,
 }
 
-// What a record is to the replay of seat 0: a gap, so many bytes, the other seat's, or not good.
+// What a good record is to the replay of seat 0: a gap, so many bytes, or the other seat's.
 #[derive(Clone, Copy)]
 pub enum Record {
     GapRecord,
     BytesRecord(usize),
     OtherSeat,
-    BadRecord,
 }
+
+// The record is not good.
+#[derive(Clone, Copy, Debug, PartialEq, Eq)]
+pub struct BadRecord;
 
 // The refusal of a bad record, wherever one is told.
 pub const BAD_RECORD: u32 = 10;
@@ -72,7 +75,7 @@ pub fn tick(form: Form, bytes: &[u8]) -> u32
 {
     match form {
         Form::Old => 0,
-        Form::New => numbers::number4(bytes, 4),
+        Form::New => u32::from_le_bytes(numbers::bytes_at(bytes, 4)),
     }
 }
 
@@ -116,19 +119,19 @@ pub fn is_good(form: Form, bytes: &[u8]) -> bool
     is_unused(form, n, bytes)
 }
 
-pub fn read(form: Form, bytes: &[u8]) -> Record
+pub fn read(form: Form, bytes: &[u8]) -> Result<Record, BadRecord>
     ensures { result ≡ record_of form bytes.now }
 {
     if !is_good(form, bytes) {
-        return Record::BadRecord;
+        return Err(BadRecord);
     }
     if seat(form, bytes) != 0 {
-        return Record::OtherSeat;
+        return Ok(Record::OtherSeat);
     }
     if lent::byte_at(bytes, 0) == 0x00 {
-        return Record::GapRecord;
+        return Ok(Record::GapRecord);
     }
-    Record::BytesRecord(lent::byte_at(bytes, 1) as usize)
+    Ok(Record::BytesRecord(lent::byte_at(bytes, 1) as usize))
 }
 
 // The bytes that a record carries, where they lie.

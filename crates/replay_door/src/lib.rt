@@ -5,51 +5,23 @@
 ghost use Rattle.std.specs.Prelude.{◌≡◌};
 ghost use Rattle.chip_core.specs.Effect.{memory};
 ghost use Rattle.part_layout.specs.Layout.{part_in};
-ghost use Rattle.part.specs.declared.refusal.Verdict.TheVariants.{Accepted};
 ghost use Rattle.replay_capture.specs.declared.Form.TheVariants.{New, Old};
-ghost use Rattle.replay_door.specs.Calls.{end_number, replayed_by, replayed_through, replay_told};
+ghost use Rattle.replay_door.specs.Calls.{end_number, replayed_through, replay_told};
 
 use chip_layout::admission;
-use part::Part;
-use part::refusal::Verdict;
 use replay_capture::Form;
-use replay_records::Ended;
+use replay_records::Halt;
 
-fn end_number(ended: Ended) -> u32
+#[tactic(auto, unfolding(crate::specs::Calls::end_number))]
+fn end_number(ended: Result<(), Halt>) -> u32
     ensures { result ≡ end_number ended }
 {
     match ended {
-        Ended::Whole => 0,
-        Ended::AtBadRecord => replay_capture::BAD_RECORD,
-        Ended::OutputFull => 17,
-        Ended::Refused(refusal) => refusal.number() as u32,
+        Ok(()) => 0,
+        Err(Halt::AtBadRecord) => replay_capture::BAD_RECORD,
+        Err(Halt::OutputFull) => 17,
+        Err(Halt::Refused(refusal)) => refusal.number() as u32,
     }
-}
-
-// The records of a call that is accepted.
-fn play(
-    form: Form,
-    part: Part,
-    state: &mut [u8; chip_layout::STATE_SIZE],
-    capture: &[u8],
-    code: &mut [u8],
-    data: &mut [u8],
-    sums: &mut [u16; 72],
-    room: &mut [u8],
-    output: &mut [u8],
-    told: &mut [u64; 3],
-) -> u32
-    ensures { replay_told result told.new state.new
-        (memory code.new «data».new sums.new) room.new output.new
-        ≡ replayed_by form Accepted part capture.now told.old state.old
-        (memory code.old «data».old sums.old) room.old output.old }
-{
-    let chip = chip_layout::chip_in(state);
-    let x = replay_records::replay(form, part, chip, capture, code, data, sums, room, output);
-    let ended = x.ended;
-    chip_layout::lay_chip(x.chip, state);
-    *told = [x.records as u64, x.bytes as u64, x.frames as u64];
-    end_number(ended)
 }
 
 // Capture records one after the other: told are how many were played, and how many bytes and frames of replies stand in the output, end to end.
@@ -64,20 +36,20 @@ fn replay(
     room: &mut [u8],
     output: &mut [u8],
     told: &mut [u64; 3],
-) -> u32
-    ensures { replay_told result told.new state.new
+) -> Result<(), Halt>
+    ensures { replay_told (end_number result) told.new state.new
         (memory code.new «data».new sums.new) room.new output.new
         ≡ replayed_through form (part_in part.now) capture.now told.old state.old
         (memory code.old «data».old sums.old) room.old output.old }
 {
     let p = part_layout::part_in(part);
     let v = admission::chip_acceptance(p, state, code.len(), data.len(), room.len());
-    match v {
-        Verdict::Refused(refusal) => refusal.number() as u32,
-        Verdict::Accepted => play(
-            form, p, state, capture, code, data, sums, room, output, told,
-        ),
-    }
+    v.map_err(Halt::Refused)?;
+    let chip = chip_layout::chip_in(state);
+    let x = replay_records::replay(form, p, chip, capture, code, data, sums, room, output);
+    chip_layout::lay_chip(x.chip, state);
+    *told = [x.records as u64, x.bytes as u64, x.frames as u64];
+    x.ended
 }
 
 pub fn zc_replay(
@@ -96,7 +68,7 @@ pub fn zc_replay(
         ≡ replayed_through Old (part_in part.now) capture.now told.old state.old
         (memory code.old «data».old sums.old) room.old output.old }
 {
-    replay(
+    end_number(replay(
         Form::Old,
         part,
         state,
@@ -107,7 +79,7 @@ pub fn zc_replay(
         room,
         output,
         told,
-    )
+    ))
 }
 
 pub fn zc_replay_new(
@@ -126,7 +98,7 @@ pub fn zc_replay_new(
         ≡ replayed_through New (part_in part.now) capture.now told.old state.old
         (memory code.old «data».old sums.old) room.old output.old }
 {
-    replay(
+    end_number(replay(
         Form::New,
         part,
         state,
@@ -137,5 +109,5 @@ pub fn zc_replay_new(
         room,
         output,
         told,
-    )
+    ))
 }

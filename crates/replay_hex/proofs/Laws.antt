@@ -13,7 +13,7 @@ use Rattle.replay_hex.specs.Hex.{digit_of, line_of, separator}
 use Rattle.replay_hex.specs.Inner.Places.{separator_at}
 use Rattle.lent.proofs.Laws.{Written, put-short, written_byte, written-laid, written_start}
 use Rattle.lent.specs.Lent.{left, put_of}
-use Rattle.lent.specs.declared.Room.TheVariants.{Enough, Short}
+use Rattle.std.specs.Prelude.{Err, Ok}
 use Rattle.words.specs.Words.{if◌then◌otherwise◌}
 
 pub line-long : (bs : List ℕ) → length (line_of bs) ≡ 3 * length bs
@@ -31,6 +31,27 @@ mark-is bs i h = go (dec_lt (i + 1) (length bs))
     go (no k) =
         let past : length bs ≤ suc i = omega arith in
         rw (le-ltb (i + 1) (length bs) (omega arith), drop_of_length-le bs past)
+
+-- The tests of a digit and of a mark.
+pub decimal : (n : ℕ) → n < 10 → digit_of n ≡ 0x30 + n
+unfolding digit_of if◌then◌otherwise◌
+decimal n h = simp (lt-ltb n 10 h)
+
+pub past_nine : (n : ℕ) → 10 ≤ n → digit_of n ≡ 0x37 + n
+unfolding digit_of if◌then◌otherwise◌
+past_nine n h = simp (le-ltb n 10 h)
+
+pub ruleset digits = (decimal, past_nine)
+
+pub within : (i len : ℕ) → i + 1 < len → separator_at i len ≡ 0x20
+unfolding separator_at if◌then◌otherwise◌
+within i len h = simp (lt-ltb (i + 1) len h)
+
+pub last : (i len : ℕ) → len ≤ i + 1 → separator_at i len ≡ 0x0A
+unfolding separator_at if◌then◌otherwise◌
+last i len h = simp (le-ltb (i + 1) len h)
+
+pub ruleset marks = (within, last)
 
 -- What i bytes have written, and what is still to come.
 pub record LinedFrom (bs : List ℕ) (i : ℕ) (whole text : List ℕ) : Type 0 where
@@ -69,12 +90,14 @@ lined-turn {bs} {i} {whole} {text} h l m j q k r a b c e =
           ∙ rw (a, b, c ∙ mark-is bs i k) (ap (λ (x : List ℕ). w ++ line_of x) (sym d) ∙ q.rest);
     }
 
-pub lined-end : {bs : List ℕ} {i : ℕ} {whole text : List ℕ} → LinedFrom bs i whole text → i ≡ length bs → left Enough text ≡ put_of whole 0 (line_of bs)
+pub lined-end : {bs : List ℕ} {i : ℕ} {whole text : List ℕ} → LinedFrom bs i whole text → i ≡ length bs → left (Ok tt) text ≡ put_of whole 0 (line_of bs)
 unfolding line_of
 lined-end {bs} {i} {whole} {text} q e =
     let past : length bs ≤ i = omega arith in
     let w : q.done ≡ line_of bs = sym (append-nil q.done) ∙ ap (λ (x : List ℕ). q.done ++ line_of x) (sym (drop_of_length-le bs past)) ∙ q.rest in
     written-laid q.stands ∙ ap (λ (x : List ℕ). put_of whole 0 x) w
 
-pub line-short : (bs text : List ℕ) → length text / 3 < length bs → left Short text ≡ put_of text 0 (line_of bs)
+pub line-short : (bs text : List ℕ) → length text / 3 < length bs → left (Err (record {})) text ≡ put_of text 0 (line_of bs)
 line-short bs text h = put-short text 0 (line_of bs) (rw line-long (omega arith))
+
+pub ruleset lines = (line-short, lined-start)

@@ -6,47 +6,38 @@ ghost use Rattle.lent.specs.Lent.{left, put_of};
 ghost use Rattle.replay_hex.specs.Hex.{digit_of, line_of};
 ghost use Rattle.replay_hex.specs.Inner.Places.{separator_at};
 
-use lent::Room;
+use lent::Short;
 
+#[tactic(auto, using(crate::proofs::Laws::digits))]
 fn digit(n: u8) -> u8
     requires { n < 16 }
     ensures { result ≡ digit_of n }
 {
-    if n < 10 {
-        return 0x30 + n;
-    }
-    0x37 + n
+    if n < 10 { 0x30 + n } else { 0x37 + n }
 }
 
 // What stands after the byte at a place.
+#[tactic(auto, using(crate::proofs::Laws::marks))]
 fn after(i: usize, len: usize) -> u8
     requires { i < len }
     ensures { result ≡ separator_at i len }
 {
-    if i + 1 < len {
-        return 0x20;
-    }
-    0x0A
+    if i + 1 < len { 0x20 } else { 0x0A }
 }
 
 // The line stands at the start of the lent text. Where that is too short for it, nothing is written.
-pub fn line(bytes: &[u8], text: &mut [u8]) -> Room
+#[tactic(auto, using(crate::proofs::Laws::lines))]
+pub fn line(bytes: &[u8], text: &mut [u8]) -> Result<(), Short>
     ensures { left result text.new ≡ put_of text.old 0 (line_of bytes.now) }
 {
     if text.len() / 3 < bytes.len() {
-        return Room::Short;
+        return Err(Short);
     }
-    let mut i = 0;
-    while i < bytes.len() {
-        let b = bytes[i];
-        let high = digit(b / 16);
-        let low = digit(b % 16);
-        let mark = after(i, bytes.len());
+    for (i, &b) in bytes.iter().enumerate() {
         let at = 3 * i;
-        i = i + 1;
-        text[at] = high;
-        text[at + 1] = low;
-        text[at + 2] = mark;
+        text[at] = digit(b / 16);
+        text[at + 1] = digit(b % 16);
+        text[at + 2] = after(i, bytes.len());
     }
-    Room::Enough
+    Ok(())
 }

@@ -1,24 +1,24 @@
 -- The play of one record, of either form: document 01, "Replay", and 02, section 5. The events of a good record go to the chip one after the other;
 -- its reply frames are kept in order, end to end.
-use Rattle.std.specs.Prelude.{List, [], ◌++◌, ◌∷◌, map, ◌*◌, ◌+◌, ℕ, ltb, drop, length, take}
+use Rattle.std.specs.Prelude.{List, [], ◌++◌, ◌∷◌, map, ◌*◌, ◌+◌, ℕ, ltb, drop, length, take, Err, Ok, Result}
 use Rattle.replay_capture.specs.Capture.{carried_bytes, data_size, record_of}
 use Rattle.replay_capture.specs.declared.Form.{Form}
+use Rattle.chip_reply.specs.Reply.{sent_as}
+use Rattle.replay_play.specs.declared.Unplayed.TheVariants.{NotGood, OutputShort}
+use Rattle.replay_play.specs.declared.Unplayed.{Unplayed}
+use Rattle.part.specs.declared.refusal.Refusal.{Refusal}
+use Rattle.chip_reply.specs.declared.Sent.{Sent}
+use Rattle.replay_capture.specs.declared.Record.TheVariants.{BytesRecord, GapRecord, OtherSeat}
+use Rattle.replay_capture.specs.declared.BadRecord.{BadRecord}
 use Rattle.replay_capture.specs.declared.Record.{Record}
-use Rattle.replay_capture.specs.declared.Record.TheVariants.{BadRecord, BytesRecord, GapRecord, OtherSeat}
 use Rattle.chip.specs.Run.{before, onward}
 use Rattle.chip.specs.Step.{Outcome}
-use Rattle.chip.specs.declared.Answer.{Answer}
-use Rattle.chip.specs.declared.Answer.TheVariants.{Replied}
-use Rattle.chip.specs.declared.Answer.TheVariants as Answer
 use Rattle.chip_state.specs.declared.Chip.{Chip}
 use Rattle.chip.specs.declared.Event.{Event}
 use Rattle.chip.specs.declared.Event.TheVariants.{Byte, Gap}
 use Rattle.chip_core.specs.Effect.{Memory}
 use Rattle.part.specs.declared.Part.{Part}
 use Rattle.replay_play.specs.declared.PlayedRecord.{PlayedRecord}
-use Rattle.replay_play.specs.declared.RecordEnded.{RecordEnded}
-use Rattle.replay_play.specs.declared.RecordEnded.TheVariants.{NotGood, OutputShort, Played}
-use Rattle.replay_play.specs.declared.RecordEnded.TheVariants as RecordEnded
 use Rattle.words.specs.Words.{if◌then◌otherwise◌}
 
 -- What has been played so far: what the last event left, and all reply frames with their number.
@@ -32,14 +32,14 @@ abbrev pub before_playing : Chip → Memory → List ℕ → Playing
 before_playing c m room = record { left = before c m room; said = []; frames = 0 }
 
 -- An event was answered: its reply frames are the first bytes of the room.
-unfoldable pub answering : Answer → Outcome → Playing → Playing
-answering (Replied bytes frames) o x = record { left = o; said = x.said ++ take bytes o.room; frames = x.frames + frames }
-answering (Answer.Refused r) o x = record { left = o; said = x.said; frames = x.frames }
+unfoldable pub answering : Result Sent Refusal → Outcome → Playing → Playing
+answering (Ok sent) o x = record { left = o; said = x.said ++ take sent.bytes o.room; frames = x.frames + sent.frames }
+answering (Err r) o x = record { left = o; said = x.said; frames = x.frames }
 
 -- Only a refusal stops what is played. (From a fresh chip on there is none: claims_good.)
-unfoldable pub goes_on : Answer → Playing → Playing → Playing
-goes_on (Replied bytes frames) rest stopped = rest
-goes_on (Answer.Refused r) rest stopped = stopped
+unfoldable pub goes_on : Result Sent Refusal → Playing → Playing → Playing
+goes_on (Ok sent) rest stopped = rest
+goes_on (Err r) rest stopped = stopped
 
 -- Events one after the other.
 unfoldable pub played : Part → List Event → Playing → Playing
@@ -50,15 +50,15 @@ played p (v ∷ vs) x =
     goes_on o.answer (played p vs y) y
 
 -- The events of a record: "Kind 00h is a gap (count 0); 01h carries 1 to 6 bytes", in the new form 1 to 8. Replay "skips seat 1".
-unfoldable pub events_of : Form → Record → List ℕ → List Event
-events_of form GapRecord bs = Gap ∷ []
-events_of form (BytesRecord n) bs = map Byte (carried_bytes form n bs)
-events_of form OtherSeat bs = []
-events_of form BadRecord bs = []
+unfoldable pub events_of : Form → Result Record BadRecord → List ℕ → List Event
+events_of form (Ok GapRecord) bs = Gap ∷ []
+events_of form (Ok (BytesRecord n)) bs = map Byte (carried_bytes form n bs)
+events_of form (Ok OtherSeat) bs = []
+events_of form (Err _) bs = []
 
 -- What playing leaves: how it ended, the chip, flash and the kept sums, the room, and the reply frames from the start of the lent output.
 pub record RecordPlaying : Type 0 where
-  pub ended : RecordEnded
+  pub ended : Result Sent Unplayed
   pub chip : Chip
   pub memory : Memory
   pub room : List ℕ
@@ -67,9 +67,9 @@ pub record RecordPlaying : Type 0 where
 abbrev pub record_playing : PlayedRecord → Memory → List ℕ → List ℕ → RecordPlaying
 record_playing t m room output = record { ended = t.ended; chip = t.chip; memory = m; room = room; output = output }
 
-unfoldable pub ended_by : Answer → Playing → RecordEnded
-ended_by (Replied bytes frames) x = Played (length x.said) x.frames
-ended_by (Answer.Refused r) x = RecordEnded.Refused r
+unfoldable pub ended_by : Result Sent Refusal → Playing → Result Sent Unplayed
+ended_by (Ok sent) x = Ok (sent_as (length x.said) x.frames)
+ended_by (Err r) x = Err (Unplayed.Refused r)
 
 unfoldable pub played_into : Playing → List ℕ → RecordPlaying
 played_into x output =
@@ -86,20 +86,20 @@ played_into x output =
 abbrev pub output_least : Form → ℕ
 output_least form = 32 * data_size form
 
-abbrev pub unchanged : RecordEnded → Chip → Memory → List ℕ → List ℕ → RecordPlaying
+abbrev pub unchanged : Result Sent Unplayed → Chip → Memory → List ℕ → List ℕ → RecordPlaying
 unchanged t c m room output = record { ended = t; chip = c; memory = m; room = room; output = output }
 
 unfoldable pub play_with : Form → List Event → Part → Chip → Memory → List ℕ → List ℕ → RecordPlaying
 play_with form vs p c m room output =
-    if ltb (length output) (output_least form) then unchanged OutputShort c m room output
+    if ltb (length output) (output_least form) then unchanged (Err OutputShort) c m room output
     otherwise played_into (played p vs (before_playing c m room)) output
 
 -- A record is judged whole before any of its bytes is fed, whichever seat's it is.
-unfoldable pub play_by : Form → Record → Part → List ℕ → Chip → Memory → List ℕ → List ℕ → RecordPlaying
-play_by form GapRecord p bs c m room output = play_with form (events_of form GapRecord bs) p c m room output
-play_by form (BytesRecord n) p bs c m room output = play_with form (events_of form (BytesRecord n) bs) p c m room output
-play_by form OtherSeat p bs c m room output = play_with form (events_of form OtherSeat bs) p c m room output
-play_by form BadRecord p bs c m room output = unchanged NotGood c m room output
+unfoldable pub play_by : Form → Result Record BadRecord → Part → List ℕ → Chip → Memory → List ℕ → List ℕ → RecordPlaying
+play_by form (Ok GapRecord) p bs c m room output = play_with form (events_of form (Ok GapRecord) bs) p c m room output
+play_by form (Ok (BytesRecord n)) p bs c m room output = play_with form (events_of form (Ok (BytesRecord n)) bs) p c m room output
+play_by form (Ok OtherSeat) p bs c m room output = play_with form (events_of form (Ok OtherSeat) bs) p c m room output
+play_by form (Err _) p bs c m room output = unchanged (Err NotGood) c m room output
 
 unfoldable pub play_of : Form → Part → List ℕ → Chip → Memory → List ℕ → List ℕ → RecordPlaying
 play_of form p bs c m room output = play_by form (record_of form bs) p bs c m room output

@@ -7,24 +7,25 @@ ghost use Rattle.chip.specs.declared.Event.TheVariants.{Byte, Gap};
 ghost use Rattle.chip_core.specs.Effect.{memory};
 ghost use Rattle.replay_play.specs.Play.{before_playing, output_least, play_of, played, played_into, record_playing};
 
-use chip::{Answer, Event, events};
+use chip::{Event, events};
+use chip_reply::Sent;
 use chip_state::Chip;
 use part::Part;
 use part::refusal::Refusal;
 use replay_capture::{Form, Record};
 
-// How playing ended: with so many bytes and frames of replies; at a record that is not good; before one, for want of output; or at a call that the chip refused.
-#[derive(Clone, Copy)]
-pub enum RecordEnded {
-    Played { bytes: usize, frames: usize },
+// Why a record was not played to its end: it is not good; there was less output than it asks for; or the chip refused a call.
+#[derive(Clone, Copy, Debug, PartialEq, Eq)]
+pub enum Unplayed {
     NotGood,
     OutputShort,
     Refused(Refusal),
 }
 
+// How playing ended, with the bytes and frames of its replies, and the chip after it.
 #[derive(Clone, Copy)]
 pub struct PlayedRecord {
-    pub ended: RecordEnded,
+    pub ended: Result<Sent, Unplayed>,
     pub chip: Chip,
 }
 
@@ -46,20 +47,14 @@ fn play_gap(
     let answer = step.answer;
     let chip = step.chip;
     match answer {
-        Answer::Refused(refusal) => PlayedRecord {
-            ended: RecordEnded::Refused(refusal),
+        Err(refusal) => PlayedRecord {
+            ended: Err(Unplayed::Refused(refusal)),
             chip,
         },
-        Answer::Replied {
-            bytes: n,
-            frames: k,
-        } => {
-            lent::put(output, 0, &room[0..n]);
+        Ok(sent) => {
+            let _ = lent::put(output, 0, &room[0..sent.bytes]);
             PlayedRecord {
-                ended: RecordEnded::Played {
-                    bytes: n,
-                    frames: k,
-                },
+                ended: Ok(sent),
                 chip,
             }
         }
@@ -91,27 +86,24 @@ fn play_bytes(
         i = i + fed.taken;
         let answer = fed.answer;
         match answer {
-            Answer::Refused(refusal) => {
+            Err(refusal) => {
                 return PlayedRecord {
-                    ended: RecordEnded::Refused(refusal),
+                    ended: Err(Unplayed::Refused(refusal)),
                     chip: last,
                 };
             }
-            Answer::Replied {
-                bytes: n,
-                frames: k,
-            } => {
-                lent::put(output, said, &room[0..n]);
-                said = said + n;
-                frames = frames + k;
+            Ok(sent) => {
+                let _ = lent::put(output, said, &room[0..sent.bytes]);
+                said = said + sent.bytes;
+                frames = frames + sent.frames;
             }
         }
     }
     PlayedRecord {
-        ended: RecordEnded::Played {
+        ended: Ok(Sent {
             bytes: said,
             frames,
-        },
+        }),
         chip: last,
     }
 }
@@ -138,44 +130,28 @@ pub fn play(
     ensures { record_playing result (memory code.new «data».new sums.new) room.new output.new
         ≡ play_of form part bytes.now chip (memory code.old «data».old sums.old) room.old output.old }
 {
-    let judged = replay_capture::read(form, bytes);
-    let least = output_least(form);
-    match judged {
-        Record::BadRecord => PlayedRecord {
-            ended: RecordEnded::NotGood,
+    let Ok(record) = replay_capture::read(form, bytes) else {
+        return PlayedRecord {
+            ended: Err(Unplayed::NotGood),
+            chip,
+        };
+    };
+    if output.len() < output_least(form) {
+        return PlayedRecord {
+            ended: Err(Unplayed::OutputShort),
+            chip,
+        };
+    }
+    match record {
+        Record::OtherSeat => PlayedRecord {
+            ended: Ok(Sent {
+                bytes: 0,
+                frames: 0,
+            }),
             chip,
         },
-        Record::OtherSeat => {
-            if output.len() < least {
-                return PlayedRecord {
-                    ended: RecordEnded::OutputShort,
-                    chip,
-                };
-            }
-            PlayedRecord {
-                ended: RecordEnded::Played {
-                    bytes: 0,
-                    frames: 0,
-                },
-                chip,
-            }
-        }
-        Record::GapRecord => {
-            if output.len() < least {
-                return PlayedRecord {
-                    ended: RecordEnded::OutputShort,
-                    chip,
-                };
-            }
-            play_gap(part, chip, code, data, sums, room, output)
-        }
+        Record::GapRecord => play_gap(part, chip, code, data, sums, room, output),
         Record::BytesRecord(n) => {
-            if output.len() < least {
-                return PlayedRecord {
-                    ended: RecordEnded::OutputShort,
-                    chip,
-                };
-            }
             let carried = replay_capture::carried(form, n, bytes);
             play_bytes(part, chip, carried, code, data, sums, room, output)
         }

@@ -21,18 +21,26 @@ use Rattle.frame.specs.Collector.{added, collecting, heard}
 use Rattle.frame.specs.declared.collector.Collector.{Collector}
 use Rattle.lent.proofs.Laws.{put-lands}
 use Rattle.lent.specs.Lent.{Left, left, put_of}
-use Rattle.lent.specs.declared.Room.{Room}
+use Rattle.replay_capture.specs.declared.Record.TheVariants.{BytesRecord, GapRecord, OtherSeat}
+use Rattle.replay_capture.specs.declared.BadRecord.{BadRecord}
+use Rattle.replay_capture.specs.declared.Record.{Record}
+use Rattle.lent.specs.declared.Short.{Short}
+use Rattle.std.specs.Prelude.{Err, None, Ok, Result, Some}
 use Rattle.part.specs.declared.Part.{Part}
 use Rattle.replay_capture.proofs.Laws.{Carries, carried-long, carries-is, sizes}
 use Rattle.replay_capture.specs.Capture.{carried_bytes, record_of}
 use Rattle.replay_capture.specs.declared.Form.{Form}
-use Rattle.replay_capture.specs.declared.Record.{Record}
-use Rattle.replay_capture.specs.declared.Record.TheVariants.{BadRecord, BytesRecord, GapRecord, OtherSeat}
 use Rattle.replay_play.specs.Play.{output_least}
-use Rattle.replay_quiet.specs.Quiet.{accepted_in, collected_by, is_quiet, settled_if, settle_of, settling}
+use Rattle.part.specs.declared.refusal.Refusal.{Refusal}
+use Rattle.std.specs.Result.{is_ok}
+use Rattle.replay_quiet.specs.Quiet.{accepted_in, collected_by, is_accepted, is_quiet, settled_if, settle_of, settling}
 use Rattle.replay_quiet.specs.declared.Lengths.{Lengths}
-use Rattle.replay_quiet.specs.declared.Quiet.TheVariants.{NotQuiet, Settled}
 use Rattle.words.specs.Words.{◌and◌}
+
+-- A verdict accepts where it is no refusal.
+pub accepted-is : (v : Result Unit Refusal) → is_ok v ≡ is_accepted v
+accepted-is (Ok _) = refl
+accepted-is (Err r) = refl
 
 -- The bytes of what is collected, and of what is behind it.
 pub front_at : (l more : List ℕ) (count i : ℕ) → count ≤ length l → i < count → get_or l i 0 ≡ get_or (take count l ++ more) i 0
@@ -72,11 +80,11 @@ front-is {r} {e} {n} {head} {len} f l more count w h g i j x y =
 
 -- Whether a record is quiet, as the code asks it.
 pub bytes-quiet-is : (form : Form) {ds : List ℕ} (n count : ℕ) (f : Phase) (held bs : List ℕ) → ds ≡ carried_bytes form n bs
-    → is_quiet form (BytesRecord n) f (heard (collecting held count)) bs ≡ good_heard f (take count held ++ ds)
+    → is_quiet form (Ok (BytesRecord n)) f (heard (collecting held count)) bs ≡ good_heard f (take count held ++ ds)
 unfolding is_quiet
 bytes-quiet-is form {ds} n count f held bs e = rw (heard-is (collecting held count), e)
 
-pub bad-is-loud : (form : Form) (f : Phase) (hs bs : List ℕ) → is_quiet form BadRecord f hs bs ≡ false
+pub bad-is-loud : (form : Form) (f : Phase) (hs bs : List ℕ) → is_quiet form (Err (record {})) f hs bs ≡ false
 unfolding is_quiet
 bad-is-loud form f hs bs = refl
 
@@ -87,40 +95,40 @@ and_none false = refl
 
 -- What settling a record leaves: nothing, for want of output or of a quiet record that is accepted;
 module _ (form : Form) (known : Bool) (p : Part) (c : Chip) (bs : List ℕ) (l : Lengths) {least : ℕ} (asked : least ≡ output_least form) where
-  pub settles-short : l.output < least → settling NotQuiet c.collector.bytes ≡ settle_of form known p c bs l
+  pub settles-short : l.output < least → settling None c.collector.bytes ≡ settle_of form known p c bs l
   unfolding settle_of settled_if ◌and◌
   settles-short h = simp (lt-leb (output_least form) l.output (omega (arith, asked)))
 
-  module _ (r : Record) (judged : record_of form bs ≡ r) (room : least ≤ l.output) where
+  module _ (r : Result Record BadRecord) (judged : record_of form bs ≡ r) (room : least ≤ l.output) where
     enough : leb (output_least form) l.output ≡ true
     enough = le-leb (output_least form) l.output (omega (arith, asked))
 
-    pub settles-loud : is_quiet form r c.core.phase (heard c.collector) bs ≡ false → settling NotQuiet c.collector.bytes ≡ settle_of form known p c bs l
+    pub settles-loud : is_quiet form r c.core.phase (heard c.collector) bs ≡ false → settling None c.collector.bytes ≡ settle_of form known p c bs l
     unfolding settle_of settled_if ◌and◌
     settles-loud e = simp (judged, enough, e)
 
-    pub settles-barred : accepted_in known p c l ≡ false → settling NotQuiet c.collector.bytes ≡ settle_of form known p c bs l
+    pub settles-barred : accepted_in known p c l ≡ false → settling None c.collector.bytes ≡ settle_of form known p c bs l
     unfolding settle_of settled_if ◌and◌
     settles-barred e = simp (judged, enough, e, and_none (is_quiet form r c.core.phase (heard c.collector) bs))
 
     settles : is_quiet form r c.core.phase (heard c.collector) bs ≡ true → accepted_in known p c l ≡ true
-        → settling (Settled (collected_by form r bs c.collector).len) (collected_by form r bs c.collector).bytes ≡ settle_of form known p c bs l
+        → settling (Some (collected_by form r bs c.collector).len) (collected_by form r bs c.collector).bytes ≡ settle_of form known p c bs l
     unfolding settle_of settled_if ◌and◌
     settles e a = simp (judged, enough, e, a)
 
   -- a gap, with nothing collected any more; the other seat's, with all as it was; and bytes, with them behind what is collected.
-  pub settles-gap : record_of form bs ≡ GapRecord → least ≤ l.output → accepted_in known p c l ≡ true → settling (Settled 0) c.collector.bytes ≡ settle_of form known p c bs l
+  pub settles-gap : record_of form bs ≡ Ok GapRecord → least ≤ l.output → accepted_in known p c l ≡ true → settling (Some 0) c.collector.bytes ≡ settle_of form known p c bs l
   unfolding is_quiet collected_by
-  settles-gap e h a = sym (ap (λ (d : Collector). settling (Settled d.len) d.bytes) (dropped-leaves c.collector)) ∙ settles GapRecord e h refl a
+  settles-gap e h a = sym (ap (λ (d : Collector). settling (Some d.len) d.bytes) (dropped-leaves c.collector)) ∙ settles (Ok GapRecord) e h refl a
 
-  pub settles-other : record_of form bs ≡ OtherSeat → least ≤ l.output → accepted_in known p c l ≡ true
-      → settling (Settled c.collector.len) c.collector.bytes ≡ settle_of form known p c bs l
+  pub settles-other : record_of form bs ≡ Ok OtherSeat → least ≤ l.output → accepted_in known p c l ≡ true
+      → settling (Some c.collector.len) c.collector.bytes ≡ settle_of form known p c bs l
   unfolding is_quiet collected_by
-  settles-other e h a = settles OtherSeat e h refl a
+  settles-other e h a = settles (Ok OtherSeat) e h refl a
 
-  pub settles-bytes : {ds : List ℕ} (n : ℕ) (a : Room) (held : List ℕ) → record_of form bs ≡ BytesRecord n → least ≤ l.output → ds ≡ carried_bytes form n bs
-      → length c.collector.bytes ≡ 260 → c.collector.len + n ≤ 260 → is_quiet form (BytesRecord n) c.core.phase (heard c.collector) bs ≡ true → accepted_in known p c l ≡ true
-      → left a held ≡ put_of c.collector.bytes c.collector.len ds → settling (Settled (c.collector.len + n)) held ≡ settle_of form known p c bs l
+  pub settles-bytes : {ds : List ℕ} (n : ℕ) (a : Result Unit Short) (held : List ℕ) → record_of form bs ≡ Ok (BytesRecord n) → least ≤ l.output → ds ≡ carried_bytes form n bs
+      → length c.collector.bytes ≡ 260 → c.collector.len + n ≤ 260 → is_quiet form (Ok (BytesRecord n)) c.core.phase (heard c.collector) bs ≡ true → accepted_in known p c l ≡ true
+      → left a held ≡ put_of c.collector.bytes c.collector.len ds → settling (Some (c.collector.len + n)) held ≡ settle_of form known p c bs l
   unfolding collected_by
   settles-bytes {ds} n a held e h d w k g t u =
       let q : left a held ≡ put_of c.collector.bytes c.collector.len (carried_bytes form n bs) = u ∙ ap (put_of c.collector.bytes c.collector.len) d in
@@ -129,10 +137,10 @@ module _ (form : Form) (known : Bool) (p : Part) (c : Chip) (bs : List ℕ) (l :
       ap (λ (i : ℕ). collecting held (c.collector.len + i)) (sym m)
       ∙ add-put c.collector (carried_bytes form n bs) held a q
       (ap (λ (x : Left). x.answer) (q ∙ put-lands c.collector.bytes c.collector.len (carried_bytes form n bs) (omega (arith, m, w)))) w in
-      ap (λ (d : Collector). settling (Settled d.len) d.bytes) f ∙ settles (BytesRecord n) e h g t
+      ap (λ (d : Collector). settling (Some d.len) d.bytes) f ∙ settles (Ok (BytesRecord n)) e h g t
 
 -- Where bytes leave a front, they have places.
-pub front_fits : (form : Form) {ds : List ℕ} (n count : ℕ) (f : Phase) (held bs : List ℕ) → record_of form bs ≡ BytesRecord n → ds ≡ carried_bytes form n bs → length held ≡ 260
+pub front_fits : (form : Form) {ds : List ℕ} (n count : ℕ) (f : Phase) (held bs : List ℕ) → record_of form bs ≡ Ok (BytesRecord n) → ds ≡ carried_bytes form n bs → length held ≡ 260
     → good_heard f (take count held ++ ds) ≡ true → count + n < 260
 front_fits form {ds} n count f held bs e d w g = go (dec_le count 260)
   where

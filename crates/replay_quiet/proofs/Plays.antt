@@ -19,39 +19,38 @@ use Rattle.frame.proofs.Laws.Collector.{added-places, dropped-leaves, length-hea
 use Rattle.frame.specs.Collector.{added, collecting, dropped, heard}
 use Rattle.frame.specs.declared.collector.Collector.{Collector}
 use Rattle.part.specs.declared.Part.{Part}
-use Rattle.part.specs.declared.refusal.Verdict.{Verdict}
-use Rattle.part.specs.declared.refusal.Verdict.TheVariants.{Accepted, Refused}
+use Rattle.chip_reply.specs.Reply.{sent_as}
+use Rattle.replay_capture.specs.declared.Record.TheVariants.{BytesRecord, GapRecord, OtherSeat}
+use Rattle.replay_capture.specs.declared.BadRecord.{BadRecord}
+use Rattle.replay_capture.specs.declared.Record.{Record}
+use Rattle.part.specs.declared.refusal.Refusal.{Refusal}
+use Rattle.std.specs.Prelude.{Err, None, Ok, Option, Result, Some}
 use Rattle.replay_capture.specs.Capture.{carried_bytes, record_of}
 use Rattle.replay_capture.specs.declared.Form.{Form}
-use Rattle.replay_capture.specs.declared.Record.{Record}
-use Rattle.replay_capture.specs.declared.Record.TheVariants.{BadRecord, BytesRecord, GapRecord, OtherSeat}
 use Rattle.replay_play.proofs.Quiet.{bytes-quiet, gap-quiet, other-quiet}
 use Rattle.replay_play.specs.Play.{output_least, play_of, record_playing}
-use Rattle.replay_play.specs.declared.RecordEnded.TheVariants.{Played}
 use Rattle.replay_quiet.specs.Quiet.{Settling, accepted_in, collected_by, is_accepted, is_quiet, settled_if, settle_of, settling}
 use Rattle.replay_quiet.specs.declared.Lengths.{Lengths}
-use Rattle.replay_quiet.specs.declared.Quiet.{Quiet}
-use Rattle.replay_quiet.specs.declared.Quiet.TheVariants.{NotQuiet, Settled}
 use Rattle.words.proofs.Laws.{and_left, and_right}
 use Rattle.words.specs.Words.{◌and◌, ◌or◌}
 
 pub record PlayedBy (form : Form) (p : Part) (bs : List ℕ) (c : Chip) (m : Memory) (room output : List ℕ) (d : Collector) : Type 0 where
-  pub plays : record_playing (record { ended = Played 0 0; chip = collects c d }) m room output ≡ play_of form p bs c m room output
-  pub accepted : verdict_at p (collects c d) m room ≡ Accepted
+  pub plays : record_playing (record { ended = Ok (sent_as 0 0); chip = collects c d }) m room output ≡ play_of form p bs c m room output
+  pub accepted : verdict_at p (collects c d) m room ≡ Ok tt
   pub places : length d.bytes ≡ 260
 
-accepted-so : (v : Verdict) → is_accepted v ≡ true → v ≡ Accepted
-accepted-so Accepted e = refl
-accepted-so (Refused r) e = absurd (let z : ◌≡◌ {A = ℕ} 0 1 = cc in omega arith)
+accepted-so : (v : Result Unit Refusal) → is_accepted v ≡ true → v ≡ Ok tt
+accepted-so (Ok _) e = refl
+accepted-so (Err r) e = absurd (let z : ◌≡◌ {A = ℕ} 0 1 = cc in omega arith)
 
-known_so : (known : Bool) (v : Verdict) → (known ≡ true → v ≡ Accepted) → known or is_accepted v ≡ true → v ≡ Accepted
+known_so : (known : Bool) (v : Result Unit Refusal) → (known ≡ true → v ≡ Ok tt) → known or is_accepted v ≡ true → v ≡ Ok tt
 unfolding ◌or◌
 known_so true v k e = k refl
 known_so false v k e = accepted-so v e
 
-module _ (form : Form) (p : Part) (bs : List ℕ) (c : Chip) (m : Memory) (room output : List ℕ) (places : length c.collector.bytes ≡ 260) (accepted : verdict_at p c m room ≡ Accepted)
+module _ (form : Form) (p : Part) (bs : List ℕ) (c : Chip) (m : Memory) (room output : List ℕ) (places : length c.collector.bytes ≡ 260) (accepted : verdict_at p c m room ≡ Ok tt)
     (long : output_least form ≤ length output) where
-  by-gap : record_of form bs ≡ GapRecord → PlayedBy form p bs c m room output (dropped c.collector)
+  by-gap : record_of form bs ≡ Ok GapRecord → PlayedBy form p bs c m room output (dropped c.collector)
   by-gap e =
       record {
         plays = gap-quiet form p bs c m room output long e accepted;
@@ -59,7 +58,7 @@ module _ (form : Form) (p : Part) (bs : List ℕ) (c : Chip) (m : Memory) (room 
         places = ap (λ (d : Collector). length d.bytes) (dropped-leaves c.collector) ∙ places;
       }
 
-  by_bytes : (n : ℕ) → record_of form bs ≡ BytesRecord n → good_heard c.core.phase (heard c.collector ++ carried_bytes form n bs) ≡ true
+  by_bytes : (n : ℕ) → record_of form bs ≡ Ok (BytesRecord n) → good_heard c.core.phase (heard c.collector ++ carried_bytes form n bs) ≡ true
       → PlayedBy form p bs c m room output (added c.collector (carried_bytes form n bs))
   by_bytes n e g =
       let f = hearing c.core.phase in
@@ -72,33 +71,33 @@ module _ (form : Form) (p : Part) (bs : List ℕ) (c : Chip) (m : Memory) (room 
         places = added-places c.collector (carried_bytes form n bs) places h;
       }
 
-  by-other : record_of form bs ≡ OtherSeat → PlayedBy form p bs c m room output c.collector
+  by-other : record_of form bs ≡ Ok OtherSeat → PlayedBy form p bs c m room output c.collector
   by-other e = record { plays = other-quiet form p bs c m room output long e; accepted = accepted; places = places }
 
-  by-record : (r : Record) → record_of form bs ≡ r → is_quiet form r c.core.phase (heard c.collector) bs ≡ true → PlayedBy form p bs c m room output (collected_by form r bs c.collector)
+  by-record : (r : Result Record BadRecord) → record_of form bs ≡ r → is_quiet form r c.core.phase (heard c.collector) bs ≡ true → PlayedBy form p bs c m room output (collected_by form r bs c.collector)
   unfolding is_quiet collected_by
-  by-record GapRecord e q = by-gap e
-  by-record (BytesRecord n) e q = by_bytes n e q
-  by-record OtherSeat e q = by-other e
-  by-record BadRecord e q = absurd (let z : ◌≡◌ {A = ℕ} 0 1 = cc in omega arith)
+  by-record (Ok GapRecord) e q = by-gap e
+  by-record (Ok (BytesRecord n)) e q = by_bytes n e q
+  by-record (Ok OtherSeat) e q = by-other e
+  by-record (Err _) e q = absurd (let z : ◌≡◌ {A = ℕ} 0 1 = cc in omega arith)
 
-pub settled-plays : (form : Form) (known : Bool) (p : Part) (c : Chip) (m : Memory) (room output bs : List ℕ) (l : Lengths) (n : ℕ) (held : List ℕ) (s : Quiet) → length c.collector.bytes ≡ 260
-    → (known ≡ true → verdict_at p c m room ≡ Accepted) → l.code ≡ length m.flash.code_flash → l.«data» ≡ length m.flash.data_flash → l.room ≡ length room → l.output ≡ length output
-    → settling s held ≡ settle_of form known p c bs l → s ≡ Settled n → PlayedBy form p bs c m room output (collecting held n)
+pub settled-plays : (form : Form) (known : Bool) (p : Part) (c : Chip) (m : Memory) (room output bs : List ℕ) (l : Lengths) (n : ℕ) (held : List ℕ) (s : Option ℕ) → length c.collector.bytes ≡ 260
+    → (known ≡ true → verdict_at p c m room ≡ Ok tt) → l.code ≡ length m.flash.code_flash → l.«data» ≡ length m.flash.data_flash → l.room ≡ length room → l.output ≡ length output
+    → settling s held ≡ settle_of form known p c bs l → s ≡ Some n → PlayedBy form p bs c m room output (collecting held n)
 unfolding settle_of settled_if
 settled-plays form known p c m room output bs l n held s w k lc ld lr lo e t = go (leb (output_least form) l.output and is_quiet form r c.core.phase (heard c.collector) bs and accepted_in known p c l) refl e
   where
-    r : Record
+    r : Result Record BadRecord
     r = record_of form bs
 
     go : (u : Bool) → leb (output_least form) l.output and is_quiet form r c.core.phase (heard c.collector) bs and accepted_in known p c l ≡ u → settling s held ≡ settled_if u form r bs c.collector
         → PlayedBy form p bs c m room output (collecting held n)
-    go false x y = absurd (let v : Settled n ≡ NotQuiet = sym t ∙ ap (λ (z : Settling). z.quiet) y in let z : ◌≡◌ {A = ℕ} 0 1 = cc in omega arith)
+    go false x y = absurd (let v : Some n ≡ None = sym t ∙ ap (λ (z : Settling). z.quiet) y in let z : ◌≡◌ {A = ℕ} 0 1 = cc in omega arith)
     go true x y =
         let d = collected_by form r bs c.collector in
         let a : accepted_in known p c l ≡ true = and_right _ _ (and_right _ _ x) in
-        let v : verdict_at p c m room ≡ Accepted = known_so known (verdict_at p c m room) k (rw (sym lc, sym ld, sym lr) a) in
-        let i : Settled n ≡ Settled d.len = sym t ∙ ap (λ (z : Settling). z.quiet) y in
+        let v : verdict_at p c m room ≡ (Ok tt) = known_so known (verdict_at p c m room) k (rw (sym lc, sym ld, sym lr) a) in
+        let i : Some n ≡ Some d.len = sym t ∙ ap (λ (z : Settling). z.quiet) y in
         let j : n ≡ d.len = cc in
         let h : held ≡ d.bytes = ap (λ (z : Settling). z.held) y in
         let o : collecting held n ≡ d = ap (λ (q : List ℕ). collecting q n) h ∙ ap (λ (q : ℕ). collecting d.bytes q) j in
@@ -106,15 +105,15 @@ settled-plays form known p c m room output bs l n held s w k lc ld lr lo e t = g
         (by-record form p bs c m room output w v (omega (arith, leb-true (output_least form) l.output (and_left _ _ x), lo)) r refl (and_left _ _ (and_right _ _ x)))
 
 -- A record that is not settled is left to the play, and nothing was changed.
-pub left_alone : (form : Form) (known : Bool) (p : Part) (c : Chip) (bs : List ℕ) (l : Lengths) (held : List ℕ) (s : Quiet) → settling s held ≡ settle_of form known p c bs l → s ≡ NotQuiet → held ≡ c.collector.bytes
+pub left_alone : (form : Form) (known : Bool) (p : Part) (c : Chip) (bs : List ℕ) (l : Lengths) (held : List ℕ) (s : Option ℕ) → settling s held ≡ settle_of form known p c bs l → s ≡ None → held ≡ c.collector.bytes
 unfolding settle_of settled_if
 left_alone form known p c bs l held s e t = go (leb (output_least form) l.output and is_quiet form r c.core.phase (heard c.collector) bs and accepted_in known p c l) e
   where
-    r : Record
+    r : Result Record BadRecord
     r = record_of form bs
 
     go : (u : Bool) → settling s held ≡ settled_if u form r bs c.collector → held ≡ c.collector.bytes
     go false y = ap (λ (z : Settling). z.held) y
     go true y =
         absurd
-        (let v : NotQuiet ≡ Settled (collected_by form r bs c.collector).len = sym t ∙ ap (λ (z : Settling). z.quiet) y in let z : ◌≡◌ {A = ℕ} 0 1 = cc in omega arith)
+        (let v : None ≡ Some (collected_by form r bs c.collector).len = sym t ∙ ap (λ (z : Settling). z.quiet) y in let z : ◌≡◌ {A = ℕ} 0 1 = cc in omega arith)

@@ -10,15 +10,7 @@ ghost use Rattle.replay_quiet.specs.Quiet.{accepted_in, chip_held, settle_of, se
 use chip_core::{Core, Phase};
 use chip_state::Handed;
 use part::Part;
-use part::refusal::Verdict;
 use replay_capture::{Form, Record};
-
-// What became of a record: it is settled, and so many bytes are collected; or it is not quiet, and nothing was changed.
-#[derive(Clone, Copy)]
-pub enum Quiet {
-    Settled(usize),
-    NotQuiet,
-}
 
 // How much is lent beside the collected bytes.
 #[derive(Clone, Copy)]
@@ -77,15 +69,11 @@ fn is_accepted(
         data: lengths.data,
         room: lengths.room,
     };
-    let v = chip_state::verdict(part, core, handed);
-    match v {
-        Verdict::Accepted => true,
-        Verdict::Refused(refusal) => false,
-    }
+    chip_state::verdict(part, core, handed).is_ok()
 }
 
 // One record of a capture, where it is quiet, the chip accepts it and the output has room for a record's replies: the bytes that it carries go behind those
-// collected; for a gap, none is collected any more; for the other seat's, all stays.
+// collected; for a gap, none is collected any more; for the other seat's, all stays. How many are collected then; none where it is not quiet, and nothing was changed.
 pub fn settle(
     form: Form,
     known: bool,
@@ -95,38 +83,39 @@ pub fn settle(
     count: usize,
     bytes: &[u8],
     lengths: Lengths,
-) -> Quiet
+) -> Option<usize>
     ensures { settling result held.new ≡ settle_of form known part (chip_held core held.old count) bytes.now lengths }
 {
     if lengths.output < replay_play::output_least(form) {
-        return Quiet::NotQuiet;
+        return None;
     }
-    let judged = replay_capture::read(form, bytes);
-    match judged {
-        Record::BadRecord => Quiet::NotQuiet,
+    let Ok(record) = replay_capture::read(form, bytes) else {
+        return None;
+    };
+    match record {
         Record::OtherSeat => {
             if is_accepted(known, part, core, held, count, lengths) {
-                return Quiet::Settled(count);
+                return Some(count);
             }
-            Quiet::NotQuiet
+            None
         }
         Record::GapRecord => {
             if is_accepted(known, part, core, held, count, lengths) {
-                return Quiet::Settled(0);
+                return Some(0);
             }
-            Quiet::NotQuiet
+            None
         }
         Record::BytesRecord(n) => {
             let carried = replay_capture::carried(form, n, bytes);
             let phase = core.phase;
-            if is_front(phase, held, count, carried) {
-                if is_accepted(known, part, core, held, count, lengths) {
-                    lent::put(held, count, carried);
-                    return Quiet::Settled(count + n);
-                }
-                return Quiet::NotQuiet;
+            if !is_front(phase, held, count, carried) {
+                return None;
             }
-            Quiet::NotQuiet
+            if !is_accepted(known, part, core, held, count, lengths) {
+                return None;
+            }
+            let _ = lent::put(held, count, carried);
+            Some(count + n)
         }
     }
 }

@@ -1,24 +1,23 @@
 -- Replay of a capture, of either form: document 01, "Replay", and 02, section 5. Its records are played one after the other, up to the first that
 -- is not good; the reply frames stand end to end.
-use Rattle.std.specs.Prelude.{List, [], ◌++◌, ◌∷◌, ◌+◌, ℕ, drop, take}
+use Rattle.std.specs.Prelude.{List, [], ◌++◌, ◌∷◌, ◌+◌, ℕ, drop, take, Err, Ok, Result}
 use Rattle.replay_capture.specs.Capture.{record_size, records_of}
 use Rattle.replay_capture.specs.declared.Form.{Form}
 use Rattle.chip_state.specs.declared.Chip.{Chip}
 use Rattle.chip_core.specs.Effect.{Memory}
 use Rattle.part.specs.declared.Part.{Part}
-use Rattle.replay_records.specs.declared.Ended.{Ended}
-use Rattle.replay_records.specs.declared.Ended.TheVariants.{AtBadRecord, OutputFull, Whole}
-use Rattle.replay_records.specs.declared.Ended.TheVariants as Ended
+use Rattle.replay_play.specs.declared.Unplayed.TheVariants.{NotGood, OutputShort}
+use Rattle.replay_play.specs.declared.Unplayed.{Unplayed}
+use Rattle.chip_reply.specs.declared.Sent.{Sent}
+use Rattle.replay_records.specs.declared.Halt.TheVariants.{AtBadRecord, OutputFull}
+use Rattle.replay_records.specs.declared.Halt.{Halt}
 use Rattle.replay_records.specs.declared.Replayed.{Replayed}
-use Rattle.replay_play.specs.declared.RecordEnded.{RecordEnded}
-use Rattle.replay_play.specs.declared.RecordEnded.TheVariants.{NotGood, OutputShort, Played}
-use Rattle.replay_play.specs.declared.RecordEnded.TheVariants as RecordEnded
 use Rattle.replay_play.specs.Play.{RecordPlaying, play_of}
 
 -- A capture's records one after the other: how it ended, how many records were played, how many bytes and frames of replies stand in the output, and what
 -- the last record left.
 pub record Replaying : Type 0 where
-  pub ended : Ended
+  pub ended : Result Unit Halt
   pub records : ℕ
   pub bytes : ℕ
   pub frames : ℕ
@@ -41,7 +40,7 @@ replaying r m room output =
     }
 
 -- A record's replies follow those of the records before it.
-abbrev pub after_record : Ended → ℕ → ℕ → ℕ → RecordPlaying → Replaying → Replaying
+abbrev pub after_record : Result Unit Halt → ℕ → ℕ → ℕ → RecordPlaying → Replaying → Replaying
 after_record e records bytes frames t x =
     record {
       ended = e;
@@ -54,11 +53,11 @@ after_record e records bytes frames t x =
       output = take x.bytes x.output ++ t.output;
     }
 
-unfoldable pub next_by : RecordEnded → RecordPlaying → Replaying → Replaying
-next_by (Played bytes frames) t x = after_record Whole 1 bytes frames t x
-next_by NotGood t x = after_record AtBadRecord 0 0 0 t x
-next_by OutputShort t x = after_record OutputFull 0 0 0 t x
-next_by (RecordEnded.Refused r) t x = after_record (Ended.Refused r) 0 0 0 t x
+unfoldable pub next_by : Result Sent Unplayed → RecordPlaying → Replaying → Replaying
+next_by (Ok sent) t x = after_record (Ok tt) 1 sent.bytes sent.frames t x
+next_by (Err NotGood) t x = after_record (Err AtBadRecord) 0 0 0 t x
+next_by (Err OutputShort) t x = after_record (Err OutputFull) 0 0 0 t x
+next_by (Err (Unplayed.Refused r)) t x = after_record (Err (Halt.Refused r)) 0 0 0 t x
 
 abbrev pub next_of : Form → Part → List ℕ → Replaying → Replaying
 next_of form p r x =
@@ -66,11 +65,11 @@ next_of form p r x =
     next_by t.ended t x
 
 -- "a bad or short record prints `BAD`, a space and its number from 0, and stops there": its number is that of the records before it, whichever seat's they are.
-unfoldable pub while_whole : Ended → Replaying → Replaying → Replaying
-while_whole Whole rest x = rest
-while_whole AtBadRecord rest x = x
-while_whole OutputFull rest x = x
-while_whole (Ended.Refused r) rest x = x
+unfoldable pub while_whole : Result Unit Halt → Replaying → Replaying → Replaying
+while_whole (Ok _) rest x = rest
+while_whole (Err AtBadRecord) rest x = x
+while_whole (Err OutputFull) rest x = x
+while_whole (Err (Halt.Refused r)) rest x = x
 
 unfoldable pub replayed_from : Form → Part → List (List ℕ) → Replaying → Replaying
 replayed_from form p [] x = x
@@ -80,7 +79,7 @@ replayed_from form p (r ∷ rs) x = while_whole (next_of form p r x).ended (repl
 unfoldable pub replay_of : Form → Part → List ℕ → Chip → Memory → List ℕ → List ℕ → Replaying
 replay_of form p capture c m room output =
     replayed_from form p (records_of (record_size form) capture)
-    (record { ended = Whole; records = 0; bytes = 0; frames = 0; chip = c; memory = m; room = room; output = output })
+    (record { ended = Ok tt; records = 0; bytes = 0; frames = 0; chip = c; memory = m; room = room; output = output })
 
 -- "The chip has 16 code and 4 data blocks, clock 32". Device code, name and version are those of 000, table 3-2, its misprint of one digit mended.
 abbrev pub replay_part : Part

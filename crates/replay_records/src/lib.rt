@@ -3,36 +3,48 @@
 // Reading the capture and printing the frames is the program's.
 #![tactic(auto)]
 
-ghost use Rattle.std.specs.Prelude.{◌≡◌, true, length};
+ghost use Rattle.std.specs.Prelude.{◌≡◌, true, length, Ok};
 ghost use Rattle.chip_core.specs.Effect.{memory};
 ghost use Rattle.replay_records.specs.Records.{replay_of, replay_part, replaying};
 ghost use Rattle.chip_state.specs.Refusals.{verdict_on};
-ghost use Rattle.part.specs.declared.refusal.Verdict.TheVariants.{Accepted};
 ghost use Rattle.replay_play.specs.Play.{play_of};
 ghost use Rattle.replay_quiet.specs.Quiet.{chip_held};
-ghost use Rattle.replay_records.specs.Inner.Loop.{turn_left};
+ghost use Rattle.replay_records.specs.Inner.Loop.{halt_of, turn_left};
 
 use chip_core::Core;
+use chip_reply::Sent;
 use chip_state::Chip;
 use frame::collector::Collector;
 use part::Part;
 use part::refusal::Refusal;
 use replay_capture::Form;
-use replay_play::RecordEnded;
-use replay_quiet::{Lengths, Quiet};
+use replay_play::Unplayed;
+use replay_quiet::Lengths;
 
-// How a capture ended: with its last record; at a record that is not good; before one, for want of output; or at a call that the chip refused.
-#[derive(Clone, Copy)]
-pub enum Ended {
-    Whole,
+// Where a capture did not end with its last record: at a record that is not good; before one, for want of output; or at a call that the chip refused.
+#[derive(Clone, Copy, Debug, PartialEq, Eq)]
+pub enum Halt {
     AtBadRecord,
     OutputFull,
     Refused(Refusal),
 }
 
+impl From<Unplayed> for Halt {
+    ghost from_gives = { λ u h. h ≡ halt_of u };
+
+    #[tactic(auto, unfolding(crate::specs::Inner::Loop::halt_of))]
+    fn from(unplayed: Unplayed) -> Halt {
+        match unplayed {
+            Unplayed::NotGood => Halt::AtBadRecord,
+            Unplayed::OutputShort => Halt::OutputFull,
+            Unplayed::Refused(refusal) => Halt::Refused(refusal),
+        }
+    }
+}
+
 #[derive(Clone, Copy)]
 pub struct Replayed {
-    pub ended: Ended,
+    pub ended: Result<(), Halt>,
     pub records: usize,
     pub bytes: usize,
     pub frames: usize,
@@ -42,7 +54,7 @@ pub struct Replayed {
 // What a record's turn came to: how it ended, the chip's record, how many bytes are collected, and whether the next call is known to be accepted.
 #[derive(Clone, Copy)]
 struct RecordTurn {
-    ended: RecordEnded,
+    ended: Result<Sent, Unplayed>,
     core: Core,
     count: usize,
     known: bool,
@@ -64,14 +76,14 @@ fn turn(
     output: &mut [u8],
 ) -> RecordTurn
     requires { (length held.old ≡ 260)
-        × (known ≡ true → verdict_on part (chip_held core held.old count) (length code.old) (length «data».old) (length room.old) ≡ Accepted) }
+        × (known ≡ true → verdict_on part (chip_held core held.old count) (length code.old) (length «data».old) (length room.old) ≡ Ok tt) }
     ensures { (turn_left result held.new (memory code.new «data».new sums.new) room.new output.new
         ≡ play_of form part bytes.now (chip_held core held.old count) (memory code.old «data».old sums.old)
         room.old output.old)
         × (length held.new ≡ 260)
         × (result.known ≡ true
         → verdict_on part (chip_held result.core held.new result.count) (length code.new) (length «data».new) (length room.new)
-        ≡ Accepted) }
+        ≡ Ok tt) }
 {
     let lengths = Lengths {
         code: code.len(),
@@ -81,16 +93,16 @@ fn turn(
     };
     let quiet = replay_quiet::settle(form, known, part, core, held, count, bytes, lengths);
     match quiet {
-        Quiet::Settled(n) => RecordTurn {
-            ended: RecordEnded::Played {
+        Some(n) => RecordTurn {
+            ended: Ok(Sent {
                 bytes: 0,
                 frames: 0,
-            },
+            }),
             core,
             count: n,
             known: true,
         },
-        Quiet::NotQuiet => {
+        None => {
             let before = *held;
             let chip = Chip {
                 core,
@@ -138,12 +150,11 @@ pub fn replay(
     let mut held = collector.bytes;
     let mut count = collector.len;
     let mut known = false;
-    let mut at = 0;
+    let mut ended = Ok(());
     let mut records = 0;
     let mut bytes = 0;
     let mut frames = 0;
-    while at < capture.len() {
-        let end = replay_capture::record_end(form, at, capture.len());
+    for record in capture.chunks(replay_capture::record_size(form)) {
         let t = turn(
             form,
             known,
@@ -151,7 +162,7 @@ pub fn replay(
             core,
             &mut held,
             count,
-            &capture[at..end],
+            record,
             code,
             data,
             sums,
@@ -161,66 +172,20 @@ pub fn replay(
         core = t.core;
         count = t.count;
         known = t.known;
-        let ended = t.ended;
-        match ended {
-            RecordEnded::Played {
-                bytes: n,
-                frames: k,
-            } => {
-                at = end;
+        match t.ended {
+            Ok(sent) => {
                 records = records + 1;
-                bytes = bytes + n;
-                frames = frames + k;
+                bytes = bytes + sent.bytes;
+                frames = frames + sent.frames;
             }
-            RecordEnded::NotGood => {
-                return Replayed {
-                    ended: Ended::AtBadRecord,
-                    records,
-                    bytes,
-                    frames,
-                    chip: Chip {
-                        core,
-                        collector: Collector {
-                            bytes: held,
-                            len: count,
-                        },
-                    },
-                };
-            }
-            RecordEnded::OutputShort => {
-                return Replayed {
-                    ended: Ended::OutputFull,
-                    records,
-                    bytes,
-                    frames,
-                    chip: Chip {
-                        core,
-                        collector: Collector {
-                            bytes: held,
-                            len: count,
-                        },
-                    },
-                };
-            }
-            RecordEnded::Refused(refusal) => {
-                return Replayed {
-                    ended: Ended::Refused(refusal),
-                    records,
-                    bytes,
-                    frames,
-                    chip: Chip {
-                        core,
-                        collector: Collector {
-                            bytes: held,
-                            len: count,
-                        },
-                    },
-                };
+            Err(unplayed) => {
+                ended = Err(Halt::from(unplayed));
+                break;
             }
         }
     }
     Replayed {
-        ended: Ended::Whole,
+        ended,
         records,
         bytes,
         frames,

@@ -2,7 +2,7 @@
 // What it must print, in `stdout`, is copied from the documents: 000 chapter 2 and 003 sections 6.1.2, 6.9.2, 6.10.2, 6.11.2 and 6.13.2.
 #![tactic(auto)]
 
-use frame::wire::Wrote;
+use frame::wire::WriteError;
 use frame::{Footer, judgement, wire};
 use std::io;
 use std::io::Write;
@@ -13,21 +13,19 @@ fn show<W: Write>(out: &mut W, bytes: &[u8]) -> io::Result<()> {
     if 8 < bytes.len() {
         return Ok(());
     }
-    replay_hex::line(bytes, &mut text);
+    let _ = replay_hex::line(bytes, &mut text);
     let end = 3 * bytes.len();
     out.write_all(&text[0..end])
 }
 
-fn show_written<W: Write>(out: &mut W, wrote: Wrote, room: &[u8]) -> io::Result<()> {
+fn show_written<W: Write>(
+    out: &mut W,
+    wrote: Result<usize, WriteError>,
+    room: &[u8],
+) -> io::Result<()> {
     match wrote {
-        Wrote::Long(n) => {
-            if n <= room.len() {
-                return show(out, &room[0..n]);
-            }
-            Ok(())
-        }
-        Wrote::UnfitPayload => Ok(()),
-        Wrote::NoRoom => Ok(()),
+        Ok(n) if n <= room.len() => show(out, &room[0..n]),
+        _ => Ok(()),
     }
 }
 

@@ -2,13 +2,14 @@
 -- Assumes nothing.
 use Rattle.chip_door.proofs.Laws.{fed-told}
 use Rattle.chip_door.specs.Calls.{fed_by, fed_through}
+use Rattle.chip_layout.proofs.Laws.{refused-number}
 use Rattle.chip_door.proofs.zc_feed.Goals as goal
 
-pub returns-in-Refused : goal.returns-in-Refused
+pub returns-in-Err : goal.returns-in-Err
 unfolding fed_through fed_by
-returns-in-Refused c = simp (← c.part_in-p.ensures, ← c.chip_acceptance-v.ensures, c.in-Refused.is, ← c.number.ensures)
+returns-in-Err c = rw (← c.part_in-p.ensures, ← c.chip_acceptance.ensures, c.in-Err.is, c.number_of.ensures, ← refused-number)
 
-pub returns-in-Accepted : goal.returns-in-Accepted
-returns-in-Accepted c =
-    fed-told _ _ _ _ _ _ _ c.part_in-p.ensures c.chip_acceptance-v.ensures c.in-Accepted.is c.chip_in-chip.ensures c.feed-f.ensures c.fault-fault.ensures c.lay_chip.ensures
+pub returns : goal.returns
+returns c =
+    fed-told _ _ _ _ _ _ _ c.part_in-p.ensures c.chip_acceptance.ensures c.in_default.is c.chip_in-chip.ensures c.feed-f.ensures c.fault-fault.ensures c.lay_chip.ensures
     c.bytes_told.ensures c.frames_told.ensures

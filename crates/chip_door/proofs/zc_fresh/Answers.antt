@@ -1,12 +1,13 @@
 -- `chip_door::zc_fresh` meets its contract.
 -- Assumes nothing.
 use Rattle.chip_door.specs.Calls.{fresh_through, made_by}
+use Rattle.chip_layout.proofs.Laws.{refused-number}
 use Rattle.chip_door.proofs.zc_fresh.Goals as goal
 
-pub returns-in-Replied : goal.returns-in-Replied
+pub returns-in-Err : goal.returns-in-Err
 unfolding fresh_through made_by
-returns-in-Replied c = simp (← c.part_in.ensures, ← c.fresh-step.ensures, c.in-Replied.is, ← c.lay_chip.ensures)
+returns-in-Err c = rw (← c.part_in.ensures, ← c.fresh-step.ensures, c.in-Err.is, c.number_of.ensures, ← refused-number)
 
-pub returns-in-Refused : goal.returns-in-Refused
+pub returns : goal.returns
 unfolding fresh_through made_by
-returns-in-Refused c = simp (← c.part_in.ensures, ← c.fresh-step.ensures, c.in-Refused.is, ← c.number.ensures)
+returns c = rw (← c.part_in.ensures, ← c.fresh-step.ensures, c.in_default.is, ← c.lay_chip.ensures)

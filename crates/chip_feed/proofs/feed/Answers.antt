@@ -16,8 +16,8 @@ loop-i-init c =
     let long : length c.args.chip.collector.bytes ≡ 260 = search rules in
     (omega arith, refl, refl, refl, long, fed-start _ _ _)
 
-pub returns-in-Refused : goal.returns-in-Refused
-returns-in-Refused c = fed-refused c.loop-i.invariant.5 (step-barred _ _ _ _ _ _ (sym c.verdict-v.ensures ∙ c.in-Refused.is)) c.loop-i-test.true refl
+pub returns-in-Err : goal.returns-in-Err
+returns-in-Err c = fed-refused c.loop-i.invariant.5 (step-barred _ _ _ _ _ _ (sym c.verdict.ensures ∙ c.in-Err.is)) c.loop-i-test.true refl
 
 pub overflow_add-end : goal.overflow_add-end
 overflow_add-end c =
@@ -29,13 +29,13 @@ slice_bounds-add_all-end c =
     let known : c.lacking-k.result ≤ length c.args.bytes.now - c.loop-i.i = takes-there _ _ _ _ (omega (arith, c.loop-i-test.true)) c.lacking-k.ensures.0 c.if-k-gt0.true in
     omega (arith, known, c.loop-i-test.true)
 
-pub loop-i-smaller-in-Accepted : goal.loop-i-smaller-in-Accepted
-loop-i-smaller-in-Accepted c =
+pub loop-i-smaller-then-k-gt0 : goal.loop-i-smaller-then-k-gt0
+loop-i-smaller-then-k-gt0 c =
     let known : c.lacking-k.result ≤ length c.args.bytes.now - c.loop-i.i = takes-there _ _ _ _ (omega (arith, c.loop-i-test.true)) c.lacking-k.ensures.0 c.if-k-gt0.true in
     omega (arith, known, c.if-k-gt0.true, c.loop-i-test.true)
 
-pub loop-i-preserved-in-Accepted : goal.loop-i-preserved-in-Accepted
-loop-i-preserved-in-Accepted c =
+pub loop-i-preserved-then-k-gt0 : goal.loop-i-preserved-then-k-gt0
+loop-i-preserved-then-k-gt0 c =
     let added-long : length c.add_all-collector.result.bytes ≡ 260 = search rules in
     let known : c.lacking-k.result ≤ length c.args.bytes.now - c.loop-i.i = takes-there _ _ _ _ (omega (arith, c.loop-i-test.true)) c.lacking-k.ensures.0 c.if-k-gt0.true in (
       omega (arith, known, c.loop-i-test.true),
@@ -43,14 +43,14 @@ loop-i-preserved-in-Accepted c =
       c.loop-i.invariant.2,
       c.loop-i.invariant.3,
       added-long,
-      fed-stretch _ _ c.loop-i.invariant.5 c.loop-i.invariant.4 c.lacking-k.ensures.1 (sym c.verdict-v.ensures ∙ c.in-Accepted.is) c.lacking-k.ensures.0 c.if-k-gt0.true c.loop-i-test.true c.add_all-collector.ensures,
+      fed-stretch _ _ c.loop-i.invariant.5 c.loop-i.invariant.4 c.lacking-k.ensures.1 (sym c.verdict.ensures ∙ c.in_default.is) c.lacking-k.ensures.0 c.if-k-gt0.true c.loop-i-test.true c.add_all-collector.ensures,
     )
 
-pub returns-in-Refused-said : goal.returns-in-Refused-said
-returns-in-Refused-said c = fed-refused c.loop-i.invariant.5 (looked-at c.in-Refused-said.is ∙ c.step-stepped.ensures) c.loop-i-test.true refl
+pub returns-in-Err-answer : goal.returns-in-Err-answer
+returns-in-Err-answer c = fed-refused c.loop-i.invariant.5 (looked-at c.in-Err-answer.is ∙ c.step-stepped.ensures) c.loop-i-test.true refl
 
-pub returns-then-replies-gt0 : goal.returns-then-replies-gt0
-returns-then-replies-gt0 c = fed-said c.loop-i.invariant.5 (looked-at c.in-Replied.is ∙ c.step-stepped.ensures) c.loop-i-test.true refl c.if-replies-gt0.true
+pub returns-then-sent-gt0 : goal.returns-then-sent-gt0
+returns-then-sent-gt0 c = fed-said c.loop-i.invariant.5 (looked-at c.in-Ok.is ∙ c.step-stepped.ensures) c.loop-i-test.true refl c.if-sent-gt0.true
 
 pub loop-i-smaller : goal.loop-i-smaller
 loop-i-smaller c = omega (arith, c.loop-i-test.true)
@@ -63,7 +63,7 @@ loop-i-preserved c =
       c.step-stepped.auto.data ∙ c.loop-i.invariant.2,
       c.step-stepped.auto.room ∙ c.loop-i.invariant.3,
       stepped-long,
-      fed-turn c.loop-i.invariant.5 (looked-at c.in-Replied.is ∙ c.step-stepped.ensures) c.loop-i-test.true refl c.if-replies-gt0.false,
+      fed-turn c.loop-i.invariant.5 (looked-at c.in-Ok.is ∙ c.step-stepped.ensures) c.loop-i-test.true refl c.if-sent-gt0.false,
     )
 
 pub returns : goal.returns

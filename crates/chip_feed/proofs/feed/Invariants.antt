@@ -6,7 +6,9 @@ use mathlib.Core.Path.{◌≡◌}
 use Prim.Native.Nat.{◌-◌, ◌≤◌, ℕ}
 use lib.ListN.{length}
 use Rattle.chip.specs.Step.{Outcome}
-use Rattle.chip.specs.declared.Answer.{Answer}
+use Rattle.part.specs.declared.refusal.Refusal.{Refusal}
+use Rattle.chip_reply.specs.declared.Sent.{Sent}
+use Rattle.std.specs.Prelude.{Result}
 use Rattle.chip_core.specs.Effect.{memory}
 use Rattle.chip_core.specs.declared.Core.{Core}
 use Rattle.chip_feed.proofs.Feeding.{FedFrom}
@@ -15,7 +17,7 @@ use Rattle.frame.specs.declared.collector.Collector.{Collector}
 use Rattle.frame.specs.declared.judgement.Judgement.{Judgement}
 use Rattle.chip_feed.proofs.feed.Given as goal
 
-abbrev standing : Core → Collector → Answer → Judgement → List ℕ → List ℕ → List ℕ → List ℕ → Outcome
+abbrev standing : Core → Collector → Result Sent Refusal → Judgement → List ℕ → List ℕ → List ℕ → List ℕ → Outcome
 standing core collector answer fault code extra sums room =
     record { answer = answer; fault = fault; chip = record { core = core; collector = collector }; memory = memory code extra sums; room = room }
 

@@ -6,4 +6,4 @@ use Rattle.chip_layout.proofs.head.Goals as goal
 
 pub returns : goal.returns
 unfolding head_of
-returns c = rw (option-bytes _)
+returns c = rw (c.to_le_bytes.ensures, c.to_le_bytes-2.ensures, option-bytes _)

@@ -1,46 +1,26 @@
--- `chip_layout::is_state` meets its contract.
+-- `chip_layout::is_state` meets its contract: of each phase, what the definition's tests leave.
 -- Assumes nothing.
-use borrow.Author.Tests.{eq-eqb, le-leb, lt-leb, ne_eqb}
+use borrow.Author.Rules.{rules}
 use Rattle.chip_layout.specs.Layout.{is_state}
 use Rattle.words.specs.Words.{◌and◌, ◌or◌, ◌from◌to◌}
 use Rattle.chip_layout.proofs.is_state.Goals as goal
 
-pub returns-then-n-lt1 : goal.returns-then-n-lt1
+pub returns-in-4 : goal.returns-in-4
 unfolding is_state ◌and◌ ◌or◌ ◌from◌to◌
-returns-then-n-lt1 c = simp (lt-leb _ _ c.if-n-lt1.true)
+returns-in-4 c = search rules
 
-pub returns-then-n-gt4 : goal.returns-then-n-gt4
+pub returns-then-differed-eq0 : goal.returns-then-differed-eq0
 unfolding is_state ◌and◌ ◌or◌ ◌from◌to◌
-returns-then-n-gt4 c = simp (le-leb _ _ c.if-n-lt1.false, lt-leb _ _ c.if-n-gt4.true)
+returns-then-differed-eq0 c = search rules
 
-pub returns-then-differed-gt1 : goal.returns-then-differed-gt1
+pub returns-else-differed-eq0 : goal.returns-else-differed-eq0
 unfolding is_state ◌and◌ ◌or◌ ◌from◌to◌
-returns-then-differed-gt1 c = simp (le-leb _ _ c.if-n-lt1.false, le-leb _ _ c.if-n-gt4.false, lt-leb _ _ c.if-differed-gt1.true)
+returns-else-differed-eq0 c = search rules
 
-pub returns-then-n-eq4 : goal.returns-then-n-eq4
+pub returns-in_default : goal.returns-in_default
 unfolding is_state ◌and◌ ◌or◌ ◌from◌to◌
-returns-then-n-eq4 c = simp (le-leb _ _ c.if-n-lt1.false, le-leb _ _ c.if-n-gt4.false, le-leb _ _ c.if-differed-gt1.false, eq-eqb _ _ c.if-n-eq4.true)
+returns-in_default c = search rules
 
-pub returns-then-is_nothing_awaited : goal.returns-then-is_nothing_awaited
+pub returns-in_default-2 : goal.returns-in_default-2
 unfolding is_state ◌and◌ ◌or◌ ◌from◌to◌
-returns-then-is_nothing_awaited c =
-    rw (
-      le-leb _ _ c.if-n-lt1.false,
-      le-leb _ _ c.if-n-gt4.false,
-      le-leb _ _ c.if-differed-gt1.false,
-      ne_eqb _ _ c.if-n-eq4.false,
-      ← c.is_nothing_awaited.ensures,
-      c.if-is_nothing_awaited.true,
-    )
-
-pub returns : goal.returns
-unfolding is_state ◌and◌ ◌or◌ ◌from◌to◌
-returns c =
-    simp (
-      le-leb _ _ c.if-n-lt1.false,
-      le-leb _ _ c.if-n-gt4.false,
-      le-leb _ _ c.if-differed-gt1.false,
-      ne_eqb _ _ c.if-n-eq4.false,
-      ← c.is_nothing_awaited.ensures,
-      c.if-is_nothing_awaited.false,
-    )
+returns-in_default-2 c = search rules

@@ -1,7 +1,8 @@
--- `chip_layout::number8` meets its contract: two halves of four bytes.
+-- `chip_layout::number8` meets its contract.
 -- Assumes nothing.
-use Rattle.numbers.proofs.Laws.{number-halves}
+use mir.Syntax.{w64}
+use Rattle.numbers.proofs.Laws.{le-read}
 use Rattle.chip_layout.proofs.number8.Goals as goal
 
 pub returns : goal.returns
-returns c = number-halves _ _ _ _ c.number4-low.ensures c.number4-high.ensures
+returns c = le-read w64 c.args.at _ c.from_le_bytes.ensures c.bytes_at.ensures

@@ -1,13 +1,14 @@
 -- `chip_options::rises` meets its contract: both tests are the definition's.
 -- Assumes nothing.
+use borrow.Author.Rules.{rules}
 use Rattle.chip_options.specs.Options.{rises}
 use Rattle.words.specs.Words.{◌and◌}
 use Rattle.chip_options.proofs.rises.Goals as goal
 
-pub returns-then-old : goal.returns-then-old
+pub returns-then-not-old : goal.returns-then-not-old
 unfolding rises ◌and◌
-returns-then-old c = simp c.if-old.true
+returns-then-not-old c = search rules
 
-pub returns : goal.returns
+pub returns-else-not-old : goal.returns-else-not-old
 unfolding rises ◌and◌
-returns c = simp c.if-old.false
+returns-else-not-old c = search rules

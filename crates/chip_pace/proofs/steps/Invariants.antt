@@ -2,7 +2,6 @@
 -- Assumes nothing.
 use mathlib.Core.List.{map}
 use mathlib.Core.Path.{◌≡◌}
-use Prim.Native.Nat.{◌-◌, ◌≤◌}
 use lib.ListN.{length}
 use Rattle.chip_pace.proofs.Laws.{Stepped}
 use Rattle.chip.specs.Run.{run}
@@ -11,13 +10,9 @@ use Rattle.chip.specs.declared.Event.TheVariants.{Byte}
 use Rattle.chip_core.specs.Effect.{memory}
 use Rattle.chip_pace.proofs.steps.Given as goal
 
-abbrev pub invariant-loop-i : goal.invariant-loop-i
-invariant-loop-i l =
-    (l.i ≤ length l.bytes)
-    × (length l.code ≡ length l.initial.code)
+abbrev pub invariant-loop-b : goal.invariant-loop-b
+invariant-loop-b l =
+    (length l.code ≡ length l.initial.code)
     × (length l.data ≡ length l.initial.data)
     × (length l.room ≡ length l.initial.room)
-    × Stepped l.part l.bytes l.i (outcome l.last (memory l.code l.data l.sums) l.room) (run l.part (map Byte l.bytes) (outcome l.initial.last (memory l.initial.code l.initial.data l.initial.sums) l.initial.room))
-
-abbrev pub decreases-loop-i : goal.decreases-loop-i
-decreases-loop-i l = length l.bytes - l.i
+    × Stepped l.part l.bytes l.b-index (outcome l.last (memory l.code l.data l.sums) l.room) (run l.part (map Byte l.bytes) (outcome l.initial.last (memory l.initial.code l.initial.data l.initial.sums) l.initial.room))

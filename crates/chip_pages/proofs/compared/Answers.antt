@@ -1,13 +1,14 @@
--- `chip_pages::compared` meets its contract: an equal page leaves the record as it is.
+-- `chip_pages::compared` meets its contract: a difference is remembered, and nothing else changes.
 -- Assumes nothing.
+use borrow.Author.Rules.{rules}
 use Rattle.chip_pages.specs.Pages.{compared}
 use Rattle.words.specs.Words.{◌or◌}
 use Rattle.chip_pages.proofs.compared.Goals as goal
 
-pub returns-then-equal : goal.returns-then-equal
+pub returns-then-not-equal : goal.returns-then-not-equal
 unfolding compared ◌or◌
-returns-then-equal c = simp c.if-equal.true
+returns-then-not-equal c = search rules
 
-pub returns : goal.returns
+pub returns-else-not-equal : goal.returns-else-not-equal
 unfolding compared ◌or◌
-returns c = simp c.if-equal.false
+returns-else-not-equal c = search rules

@@ -2,6 +2,8 @@
 -- Assumes nothing.
 use mathlib.Core.Path.{◌∙◌, refl, sym}
 use native.Mathlib.Omega.{arith}
+use mir.Syntax.{w16}
+use Rattle.numbers.proofs.Laws.{le-written}
 use Rattle.part.proofs.Laws.{described-is}
 use Rattle.chip_reply.proofs.Laws.{said-nothing, send-short, send-undescribed, sends}
 use Rattle.chip_reply.specs.Reply.{payloads}
@@ -46,7 +48,9 @@ returns-in-LastStored c = sends _ _ _ _ _ _ _ _ (omega arith) (sym c.is_describe
 
 pub returns-in-Sum : goal.returns-in-Sum
 unfolding payloads
-returns-in-Sum c = sends _ _ _ _ _ _ _ _ (omega arith) (sym c.is_described.ensures ∙ c.if-not-is_described.false) c.in-Sum.is (rw (← c.low2-d.ensures)) c.send_two-in-Sum.ensures
+returns-in-Sum c =
+    let low = c.to_le_bytes-d.ensures ∙ le-written w16 _ in
+    sends _ _ _ _ _ _ _ _ (omega arith) (sym c.is_described.ensures ∙ c.if-not-is_described.false) c.in-Sum.is (rw (← low)) c.send_two-in-Sum.ensures
 
 pub returns-in-Signature : goal.returns-in-Signature
 unfolding payloads

@@ -9,7 +9,7 @@ use Rattle.part.specs.Part.{blocks}
 use Rattle.chip_sums.proofs.sum_area.Given as goal
 
 abbrev pub invariant-loop-block : goal.invariant-loop-block
-invariant-loop-block l = (l.block ≤ l.n) × (l.n ≡ blocks l.part l.area) × (length l.sums ≡ length l.initial.sums) × SummedTo l.part l.area (flash l.code l.data) l.initial.sums l.block l.sums
+invariant-loop-block l = (l.block ≤ l.block-end) × (l.block-end ≡ blocks l.part l.area) × (length l.sums ≡ length l.initial.sums) × SummedTo l.part l.area (flash l.code l.data) l.initial.sums l.block l.sums
 
 abbrev pub decreases-loop-block : goal.decreases-loop-block
-decreases-loop-block l = l.n - l.block
+decreases-loop-block l = l.block-end - l.block

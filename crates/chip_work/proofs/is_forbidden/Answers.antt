@@ -1,21 +1,18 @@
--- `chip_work::is_forbidden` meets its contract: each way of the three flags.
+-- `chip_work::is_forbidden` meets its contract: the tests are the definition's.
 -- Assumes nothing.
+use borrow.Author.Rules.{rules}
 use Rattle.chip_work.specs.Work.{forbidden}
 use Rattle.words.specs.Words.{◌and◌, ◌or◌}
 use Rattle.chip_work.proofs.is_forbidden.Goals as goal
 
-pub returns-then-boot_flag : goal.returns-then-boot_flag
+pub returns-then-not-allowed : goal.returns-then-not-allowed
 unfolding forbidden ◌and◌ ◌or◌
-returns-then-boot_flag c = simp (c.if-allowed.true, c.if-boot.true, c.if-boot_flag.true)
+returns-then-not-allowed c = search rules
 
 pub returns-then-boot : goal.returns-then-boot
 unfolding forbidden ◌and◌ ◌or◌
-returns-then-boot c = simp (c.if-allowed.true, c.if-boot.true, c.if-boot_flag.false)
+returns-then-boot c = search rules
 
-pub returns-then-allowed : goal.returns-then-allowed
+pub returns-else-boot : goal.returns-else-boot
 unfolding forbidden ◌and◌ ◌or◌
-returns-then-allowed c = simp (c.if-allowed.true, c.if-boot.false)
-
-pub returns : goal.returns
-unfolding forbidden ◌and◌ ◌or◌
-returns c = simp c.if-allowed.false
+returns-else-boot c = search rules

@@ -1,4 +1,4 @@
--- `chip_work::range_bytes` meets its contract: the area decides which slice is read; blocks of the part can be counted in bytes.
+-- `chip_work::range_bytes` meets its contract: blocks of the part can be counted in bytes.
 -- Assumes nothing.
 use native.Mathlib.Omega.{arith}
 use borrow.Author.Rules.{rules}
@@ -11,14 +11,5 @@ overflow_mul-block c = omega (arith, counts c.args.part c.args.area c.args.block
 pub overflow_mul-count : goal.overflow_mul-count
 overflow_mul-count c = omega (arith, counts c.args.part c.args.area c.args.count _ c.block_size-size.ensures (omega arith) (search rules) (search rules))
 
-pub overflow_mul-block-in-DataFlash : goal.overflow_mul-block-in-DataFlash
-overflow_mul-block-in-DataFlash c = omega (arith, counts c.args.part c.args.area c.args.block _ c.block_size-size.ensures (omega arith) (search rules) (search rules))
-
-pub overflow_mul-count-in-DataFlash : goal.overflow_mul-count-in-DataFlash
-overflow_mul-count-in-DataFlash c = omega (arith, counts c.args.part c.args.area c.args.count _ c.block_size-size.ensures (omega arith) (search rules) (search rules))
-
-pub returns-in-CodeFlash : goal.returns-in-CodeFlash
-returns-in-CodeFlash c = range-in _ _ _ _ _ c.block_size-size.ensures (rw c.in-CodeFlash.is c.span.ensures)
-
-pub returns-in-DataFlash : goal.returns-in-DataFlash
-returns-in-DataFlash c = range-in _ _ _ _ _ c.block_size-size.ensures (rw c.in-DataFlash.is c.span-in-DataFlash.ensures)
+pub returns : goal.returns
+returns c = range-in _ _ _ _ _ c.block_size-size.ensures (rw (c.span.ensures, c.area_bytes-bytes.ensures))

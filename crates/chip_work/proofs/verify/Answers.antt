@@ -1,12 +1,13 @@
 -- `chip_work::verify` meets its contract: parameters alone.
 -- Assumes nothing.
+use borrow.Author.Rules.{rules}
 use Rattle.chip_work.specs.Work.{verify}
 use Rattle.chip_work.proofs.verify.Goals as goal
 
-pub returns-in-Blocks : goal.returns-in-Blocks
+pub returns-then-is_none : goal.returns-then-is_none
 unfolding verify
-returns-in-Blocks c = simp (← c.range-range.ensures, c.in-Blocks.is, ← c.awaiting.ensures, c.says.ensures)
+returns-then-is_none c = search rules
 
-pub returns-in-Bad : goal.returns-in-Bad
+pub returns : goal.returns
 unfolding verify
-returns-in-Bad c = simp (← c.range-range.ensures, c.in-Bad.is, c.says-in-Bad.ensures)
+returns c = search rules

@@ -1,20 +1,16 @@
 -- `conversion::convert` meets its contract: one judgement after the other, then the writing.
 -- Assumes nothing.
-use mathlib.Core.Path.{◌∙◌, sym}
 use Rattle.conversion.specs.Conversion.{convert_by, convert_of}
 use Rattle.conversion.proofs.convert.Goals as goal
 
-pub write-requires : goal.write-requires
-write-requires c = sym c.first_not-bad.ensures ∙ c.in-Nowhere.is
-
-pub returns-in-At : goal.returns-in-At
+pub returns-in-Some : goal.returns-in-Some
 unfolding convert_of convert_by
-returns-in-At c = simp (← c.first_not-bad.ensures, c.in-At.is)
+returns-in-Some c = simp (← c.first_not.ensures, c.in-Some.is)
 
-pub returns-in-At-not_held : goal.returns-in-At-not_held
+pub returns-in-Some-first_not : goal.returns-in-Some-first_not
 unfolding convert_of convert_by
-returns-in-At-not_held c = simp (← c.first_not-bad.ensures, c.in-Nowhere.is, ← c.first_not-not_held.ensures, c.in-At-not_held.is)
+returns-in-Some-first_not c = simp (← c.first_not.ensures, c.in_default.is, ← c.first_not-2.ensures, c.in-Some-first_not.is)
 
-pub returns-in-Nowhere-not_held : goal.returns-in-Nowhere-not_held
+pub returns : goal.returns
 unfolding convert_of convert_by
-returns-in-Nowhere-not_held c = simp (← c.first_not-bad.ensures, c.in-Nowhere.is, ← c.first_not-not_held.ensures, c.in-Nowhere-not_held.is, ← c.write.ensures)
+returns c = simp (← c.first_not.ensures, c.in_default.is, ← c.first_not-2.ensures, c.in_default-first_not.is, ← c.write.ensures)

@@ -1,33 +1,22 @@
 -- `conversion::first_not` meets its contract: what is found among the records still to come stays the same from turn to turn.
 -- Assumes nothing.
-use Prim.Native.Nat.{◌-◌}
-use native.Mathlib.Omega.{arith}
-use Rattle.conversion.proofs.First.{found-end, found_here, found-start, found_turn, passed}
+use mathlib.Core.Path.{◌∙◌}
+use borrow.Author.Rules.{rules}
+use Rattle.conversion.proofs.First.{found-end, found_here, found-start, found_turn}
 use Rattle.conversion.proofs.first_not.Goals as goal
 
-pub loop-at-init : goal.loop-at-init
-loop-at-init c = found-start _ _ _
-
-pub slice_bounds-passes-count : goal.slice_bounds-passes-count
-slice_bounds-passes-count c = omega (arith, passed c.loop-at.invariant c.record_end-end.ensures c.loop-at-test.true)
-
-pub slice_bounds-passes-start : goal.slice_bounds-passes-start
-slice_bounds-passes-start c = omega (arith, passed c.loop-at.invariant c.record_end-end.ensures c.loop-at-test.true)
-
-pub slice_bounds-passes-end : goal.slice_bounds-passes-end
-slice_bounds-passes-end c = omega (arith, passed c.loop-at.invariant c.record_end-end.ensures c.loop-at-test.true)
+pub loop-n-init : goal.loop-n-init
+loop-n-init c = (search rules, search rules, search rules, found-start _ _ _ (search rules) (search rules))
 
 pub returns-then-not-passes : goal.returns-then-not-passes
-returns-then-not-passes c = found_here c.loop-at.invariant c.loop-at-test.true c.record_end-end.ensures c.passes.ensures (c.if-not-passes.true)
+returns-then-not-passes c =
+    let s = c.in-Some.ensures.steps in
+    found_here _ _ c.loop-n.invariant.2 s.0.1.0 s.0.1.1 s.0.1.2 c.loop-n.invariant.3 s.1 c.passes.ensures c.if-not-passes.true
 
-pub overflow_add-records : goal.overflow_add-records
-overflow_add-records c = omega (arith, c.loop-at.invariant.counted)
-
-pub loop-at-smaller : goal.loop-at-smaller
-loop-at-smaller c = omega (arith, passed c.loop-at.invariant c.record_end-end.ensures c.loop-at-test.true)
-
-pub loop-at-preserved : goal.loop-at-preserved
-loop-at-preserved c = found_turn c.loop-at.invariant c.loop-at-test.true c.record_end-end.ensures c.passes.ensures (c.if-not-passes.false)
+pub loop-n-preserved : goal.loop-n-preserved
+loop-n-preserved c =
+    let s = c.in-Some.ensures.steps in
+    (search rules, search rules, s.0.0 ∙ c.loop-n.invariant.2, found_turn _ _ c.loop-n.invariant.2 s.0.1.0 s.0.1.1 s.0.1.2 c.loop-n.invariant.3 s.2 c.passes.ensures c.if-not-passes.false)
 
 pub returns : goal.returns
-returns c = found-end c.loop-at.invariant (omega arith)
+returns c = found-end c.loop-n.invariant.3 (search rules)

@@ -12,7 +12,7 @@ use Rattle.dock_answer.proofs.is_signature.Goals as goal
 pub returns : goal.returns
 unfolding signature_matches
 returns c =
-    let n : length c.bytes-signature.result ≡ 22 = search rules in
+    let n : length c.bytes.result ≡ 22 = search rules in
     c.is_same_at.ensures
-    ∙ ap (λ (k : ℕ). same (take k (drop 7 c.args.bytes.now)) c.bytes-signature.result) n
-    ∙ ap (λ (s : List ℕ). same (take 22 (drop 7 c.args.bytes.now)) s) c.bytes-signature.ensures
+    ∙ ap (λ (k : ℕ). same (take k (drop 7 c.args.bytes.now)) c.bytes.result) n
+    ∙ ap (λ (s : List ℕ). same (take 22 (drop 7 c.args.bytes.now)) s) c.bytes.ensures

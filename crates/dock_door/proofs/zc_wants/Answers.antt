@@ -1,13 +1,14 @@
--- `dock_door::zc_wants` meets its contract.
+-- `dock_door::zc_wants` meets its contract: bytes that are no state are refused first.
 -- Assumes nothing.
+use borrow.Author.Rules.{rules}
 use Rattle.dock_door.specs.Calls.{wants_through}
 use Rattle.words.specs.Words.{if◌then◌otherwise◌}
 use Rattle.dock_door.proofs.zc_wants.Goals as goal
 
-pub returns-then-is_dock : goal.returns-then-is_dock
+pub returns-then-not-is_dock : goal.returns-then-not-is_dock
 unfolding wants_through if◌then◌otherwise◌
-returns-then-is_dock c = simp (← c.is_dock.ensures, c.if-is_dock.true, ← c.job_in.ensures, ← c.dock_in.ensures, ← c.wants.ensures)
+returns-then-not-is_dock c = search rules
 
 pub returns : goal.returns
 unfolding wants_through if◌then◌otherwise◌
-returns c = simp (← c.is_dock.ensures, c.if-is_dock.false)
+returns c = search rules

@@ -16,6 +16,6 @@ pub returns-then-block-blocks : goal.returns-then-block-blocks
 unfolding block_from if◌then◌otherwise◌
 returns-then-block-blocks c = simp (← c.blocks-2.ensures, lt-ltb _ _ c.if-block-blocks.true)
 
-pub returns : goal.returns
+pub returns-else-block-blocks : goal.returns-else-block-blocks
 unfolding block_from if◌then◌otherwise◌
-returns c = simp (← c.blocks-2.ensures, le-ltb _ _ c.if-block-blocks.false)
+returns-else-block-blocks c = simp (← c.blocks-2.ensures, le-ltb _ _ c.if-block-blocks.false)

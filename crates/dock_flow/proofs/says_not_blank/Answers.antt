@@ -10,6 +10,6 @@ pub returns-then-com-eq50 : goal.returns-then-com-eq50
 unfolding says_not_blank ◌and◌
 returns-then-com-eq50 c = simp (← (alike_is _ _ _ c.query_with-query.ensures).cmd, ← c.before.«com».ensures, eq-eqb _ _ c.if-com-eq50.true)
 
-pub returns : goal.returns
+pub returns-else-com-eq50 : goal.returns-else-com-eq50
 unfolding says_not_blank ◌and◌
-returns c = simp (← (alike_is _ _ _ c.query_with-query.ensures).cmd, ← c.before.«com».ensures, ne_eqb _ _ c.if-com-eq50.false)
+returns-else-com-eq50 c = simp (← (alike_is _ _ _ c.query_with-query.ensures).cmd, ← c.before.«com».ensures, ne_eqb _ _ c.if-com-eq50.false)

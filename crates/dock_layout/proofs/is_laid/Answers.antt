@@ -1,24 +1,18 @@
--- `dock_layout::is_laid` meets its contract: so far all are equal, and the rest decides.
+-- `dock_layout::is_laid` meets its contract: all pairs of two lists of one length are equal where the lists are.
 -- Assumes nothing.
-use mathlib.Core.Bool.{true}
-use Prim.Native.Nat.{◌-◌}
-use native.Mathlib.Omega.{arith}
-use borrow.Author.Rules.{rules}
-use Rattle.dock_layout.proofs.Laws.{same-goes, same-stops}
-use Rattle.lent.proofs.Laws.{same-apart, same_end, same_start}
+use Rattle.std.proofs.Common.{◌∙◌, ne_eqb, rules, tests}
+use Rattle.std.proofs.lemmas.Iterator.{YieldsList-from_slice, YieldsList-from_zip}
+use Rattle.std.proofs.lemmas.Iterator.Search.{all_from_yields_List}
+use Rattle.dock_layout.proofs.Laws.{equal_pair, same-paired}
+use Rattle.lent.proofs.Laws.{same-apart}
 use Rattle.dock_layout.proofs.is_laid.Goals as goal
 
 pub returns-then-back-state : goal.returns-then-back-state
-returns-then-back-state c = same-apart _ _ (search rules)
+returns-then-back-state c =
+    let back = c.args.back.now in
+    let state = c.args.state.now in
+    all_from_yields_List equal_pair c.all.new.self _ _ c.all.ensures.ran (YieldsList-from_zip (YieldsList-from_slice back cc) (YieldsList-from_slice state cc)) (λ x b q k. search (rules, tests))
+    ∙ same-paired back state c.if-back-state.true
 
-pub loop-i-init : goal.loop-i-init
-loop-i-init c = (omega arith, search rules, omega arith, same_start _ _)
-
-pub returns-then-back-i : goal.returns-then-back-i
-returns-then-back-i c = same-stops c.loop-i.invariant.3 c.if-back-i.true (omega arith) (omega arith)
-
-pub loop-i-preserved : goal.loop-i-preserved
-loop-i-preserved c = (omega arith, omega arith, omega arith, same-goes c.loop-i.invariant.3 c.if-back-i.false (omega arith) (omega arith))
-
-pub returns : goal.returns
-returns c = same_end c.loop-i.invariant.3 (omega arith) (omega arith)
+pub returns-else-back-state : goal.returns-else-back-state
+returns-else-back-state c = ne_eqb _ _ c.if-back-state.false ∙ same-apart _ _ c.if-back-state.false

@@ -1,26 +1,26 @@
--- `dock_layout::judgement_in` meets its contract: each test is the definition's, in its order.
+-- `dock_layout::judgement_in` meets its contract: each number has its own.
 -- Assumes nothing.
-use borrow.Author.Tests.{eq-eqb, ne_eqb}
+use borrow.Author.Rules.{rules}
 use Rattle.dock_layout.specs.Layout.{judgement_in}
 use Rattle.words.specs.Words.{if◌then◌otherwise◌}
 use Rattle.dock_layout.proofs.judgement_in.Goals as goal
 
-pub returns-then-n-eq1 : goal.returns-then-n-eq1
+pub returns-in-1 : goal.returns-in-1
 unfolding judgement_in if◌then◌otherwise◌
-returns-then-n-eq1 c = simp (eq-eqb _ _ c.if-n-eq1.true)
+returns-in-1 c = search rules
 
-pub returns-then-n-eq2 : goal.returns-then-n-eq2
+pub returns-in-2 : goal.returns-in-2
 unfolding judgement_in if◌then◌otherwise◌
-returns-then-n-eq2 c = simp (ne_eqb _ _ c.if-n-eq1.false, eq-eqb _ _ c.if-n-eq2.true)
+returns-in-2 c = search rules
 
-pub returns-then-n-eq3 : goal.returns-then-n-eq3
+pub returns-in-3 : goal.returns-in-3
 unfolding judgement_in if◌then◌otherwise◌
-returns-then-n-eq3 c = simp (ne_eqb _ _ c.if-n-eq1.false, ne_eqb _ _ c.if-n-eq2.false, eq-eqb _ _ c.if-n-eq3.true)
+returns-in-3 c = search rules
 
-pub returns-then-n-eq4 : goal.returns-then-n-eq4
+pub returns-in-4 : goal.returns-in-4
 unfolding judgement_in if◌then◌otherwise◌
-returns-then-n-eq4 c = simp (ne_eqb _ _ c.if-n-eq1.false, ne_eqb _ _ c.if-n-eq2.false, ne_eqb _ _ c.if-n-eq3.false, eq-eqb _ _ c.if-n-eq4.true)
+returns-in-4 c = search rules
 
-pub returns : goal.returns
+pub returns-in_default : goal.returns-in_default
 unfolding judgement_in if◌then◌otherwise◌
-returns c = simp (ne_eqb _ _ c.if-n-eq1.false, ne_eqb _ _ c.if-n-eq2.false, ne_eqb _ _ c.if-n-eq3.false, ne_eqb _ _ c.if-n-eq4.false)
+returns-in_default c = search rules

@@ -1,30 +1,30 @@
--- `dock_layout::work_in` meets its contract.
+-- `dock_layout::work_in` meets its contract: each number has its own.
 -- Assumes nothing.
-use borrow.Author.Tests.{eq-eqb, ne_eqb}
+use borrow.Author.Rules.{rules}
 use Rattle.dock_layout.specs.Layout.{work_in}
 use Rattle.words.specs.Words.{if◌then◌otherwise◌}
 use Rattle.dock_layout.proofs.work_in.Goals as goal
 
-pub returns-then-n-eq4 : goal.returns-then-n-eq4
+pub returns-in-4 : goal.returns-in-4
 unfolding work_in if◌then◌otherwise◌
-returns-then-n-eq4 c = simp (eq-eqb _ _ c.if-n-eq4.true)
+returns-in-4 c = search rules
 
-pub returns-then-n-eq5 : goal.returns-then-n-eq5
+pub returns-in-5 : goal.returns-in-5
 unfolding work_in if◌then◌otherwise◌
-returns-then-n-eq5 c = simp (ne_eqb _ _ c.if-n-eq4.false, eq-eqb _ _ c.if-n-eq5.true)
+returns-in-5 c = search rules
 
-pub returns-then-n-eq6 : goal.returns-then-n-eq6
+pub returns-in-6 : goal.returns-in-6
 unfolding work_in if◌then◌otherwise◌
-returns-then-n-eq6 c = simp (ne_eqb _ _ c.if-n-eq4.false, ne_eqb _ _ c.if-n-eq5.false, eq-eqb _ _ c.if-n-eq6.true)
+returns-in-6 c = search rules
 
-pub returns-then-n-eq7 : goal.returns-then-n-eq7
+pub returns-in-7 : goal.returns-in-7
 unfolding work_in if◌then◌otherwise◌
-returns-then-n-eq7 c = simp (ne_eqb _ _ c.if-n-eq4.false, ne_eqb _ _ c.if-n-eq5.false, ne_eqb _ _ c.if-n-eq6.false, eq-eqb _ _ c.if-n-eq7.true)
+returns-in-7 c = search rules
 
-pub returns-then-n-eq8 : goal.returns-then-n-eq8
+pub returns-in-8 : goal.returns-in-8
 unfolding work_in if◌then◌otherwise◌
-returns-then-n-eq8 c = simp (ne_eqb _ _ c.if-n-eq4.false, ne_eqb _ _ c.if-n-eq5.false, ne_eqb _ _ c.if-n-eq6.false, ne_eqb _ _ c.if-n-eq7.false, eq-eqb _ _ c.if-n-eq8.true)
+returns-in-8 c = search rules
 
-pub returns : goal.returns
+pub returns-in_default : goal.returns-in_default
 unfolding work_in if◌then◌otherwise◌
-returns c = simp (ne_eqb _ _ c.if-n-eq4.false, ne_eqb _ _ c.if-n-eq5.false, ne_eqb _ _ c.if-n-eq6.false, ne_eqb _ _ c.if-n-eq7.false, ne_eqb _ _ c.if-n-eq8.false)
+returns-in_default c = search rules

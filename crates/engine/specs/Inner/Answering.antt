@@ -1,10 +1,10 @@
 -- Where the engine stands, as the code has it: the chip's record and the numbers told, beside flash, the sums and the room that are lent.
-use Rattle.std.specs.Prelude.{List, ◌≡◌, ◌*◌, ◌+◌, ◌-◌, ◌<◌, ◌≤◌, ℕ, drop, get_or, length, take}
+use Rattle.std.specs.Prelude.{List, ◌≡◌, ◌*◌, ◌+◌, ◌≤◌, ℕ, drop, get_or, length, take, Ok}
 use Rattle.chip_core.specs.Effect.{Memory}
 use Rattle.chip_core.specs.Hearing.{hearing}
 use Rattle.chip_core.specs.declared.Core.{Core}
 use Rattle.engine.specs.Engine.{Stand, front_of}
-use Rattle.engine.specs.declared.EngineAnswer.TheVariants.{Replied}
+use Rattle.chip_reply.specs.Reply.{sent_as}
 use Rattle.engine.specs.declared.Front.TheVariants.{Whole}
 use Rattle.engine.specs.declared.Played.{Played}
 use Rattle.engine.specs.declared.ToldSoFar.{ToldSoFar}
@@ -41,7 +41,7 @@ pub record Past (t₀ t : ToldSoFar) (room room₀ : List ℕ) : Type 0 where
 abbrev pub ended_of : Core → ToldSoFar → Collector → List ℕ → Played
 ended_of k t c hs =
     record {
-      answer = Replied t.bytes t.frames;
+      answer = Ok (sent_as t.bytes t.frames);
       faults = t.faults;
       first = t.first;
       chip = record { core = k; collector = holding c hs };

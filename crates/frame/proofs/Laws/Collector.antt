@@ -6,7 +6,7 @@ use native.Mathlib.Decide.{dec_le, dec_lt}
 use lib.ListN.{get_or-append}
 use lib.Seq.{append_snoc, drop-append-add, set_split, take-append_seam}
 use borrow.Author.Tests.{lt-leb}
-use Rattle.frame.proofs.Laws.Frame.{full-not, full-short, full-yes}
+use Rattle.frame.proofs.Laws.Frame.{counted-small, full-room, full-short, full-yes}
 use Rattle.frame.specs.Collector.{Adding, add_of, added, adding, byte_of, collecting, dropped, hear, heard, holding}
 use Rattle.frame.specs.Frame.{complete, counted, full, header_byte}
 use Rattle.frame.specs.declared.Header.{Header}
@@ -14,8 +14,8 @@ use Rattle.frame.specs.declared.collector.Collector.{Collector}
 use Rattle.frame.specs.Inner.Collector.{stored}
 use Rattle.lent.proofs.Laws.{Written, put-lands, put-short, written-put}
 use Rattle.lent.specs.Lent.{Left, left, put_of}
-use Rattle.lent.specs.declared.Room.{Room}
-use Rattle.lent.specs.declared.Room.TheVariants.{Enough, Short}
+use Rattle.lent.specs.declared.Short.{Short}
+use Rattle.std.specs.Prelude.{Err, Ok, Result}
 use Rattle.words.specs.Words.{◌and◌, if◌then◌otherwise◌}
 
 pub heard-none : (c : Collector) → c.len ≡ 0 → heard c ≡ []
@@ -65,14 +65,6 @@ unfolding hear
 hear-more h [] b l = absurd (omega arith)
 hear-more h (x ∷ xs) b l = refl
 
--- With LEN not yet there, or fewer bytes than it needs, nothing is complete.
-pub early : (c : Collector) → c.len ≡ 1 → length c.bytes ≡ 260 → complete (heard c) ≡ false
-unfolding complete
-early c o l = let m : length (heard c) ≡ c.len = length-heard c (omega arith) in full-short _ _ (omega arith)
-
-pub lacking : (c : Collector) → length c.bytes ≡ 260 → counted (get_or c.bytes 1 0) ≤ 256 → c.len < counted (get_or c.bytes 1 0) + 4 → complete (heard c) ≡ false
-lacking c l x h = complete-heard c l x ∙ full-not _ _ h
-
 -- The ways of a byte.
 pub byte-begins : (c : Collector) (h : Header) (b : ℕ) → c.len ≡ 0 → length c.bytes ≡ 260 → b ≡ header_byte h → stored c b ≡ byte_of c h b
 unfolding byte_of hear if◌then◌otherwise◌
@@ -84,10 +76,10 @@ unfolding byte_of hear if◌then◌otherwise◌ holding
 byte-skipped c h b z e =
     simp (heard-none c z, complete-none, ne_eqb _ _ e) (ap {B = Collector} (λ (n : ℕ). record { bytes = c.bytes; len = n }) z)
 
-pub byte-waits : (c : Collector) (h : Header) (b : ℕ) → 2 ≤ c.len → length c.bytes ≡ 260 → counted (get_or c.bytes 1 0) ≤ 256
-    → counted (get_or c.bytes 1 0) + 4 ≤ c.len → c ≡ byte_of c h b
+pub byte-waits : (c : Collector) (h : Header) (b : ℕ) → length c.bytes ≡ 260 → counted (get_or c.bytes 1 0) ≤ 256
+    → full c.len (get_or c.bytes 1 0) ≡ true → c ≡ byte_of c h b
 unfolding byte_of if◌then◌otherwise◌
-byte-waits c h b n l x t = simp (complete-heard c l x, full-yes _ _ n t)
+byte-waits c h b l x t = simp (complete-heard c l x, t)
 
 pub byte-added : (c : Collector) (h : Header) (b : ℕ) → (c.len ≡ 0 → ⊥) → length c.bytes ≡ 260 → c.len < 260
     → complete (heard c) ≡ false → stored c b ≡ byte_of c h b
@@ -95,6 +87,16 @@ unfolding byte_of if◌then◌otherwise◌
 byte-added c h b z l r t =
     let m : length (heard c) ≡ c.len = length-heard c (omega arith) in
     simp (t, hear-more h (heard c) b (omega arith)) (stored-holds c b (omega arith))
+
+pub byte-goes : (c : Collector) (h : Header) (b : ℕ) → length c.bytes ≡ 260 → counted (get_or c.bytes 1 0) ≤ 256
+    → full c.len (get_or c.bytes 1 0) ≡ false → (c.len ≡ 0 → b ≡ header_byte h) → stored c b ≡ byte_of c h b
+byte-goes c h b l x t e = go (dec_lt 0 c.len)
+  where
+    go : Dec (0 < c.len) → stored c b ≡ byte_of c h b
+    go (yes k) = byte-added c h b (λ z. omega arith) l (full-room _ _ t x) (complete-heard c l x ∙ t)
+    go (no k) = let z : c.len ≡ 0 = omega arith in byte-begins c h b z l (e z)
+
+pub ruleset ways = (byte-skipped, byte-waits, byte-goes, counted-small, full-room)
 
 -- What a collector that holds these bytes has heard, and the collector that holds what it has heard.
 pub heard-holding : (c : Collector) (hs : List ℕ) → heard (holding c hs) ≡ hs
@@ -171,21 +173,21 @@ written-holds c hs l n w e =
     ap {B = Collector} (λ (x : List ℕ). record { bytes = x; len = n }) w.is
     ∙ ap {B = Collector} (λ (x : ℕ). record { bytes = hs ++ drop (length hs) c.bytes; len = x }) e
 
-put-enough : (l : List ℕ) (at : ℕ) (s l' : List ℕ) → left Enough l' ≡ put_of l at s → at + length s ≤ length l
+put-enough : (l : List ℕ) (at : ℕ) (s l' : List ℕ) → left (Ok tt) l' ≡ put_of l at s → at + length s ≤ length l
 put-enough l at s l' e = go (dec_le (at + length s) (length l))
   where
     go : Dec (at + length s ≤ length l) → at + length s ≤ length l
     go (yes h) = h
     go (no h) =
-        let x : Enough ≡ Short = ap (λ (y : Left). y.answer) (e ∙ sym (put-short l at s (omega arith))) in
+        let x : ◌≡◌ {A = Result Unit Short} (Ok tt) (Err (record {})) = ap (λ (y : Left). y.answer) (e ∙ sym (put-short l at s (omega arith))) in
         absurd (let z : ◌≡◌ {A = ℕ} 0 1 = cc in omega arith)
 
-put_refused : (l : List ℕ) (at : ℕ) (s l' : List ℕ) → left Short l' ≡ put_of l at s → length l < at + length s
+put_refused : (l : List ℕ) (at : ℕ) (s l' : List ℕ) → left (Err (record {})) l' ≡ put_of l at s → length l < at + length s
 put_refused l at s l' e = go (dec_le (at + length s) (length l))
   where
     go : Dec (at + length s ≤ length l) → length l < at + length s
     go (yes h) =
-        let x : Short ≡ Enough = ap (λ (y : Left). y.answer) (e ∙ put-lands l at s h) in
+        let x : ◌≡◌ {A = Result Unit Short} (Err (record {})) (Ok tt) = ap (λ (y : Left). y.answer) (e ∙ put-lands l at s h) in
         absurd (let z : ◌≡◌ {A = ℕ} 0 1 = cc in omega arith)
     go (no h) = omega arith
 
@@ -193,12 +195,12 @@ put_refused l at s l' e = go (dec_le (at + length s) (length l))
 pub add-laid : (c : Collector) (b : ℕ) → length c.bytes ≡ 260 → c.len < 260 → stored c b ≡ added c (b ∷ [])
 add-laid c b l h = stored-holds c b (omega arith) ∙ sym (added-holds c (b ∷ []) (omega arith))
 
-pub add-fits : (c : Collector) (s l : List ℕ) (a : Room) → left a l ≡ put_of c.bytes c.len s → a ≡ Enough → length c.bytes ≡ 260 → c.len + length s ≤ 260
+pub add-fits : (c : Collector) (s l : List ℕ) (a : Result Unit Short) → left a l ≡ put_of c.bytes c.len s → a ≡ Ok tt → length c.bytes ≡ 260 → c.len + length s ≤ 260
 add-fits c s l a e f g =
-    let h : c.len + length s ≤ length c.bytes = put-enough c.bytes c.len s l (ap (λ (x : Room). left x l) (sym f) ∙ e) in
+    let h : c.len + length s ≤ length c.bytes = put-enough c.bytes c.len s l (ap (λ (x : Result Unit Short). left x l) (sym f) ∙ e) in
     omega arith
 
-pub add-put : (c : Collector) (s l : List ℕ) (a : Room) → left a l ≡ put_of c.bytes c.len s → a ≡ Enough → length c.bytes ≡ 260
+pub add-put : (c : Collector) (s l : List ℕ) (a : Result Unit Short) → left a l ≡ put_of c.bytes c.len s → a ≡ Ok tt → length c.bytes ≡ 260
     → ◌≡◌ {A = Collector} (record { bytes = l; len = c.len + length s }) (added c s)
 add-put c s l a e f g =
     let h : c.len + length s ≤ 260 = add-fits c s l a e f g in
@@ -206,10 +208,10 @@ add-put c s l a e f g =
     let w : Written (heard c ++ s) c.bytes l = written-put c.len s (heard-written c (omega arith)) e (sym m) (omega arith) in
     written-holds c (heard c ++ s) l (c.len + length s) w (sym (rw (length-append, m))) ∙ sym (added-holds c s h)
 
-pub add-short : (c : Collector) (s l : List ℕ) (a : Room) → left a l ≡ put_of c.bytes c.len s → a ≡ Short → length c.bytes ≡ 260
+pub add-short : (c : Collector) (s l : List ℕ) (a : Result Unit Short) → left a l ≡ put_of c.bytes c.len s → a ≡ Err (record {}) → length c.bytes ≡ 260
     → ◌≡◌ {A = Collector} (record { bytes = l; len = c.len }) (added c s)
 add-short c s l a e f g =
-    let h : length c.bytes < c.len + length s = put_refused c.bytes c.len s l (ap (λ (x : Room). left x l) (sym f) ∙ e) in
+    let h : length c.bytes < c.len + length s = put_refused c.bytes c.len s l (ap (λ (x : Result Unit Short). left x l) (sym f) ∙ e) in
     let x : l ≡ c.bytes = ap (λ (y : Left). y.bytes) (e ∙ sym (put-short c.bytes c.len s h)) in
     ap {B = Collector} (λ (y : List ℕ). record { bytes = y; len = c.len }) x ∙ added-long c s (omega arith)
 
@@ -226,6 +228,8 @@ dropped-leaves c = refl
 pub adds : (c d : Collector) (b : ℕ) → d ≡ added c (b ∷ []) → adding d d.bytes ≡ add_of c b
 unfolding add_of
 adds c d b e = rw e
+
+pub ruleset adding_one = (adds, add-laid, added-long)
 
 pub adds-collector : (c d : Collector) (b : ℕ) (work : List ℕ) → adding d work ≡ add_of c b → d ≡ added c (b ∷ [])
 unfolding add_of

@@ -1,13 +1,16 @@
 -- Laws about LEN and about complete frames.
 -- Assumes nothing.
-use Rattle.std.proofs.Common.{◌≡◌, ℕ, suc, ◌+◌, ◌-◌, ◌<◌, ◌≤◌, Bool, true, false, eqb, ltb, leb, List, [], ◌∷◌, ◌++◌, length, get_or}
-use Rattle.std.proofs.Common.{take, drop, refl, ◌∙◌, arith, length-append, length-drop, length-take-le, get_or-drop, get_or-take, ltb-false, ltb-true, le-ltb, lt-ltb, eq-eqb, eqb-true, le-leb, leb-false, leb-true}
-use lib.Seq.{drop-length, take-append_seam, take-nil}
+use Rattle.std.proofs.Common.{◌≡◌, ℕ, suc, ◌+◌, ◌-◌, ◌<◌, ◌≤◌, Bool, ◌&&◌, true, false, eqb, ltb, leb, List, [], ◌∷◌, ◌++◌, length, get_or}
+use Rattle.std.proofs.Common.{drop, refl, ◌∙◌, arith, length-append, length-drop, length-take-le, get_or-drop, get_or-take, sym, ne_eqb, ltb-false, ltb-true, le-ltb, lt-ltb, eq-eqb, eqb-true, le-leb, leb-false, leb-true}
+use native.Mathlib.Decide.{dec_lt}
+use Prim.Native.Nat.{min}
+use lib.Seq.{take-append_seam}
 use borrow.Author.Tests.{eqb-false, lt-leb}
 use Rattle.frame.specs.Frame.{counted, footer_byte, framed, full, is_frame, lacking_of, len_byte, overhead, payload}
 use Rattle.frame.specs.Sum.{sum_of}
 use Rattle.frame.specs.declared.Footer.{Footer}
 use Rattle.frame.specs.declared.Header.{Header}
+use Rattle.lent.proofs.Laws.{both_is}
 use Rattle.words.proofs.Laws.{and_both, and_right}
 use Rattle.words.specs.Words.{◌and◌, if◌then◌otherwise◌}
 
@@ -26,6 +29,25 @@ counted-small x h = go (eqb x 0)
     go : (t : Bool) → (if t then 256 otherwise x) ≤ 256
     go true = omega arith
     go false = omega arith
+
+pub counted-zero : (x : ℕ) → x ≡ 0 → counted x ≡ 256
+unfolding counted if◌then◌otherwise◌
+counted-zero x e = simp (eq-eqb x 0 e)
+
+pub counted-plain : (x : ℕ) → (x ≡ 0 → ⊥) → counted x ≡ x
+unfolding counted if◌then◌otherwise◌
+counted-plain x n = simp (ne_eqb x 0 n)
+
+pub ruleset counts = (counted-zero, counted-plain, counted-small)
+
+-- The tests of a count, as the code joins them.
+pub full_is : (n x : ℕ) → full n x ≡ (leb 2 n && leb (counted x + 4) n)
+unfolding full
+full_is n x = sym (both_is (leb 2 n) (leb (counted x + 4) n))
+
+pub frame_is : (bs : List ℕ) → is_frame bs ≡ (leb 2 (length bs) && eqb (length bs) (counted (get_or bs 1 0) + 4))
+unfolding is_frame
+frame_is bs = sym (both_is (leb 2 (length bs)) (eqb (length bs) (counted (get_or bs 1 0) + 4)))
 
 pub full-yes : (n x : ℕ) → 2 ≤ n → counted x + 4 ≤ n → full n x ≡ true
 unfolding full
@@ -80,17 +102,6 @@ counted-frame bs e = and_both (le-leb 2 (length bs) (omega arith)) (eq-eqb (leng
 pub frame-payload : (bs : List ℕ) → is_frame bs ≡ true → length (payload bs) ≡ counted (get_or bs 1 0)
 frame-payload bs e = payload-long bs ∙ (let n : length bs ≡ counted (get_or bs 1 0) + 4 = frame-counted bs e in omega arith)
 
--- As the code lends it: the part from 2 up to SUM, or an empty one.
-pub payload-part : (bs : List ℕ) → 4 ≤ length bs → take (length bs - 2 - 2) (drop 2 bs) ≡ payload bs
-unfolding payload
-payload-part bs h = let e : length bs - 2 - 2 ≡ length bs - 4 = omega arith in rw e
-
-pub payload-none : (bs : List ℕ) → length bs < 4 → take (length bs - length bs) (drop (length bs) bs) ≡ payload bs
-unfolding payload
-payload-none bs h =
-    let e : length bs - 4 ≡ 0 = omega arith in
-    rw (drop-length, take-nil, e)
-
 -- How many bytes are lacking: no more than there are, and the frame is not complete after them.
 pub record Lacks (count len rest n : ℕ) : Type 0 where
   pub begun : 2 ≤ count
@@ -107,21 +118,17 @@ lacks count len rest n e h = go (leb 2 count) refl (ltb rest (counted len + 3 - 
     go true t true v e = record { begun = leb-true _ _ t; short = omega (arith, ltb-true rest (counted len + 3 - count) v); there = omega arith }
     go true t false v e = record { begun = leb-true _ _ t; short = omega arith; there = omega (arith, ltb-false rest (counted len + 3 - count) v) }
 
--- How many bytes are lacking, by the code's tests; x is what LEN counts.
+-- How many bytes are lacking, as the code says it.
 pub lacking-early : (count len rest : ℕ) → count < 2 → 0 ≡ lacking_of count len rest
 unfolding lacking_of if◌then◌otherwise◌
 lacking-early count len rest h = simp (lt-leb 2 count h)
 
-pub lacking-none : (x count len rest : ℕ) → x ≡ counted len → 2 ≤ count → x + 3 ≤ count → 0 ≡ lacking_of count len rest
+pub lacking-least : (count len rest : ℕ) → 2 ≤ count → min rest (counted len + 3 - count) ≡ lacking_of count len rest
 unfolding lacking_of if◌then◌otherwise◌
-lacking-none x count len rest e h k =
-    let z : counted len + 3 - count ≡ 0 = omega arith in
-    simp (le-leb 2 count h, z, le-ltb rest 0 (omega arith))
+lacking-least count len rest h = go (dec_lt rest (counted len + 3 - count))
+  where
+    go : Dec (rest < counted len + 3 - count) → min rest (counted len + 3 - count) ≡ lacking_of count len rest
+    go (yes k) = simp (le-leb 2 count h, lt-ltb rest (counted len + 3 - count) k) (omega arith)
+    go (no k) = simp (le-leb 2 count h, le-ltb rest (counted len + 3 - count) (omega arith)) (omega arith)
 
-pub lacking-rest : (x count len rest : ℕ) → x ≡ counted len → 2 ≤ count → rest < x + 3 - count → rest ≡ lacking_of count len rest
-unfolding lacking_of if◌then◌otherwise◌
-lacking-rest x count len rest e h k = simp (le-leb 2 count h, lt-ltb rest (counted len + 3 - count) (omega arith))
-
-pub lacking-whole : (x count len rest : ℕ) → x ≡ counted len → 2 ≤ count → x + 3 - count ≤ rest → x + 3 - count ≡ lacking_of count len rest
-unfolding lacking_of if◌then◌otherwise◌
-lacking-whole x count len rest e h k = simp (le-leb 2 count h, le-ltb rest (counted len + 3 - count) (omega arith)) (omega arith)
+pub ruleset lacks_by_tests = (lacking-early, lacking-least, counted-small)

@@ -1,9 +1,10 @@
 -- The SUM fact, once over the modulus: what SUM is, that the SUM of a joined list follows from its parts, and that one changed byte changes it.
 -- Assumes nothing.
-use Rattle.std.proofs.Common.{◌≡◌, ℕ, zero, suc, ◌+◌, ◌-◌, ◌*◌, ◌%◌, ◌<◌, ◌≤◌, ◌≢◌, List, [], ◌∷◌, ◌++◌, length, get_or, take, drop, set, sym, refl, ◌∙◌, mod-eq_of_lt, suc-mul, zero-mul, add-one, arith, drop_of_length-le, drop-cons, le-leb}
+use Rattle.std.proofs.Common.{◌≡◌, ℕ, zero, suc, ◌+◌, ◌-◌, ◌*◌, ◌%◌, ◌<◌, ◌≤◌, ◌≢◌, List, [], ◌∷◌, ◌++◌, length, get_or, take, drop, set, sym, refl, ◌∙◌, mod-eq_of_lt, suc-mul, zero-mul, arith, le-leb}
 use native.Mathlib.Decide.{dec_le}
 use native.Mathlib.Nat.{mod-eq-sub-mod}
 use borrow.Author.Tests.{lt-leb}
+use Rattle.std.specs.List.{fold}
 use Rattle.frame.specs.Sum.{less, less_all}
 use Rattle.words.specs.Words.{if◌then◌otherwise◌}
 
@@ -26,21 +27,16 @@ less-below m a b h k = go (cases m a b)
     go (plain p e) = omega arith
     go (under p e) = omega arith
 
--- What wraps back to a when b is added is a less b: this ties the machine's subtraction to the definition.
-pub less-wraps : (m r a b : ℕ) → r < m → b < m → (r + b) % m ≡ a → r ≡ less m a b
-less-wraps m r a b h k e = go (dec_le m (r + b)) (cases m a b)
+-- The machine's subtraction is the definition's.
+pub less_is : (m a b : ℕ) → a < m → b < m → (a + (m - b)) % m ≡ less m a b
+less_is m a b h k = go (cases m a b)
   where
-    go : Dec (m ≤ r + b) → Cases m a b → r ≡ less m a b
-    go (yes w) c = wrapped (sym e ∙ mod-eq-sub-mod w ∙ mod-eq_of_lt (omega arith)) c
-      where
-        wrapped : a ≡ r + b - m → Cases m a b → r ≡ less m a b
-        wrapped f (plain p q) = omega arith
-        wrapped f (under p q) = omega arith
-    go (no w) c = straight (sym e ∙ mod-eq_of_lt (omega arith)) c
-      where
-        straight : a ≡ r + b → Cases m a b → r ≡ less m a b
-        straight f (plain p q) = omega arith
-        straight f (under p q) = omega arith
+    go : Cases m a b → (a + (m - b)) % m ≡ less m a b
+    go (plain p e) =
+        let s : a + (m - b) - m ≡ a - b = omega arith in
+        let w : m ≤ a + (m - b) = omega arith in
+        mod-eq-sub-mod w ∙ rw s (mod-eq_of_lt (omega arith)) ∙ sym e
+    go (under p e) = mod-eq_of_lt (omega arith) ∙ omega arith
 
 -- Each number of the list is below the modulus.
 pub data Below (m : ℕ) : List ℕ → Type 0 where
@@ -134,17 +130,8 @@ one_byte m s (b ∷ bs) zero v h k (more j r) l d e =
     d (sym (less-byte m s v b h k j (sum-start m (less m s v) (less m s b) bs (less-below m s v h k) (less-below m s b h j) r e)))
 one_byte m s (b ∷ bs) (suc i) v h k (more j r) l d e = one_byte m (less m s b) bs i v (less-below m s b h j) k r (omega arith) d e
 
--- How far a loop over the bytes has come: t is what the rest leaves of s.
-pub record From (m s : ℕ) (bs : List ℕ) (i t : ℕ) : Type 0 where
-  pub rest : less_all m s (drop i bs) ≡ t
-
-pub from_start : (m s : ℕ) (bs : List ℕ) → From m s bs 0 (less_all m s bs)
-from_start m s bs = record { rest = refl }
-
-pub from-turn : {m s r t : ℕ} {bs : List ℕ} {i : ℕ} → From m s bs i t → r ≡ less m s (get_or bs i 0) → i < length bs → From m r bs (i + 1) t
+-- s less each byte in turn is a fold.
+pub folded : (m s : ℕ) (bs : List ℕ) → fold (less m) s bs ≡ less_all m s bs
 unfolding less_all
-from-turn {m} {s} {r} {t} {bs} {i} f e h = record { rest = rw (e, add-one) (rw (drop-cons bs i 0 h) at f.rest) }
-
-pub from_end : {m s t : ℕ} {bs : List ℕ} {i : ℕ} → From m s bs i t → length bs ≤ i → s ≡ t
-unfolding less_all
-from_end {m} {s} {t} {bs} {i} f h = rw (drop_of_length-le bs h) at f.rest
+folded m s [] = refl
+folded m s (b ∷ bs) = folded m (less m s b) bs

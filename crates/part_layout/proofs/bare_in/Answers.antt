@@ -4,4 +4,4 @@ use Rattle.part_layout.proofs.Laws.{bare-part-is}
 use Rattle.part_layout.proofs.bare_in.Goals as goal
 
 pub returns : goal.returns
-returns c = bare-part-is _ c.wide.ensures c.wide-2.ensures c.wide-3.ensures
+returns c = bare-part-is _ c.from.ensures c.from-2.ensures c.from-3.ensures

@@ -4,8 +4,4 @@ use Rattle.part_layout.proofs.Laws.{part-is}
 use Rattle.part_layout.proofs.part_in.Goals as goal
 
 pub returns : goal.returns
-returns c =
-    let code = c.wide in
-    let extra = c.wide-2 in
-    let clock = c.wide-3 in
-    part-is _ code.ensures extra.ensures clock.ensures
+returns c = part-is _ c.from.ensures c.from-2.ensures c.from-3.ensures c.bytes_at.ensures c.bytes_at-2.ensures c.bytes_at-3.ensures

@@ -1,7 +1,6 @@
 -- `replay_play::play_bytes` meets its contract: what the bytes still to come make of what was played stays the same from turn to turn.
 -- Assumes nothing.
 use mathlib.Core.Path.{◌∙◌, refl}
-use Prim.Native.Nat.{◌-◌}
 use native.Mathlib.Omega.{arith}
 use borrow.Author.Rules.{rules}
 use Rattle.replay_play.proofs.Laws.{played-end, played-refused, played-start, played-turn, turn-said, turn-takes, turn-within}
@@ -14,16 +13,16 @@ pub overflow_add-i : goal.overflow_add-i
 overflow_add-i c = omega (arith, c.loop-i.invariant.3, turn-within _ c.loop-i.invariant.6 c.feed-fed.ensures)
 
 pub slice_bounds-put-end : goal.slice_bounds-put-end
-slice_bounds-put-end c = omega (arith, (turn-said _ c.loop-i.invariant.6 c.loop-i.invariant.5 c.feed-fed.ensures c.in-Replied.is).1)
+slice_bounds-put-end c = omega (arith, (turn-said _ c.loop-i.invariant.6 c.loop-i.invariant.5 c.feed-fed.ensures c.in-Ok.is).1)
 
 pub overflow_add-said : goal.overflow_add-said
-overflow_add-said c = omega (arith, (turn-said _ c.loop-i.invariant.6 c.loop-i.invariant.5 c.feed-fed.ensures c.in-Replied.is).0, c.loop-i.invariant.6.short, c.loop-i.invariant.3, c.loop-i-test.true)
+overflow_add-said c = omega (arith, (turn-said _ c.loop-i.invariant.6 c.loop-i.invariant.5 c.feed-fed.ensures c.in-Ok.is).0, c.loop-i.invariant.6.short, c.loop-i.invariant.3, c.loop-i-test.true)
 
 pub overflow_add-frames : goal.overflow_add-frames
-overflow_add-frames c = omega (arith, (turn-said _ c.loop-i.invariant.6 c.loop-i.invariant.5 c.feed-fed.ensures c.in-Replied.is).2, c.loop-i.invariant.6.few, c.loop-i.invariant.3, c.loop-i-test.true)
+overflow_add-frames c = omega (arith, (turn-said _ c.loop-i.invariant.6 c.loop-i.invariant.5 c.feed-fed.ensures c.in-Ok.is).2, c.loop-i.invariant.6.few, c.loop-i.invariant.3, c.loop-i-test.true)
 
 pub loop-i-smaller : goal.loop-i-smaller
-loop-i-smaller c = omega (arith, turn-takes _ c.loop-i.invariant.6 c.feed-fed.ensures c.loop-i-test.true c.in-Replied.is, turn-within _ c.loop-i.invariant.6 c.feed-fed.ensures)
+loop-i-smaller c = omega (arith, turn-takes _ c.loop-i.invariant.6 c.feed-fed.ensures c.loop-i-test.true c.in-Ok.is, turn-within _ c.loop-i.invariant.6 c.feed-fed.ensures)
 
 pub loop-i-preserved : goal.loop-i-preserved
 loop-i-preserved c = (
@@ -33,11 +32,11 @@ loop-i-preserved c = (
   c.loop-i.invariant.3,
   c.loop-i.invariant.4,
   c.loop-i.invariant.5,
-  played-turn _ c.loop-i.invariant.6 c.loop-i.invariant.5 c.feed-fed.ensures c.loop-i-test.true c.in-Replied.is c.loop-i.invariant.4 c.put.ensures,
+  played-turn _ c.loop-i.invariant.6 c.loop-i.invariant.5 c.feed-fed.ensures c.loop-i-test.true c.in-Ok.is c.loop-i.invariant.4 c.put.ensures,
 )
 
-pub returns-in-Refused : goal.returns-in-Refused
-returns-in-Refused c = played-refused _ c.loop-i.invariant.6 c.loop-i.invariant.5 c.feed-fed.ensures c.loop-i-test.true c.in-Refused.is
+pub returns-in-Err : goal.returns-in-Err
+returns-in-Err c = played-refused _ c.loop-i.invariant.6 c.loop-i.invariant.5 c.feed-fed.ensures c.loop-i-test.true c.in-Err.is
 
 pub returns : goal.returns
 returns c = played-end c.loop-i.invariant.6 c.loop-i-test.false

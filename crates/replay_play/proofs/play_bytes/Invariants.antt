@@ -7,10 +7,8 @@ use lib.ListN.{length}
 use Rattle.part.specs.Part.{Arrays}
 use Rattle.chip.specs.declared.Event.TheVariants.{Byte}
 use Rattle.chip_core.specs.Effect.{memory}
-use Rattle.frame.specs.Framing.{frames}
 use Rattle.replay_play.proofs.Laws.{PlayedFrom}
 use Rattle.replay_play.specs.Play.{played, before_playing}
-use Rattle.chip_reply.specs.Reply.{said}
 use Rattle.replay_play.proofs.play_bytes.Given as goal
 
 abbrev pub invariant-loop-i : goal.invariant-loop-i

@@ -9,12 +9,12 @@ use Rattle.replay_play.proofs.play_gap.Goals as goal
 pub slice_bounds-put-end : goal.slice_bounds-put-end
 slice_bounds-put-end c =
     let arrays : Arrays c.args.part = record { device_long = search rules; name_long = search rules; version_long = search rules } in
-    omega (arith, one_lies _ _ _ _ _ _ _ _ arrays c.step-step.ensures c.in-Replied.is)
+    omega (arith, one_lies _ _ _ _ _ _ _ _ arrays c.step-step.ensures c.in-Ok.is)
 
-pub returns-in-Refused : goal.returns-in-Refused
-returns-in-Refused c = one-refused _ _ _ _ _ _ _ _ c.step-step.ensures c.in-Refused.is
+pub returns-in-Err : goal.returns-in-Err
+returns-in-Err c = one-refused _ _ _ _ _ _ _ _ c.step-step.ensures c.in-Err.is
 
-pub returns-in-Replied : goal.returns-in-Replied
-returns-in-Replied c =
+pub returns-in-Ok : goal.returns-in-Ok
+returns-in-Ok c =
     let arrays : Arrays c.args.part = record { device_long = search rules; name_long = search rules; version_long = search rules } in
-    one-said _ _ _ _ _ _ _ _ _ _ _ arrays c.step-step.ensures c.in-Replied.is (search rules) c.put.ensures
+    one-said _ _ _ _ _ _ _ _ _ _ _ arrays c.step-step.ensures c.in-Ok.is (search rules) c.put.ensures

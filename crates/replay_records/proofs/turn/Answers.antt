@@ -7,12 +7,12 @@ use Rattle.replay_quiet.proofs.Plays.{left_alone, settled-plays}
 use Rattle.replay_records.proofs.Loop.{never, same-held}
 use Rattle.replay_records.proofs.turn.Goals as goal
 
-pub returns-in-Settled : goal.returns-in-Settled
-returns-in-Settled c =
-    let y = settled-plays _ _ _ _ _ _ _ _ _ _ _ _ c.requires.0 c.requires.1 refl refl refl refl c.settle-quiet.ensures c.in-Settled.is in
+pub returns-in-Some : goal.returns-in-Some
+returns-in-Some c =
+    let y = settled-plays _ _ _ _ _ _ _ _ _ _ _ _ c.requires.0 c.requires.1 refl refl refl refl c.settle-quiet.ensures c.in-Some.is in
     (y.plays, y.places, λ e. y.accepted)
 
-pub returns-in-NotQuiet : goal.returns-in-NotQuiet
-returns-in-NotQuiet c =
+pub returns-in-None : goal.returns-in-None
+returns-in-None c =
     let played-long : length c.play-t.result.chip.collector.bytes ≡ 260 = search rules in
-    (same-held _ _ _ _ _ _ _ _ _ _ _ c.play-t.ensures (left_alone _ _ _ _ _ _ _ _ c.settle-quiet.ensures c.in-NotQuiet.is), played-long, never)
+    (same-held _ _ _ _ _ _ _ _ _ _ _ c.play-t.ensures (left_alone _ _ _ _ _ _ _ _ c.settle-quiet.ensures c.in-None.is), played-long, never)

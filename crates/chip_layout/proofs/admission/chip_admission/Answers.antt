@@ -1,48 +1,28 @@
--- `chip_layout::admission::chip_admission` meets its contract: the first refusal that holds decides, in the definition's order.
+-- `chip_layout::admission::chip_admission` meets its contract: the verdict on flash, then whether the bytes are a state.
 -- Assumes nothing.
 use mathlib.Core.Bool.{not}
 use mathlib.Core.Path.{◌∙◌, ap, sym}
-use borrow.Author.Tests.{eq-eqb, ne_eqb}
+use borrow.Author.Rules.{rules}
 use Rattle.chip_layout.specs.Admission.{chip_admission}
+use Rattle.chip_sums.proofs.Laws.{flash-bars, flash-lets}
 use Rattle.part.proofs.Laws.{first-here, first_on, none-held}
 use Rattle.chip_layout.proofs.admission.chip_admission.Goals as goal
 
-pub returns-then-is_state : goal.returns-then-is_state
+pub returns-in_err-flash_verdict : goal.returns-in_err-flash_verdict
 unfolding chip_admission
-returns-then-is_state c =
-    sym
-    (first_on _ _ _ (ap not (sym c.is_described.ensures ∙ c.if-is_described.true))
-    ∙ first_on _ _ _ (ap not (eq-eqb _ _ (c.if-code-size.true ∙ c.size.ensures)))
-    ∙ first_on _ _ _ (ap not (eq-eqb _ _ (c.if-data-size.true ∙ c.size-then-code-size.ensures)))
-    ∙ first_on _ _ _ (ap not (sym c.is_state.ensures ∙ c.if-is_state.true))
-    ∙ none-held)
+returns-in_err-flash_verdict c = rw (flash-bars _ _ _ _ (sym c.flash_verdict.ensures ∙ c.in_err-flash_verdict.was)) (search rules)
 
-pub returns-then-data-size : goal.returns-then-data-size
+pub returns-then-not-is_state : goal.returns-then-not-is_state
 unfolding chip_admission
-returns-then-data-size c =
+returns-then-not-is_state c =
     sym
-    (first_on _ _ _ (ap not (sym c.is_described.ensures ∙ c.if-is_described.true))
-    ∙ first_on _ _ _ (ap not (eq-eqb _ _ (c.if-code-size.true ∙ c.size.ensures)))
-    ∙ first_on _ _ _ (ap not (eq-eqb _ _ (c.if-data-size.true ∙ c.size-then-code-size.ensures)))
-    ∙ first-here _ _ _ (ap not (sym c.is_state.ensures ∙ c.if-is_state.false)))
-
-pub returns-then-code-size : goal.returns-then-code-size
-unfolding chip_admission
-returns-then-code-size c =
-    sym
-    (first_on _ _ _ (ap not (sym c.is_described.ensures ∙ c.if-is_described.true))
-    ∙ first_on _ _ _ (ap not (eq-eqb _ _ (c.if-code-size.true ∙ c.size.ensures)))
-    ∙ first-here _ _ _ (ap not (ne_eqb _ _ (λ e. c.if-data-size.false (e ∙ sym c.size-then-code-size.ensures)))))
-
-pub returns-then-is_described : goal.returns-then-is_described
-unfolding chip_admission
-returns-then-is_described c =
-    sym
-    (first_on _ _ _ (ap not (sym c.is_described.ensures ∙ c.if-is_described.true))
-    ∙ first-here _ _ _ (ap not (ne_eqb _ _ (λ e. c.if-code-size.false (e ∙ sym c.size.ensures)))))
+    (flash-lets _ _ _ _ (sym c.flash_verdict.ensures ∙ c.in_ok-flash_verdict.was)
+    ∙ first-here _ _ _ (ap not (sym c.is_state.ensures ∙ c.if-not-is_state.true)))
 
 pub returns : goal.returns
 unfolding chip_admission
 returns c =
     sym
-    (first-here _ _ _ (ap not (sym c.is_described.ensures ∙ c.if-is_described.false)))
+    (flash-lets _ _ _ _ (sym c.flash_verdict.ensures ∙ c.in_ok-flash_verdict.was)
+    ∙ first_on _ _ _ (ap not (sym c.is_state.ensures ∙ c.if-not-is_state.false))
+    ∙ none-held)

@@ -5,4 +5,4 @@ use Rattle.chip_options.proofs.Laws.{security-bytes}
 use Rattle.chip_options.proofs.Options.security.Goals as goal
 
 pub returns : goal.returns
-returns c = sym (security-bytes _)
+returns c = rw (c.to_le_bytes.ensures, c.to_le_bytes-2.ensures) (sym (security-bytes _))

@@ -14,18 +14,18 @@ use Rattle.dock.proofs.calls.answer.Goals as goal
 
 pub moved-requires : goal.moved-requires
 moved-requires c =
-    let waits : Told c.args.job c.args.dock = told_is _ _ _ (accepts _ _ (Tells c.args.dock) (sym c.verdict-v.ensures ∙ c.in-Accepted.is)) in
+    let waits : Told c.args.job c.args.dock = told_is _ _ _ (accepts _ _ (Tells c.args.dock) (sym c.verdict.ensures ∙ c.in-Ok.is)) in
     let r : c.args.job.retries < 2 ^ 32 = search rules in
     let h = answered c.args.bytes.now in
     let w = heard-within c.args.job c.args.dock.retries c.args.dock.stage h waits.good.few-used in
-    let s : c.after_answer.result.spent ≡ (after_heard c.args.job c.args.dock.retries c.args.dock.stage h).spent =
-    ap (λ (t : Turned). t.spent) c.after_answer.ensures in
+    let s : c.after_answer-turned.result.spent ≡ (after_heard c.args.job c.args.dock.retries c.args.dock.stage h).spent =
+    ap (λ (t : Turned). t.spent) c.after_answer-turned.ensures in
     omega (arith, w.allowed)
 
-pub returns-in-Refused : goal.returns-in-Refused
+pub returns-in-Err : goal.returns-in-Err
 unfolding hear_of turning
-returns-in-Refused c = simp (← c.verdict-v.ensures, c.in-Refused.is)
+returns-in-Err c = simp (← c.verdict.ensures, c.in-Err.is)
 
-pub returns-in-Accepted : goal.returns-in-Accepted
+pub returns-in-Ok : goal.returns-in-Ok
 unfolding hear_of turning
-returns-in-Accepted c = simp (← c.verdict-v.ensures, c.in-Accepted.is, ← c.after_answer.ensures, ← c.moved.ensures)
+returns-in-Ok c = simp (← c.verdict.ensures, c.in-Ok.is, ← c.after_answer-turned.ensures, ← c.moved.ensures)

@@ -15,10 +15,10 @@ moved-requires c =
     let s : c.after_timeout.result.spent ≡ 0 = ap (λ (t : Turned). t.spent) c.after_timeout.ensures in
     omega arith
 
-pub returns-in-Refused : goal.returns-in-Refused
+pub returns-in-Err : goal.returns-in-Err
 unfolding hear_of turning
-returns-in-Refused c = simp (← c.verdict-v.ensures, c.in-Refused.is)
+returns-in-Err c = simp (← c.verdict.ensures, c.in-Err.is)
 
-pub returns-in-Accepted : goal.returns-in-Accepted
+pub returns-in-Ok : goal.returns-in-Ok
 unfolding hear_of turning
-returns-in-Accepted c = simp (← c.verdict-v.ensures, c.in-Accepted.is, heard-silence, ← c.after_timeout.ensures, ← c.moved.ensures)
+returns-in-Ok c = simp (← c.verdict.ensures, c.in-Ok.is, heard-silence, ← c.after_timeout.ensures, ← c.moved.ensures)

@@ -1,13 +1,14 @@
 -- `dock_flow::frames::page_footer` meets its contract: each test is the definition's, in its order.
 -- Assumes nothing.
+use borrow.Author.Rules.{rules}
 use Rattle.dock_flow.specs.Frames.{page_footer}
 use Rattle.words.specs.Words.{if◌then◌otherwise◌}
 use Rattle.dock_flow.proofs.frames.page_footer.Goals as goal
 
 pub returns-then-is_last_page : goal.returns-then-is_last_page
 unfolding page_footer if◌then◌otherwise◌
-returns-then-is_last_page c = simp (← c.is_last_page.ensures, c.if-is_last_page.true)
+returns-then-is_last_page c = search rules
 
-pub returns : goal.returns
+pub returns-else-is_last_page : goal.returns-else-is_last_page
 unfolding page_footer if◌then◌otherwise◌
-returns c = simp (← c.is_last_page.ensures, c.if-is_last_page.false)
+returns-else-is_last_page c = search rules

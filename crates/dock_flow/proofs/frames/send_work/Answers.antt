@@ -8,12 +8,12 @@ use Rattle.dock_job.specs.Refusals.{good_named_page}
 use Rattle.dock_flow.proofs.frames.send_work.Goals as goal
 
 pub send_page-requires : goal.send_page-requires
-send_page-requires c = (c.requires.0, named-page-is c.args.job c.in-It.number (ap (good_named_page c.args.job) (sym c.in-It.is) ∙ c.requires.1), search rules, search rules)
+send_page-requires c = (c.requires.0, named-page-is c.args.job c.in-Some.number (ap (good_named_page c.args.job) (sym c.in-Some.is) ∙ c.requires.1), search rules, search rules)
 
-pub returns-in-It : goal.returns-in-It
+pub returns-in-Some : goal.returns-in-Some
 unfolding work_frame
-returns-in-It c = simp (c.in-It.is, ← c.send_page.ensures)
+returns-in-Some c = simp (c.in-Some.is, ← c.send_page.ensures)
 
-pub returns-in-Unnamed : goal.returns-in-Unnamed
+pub returns-in-None : goal.returns-in-None
 unfolding work_frame
-returns-in-Unnamed c = simp (c.in-Unnamed.is, ← c.send_command.ensures)
+returns-in-None c = simp (c.in-None.is, ← c.send_command.ensures)

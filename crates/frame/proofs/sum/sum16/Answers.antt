@@ -1,14 +1,13 @@
--- `frame::sum::sum16` meets its contract: what the bytes still to come leave of the sum stays the same from turn to turn.
+-- `frame::sum::sum16` meets its contract: the fold's step is `less` at 16 bits.
 -- Assumes nothing.
-use Rattle.std.proofs.Common.{◌-◌, arith, rules}
-use Rattle.frame.proofs.Laws.Sum.{from_end, from_start, from-turn}
+use Rattle.std.proofs.Common.{◌∙◌, rules, tests}
+use Rattle.std.proofs.lemmas.Iterator.{YieldsList-from_slice}
+use Rattle.std.proofs.lemmas.Iterator.Consumers.{fold_from_yields_List}
+use Rattle.frame.proofs.Laws.Sum.{folded}
+use Rattle.frame.specs.Sum.{less}
 use Rattle.frame.proofs.sum.sum16.Goals as goal
 
-pub loop-i-init : goal.loop-i-init
-loop-i-init c = (omega arith, search rules, from_start 65536 _ _)
-
-pub loop-i-preserved : goal.loop-i-preserved
-loop-i-preserved c = (omega arith, omega arith, from-turn c.loop-i.invariant.2 c.less16-sum.ensures (omega arith))
-
 pub returns : goal.returns
-returns c = from_end c.loop-i.invariant.2 (omega arith)
+returns c =
+    let bytes = c.args.bytes.now in
+    fold_from_yields_List _ (less 65536) _ _ c.fold.ensures.ran (YieldsList-from_slice bytes cc) (λ a x b q k. search (rules, tests)) ∙ folded 65536 _ bytes

@@ -4,7 +4,8 @@ use Rattle.std.proofs.Common.{◌≡◌, ℕ, suc, ◌+◌, ◌≤◌, List, [],
 use Rattle.frame.proofs.Laws.Wire.{laid-is}
 use Rattle.lent.proofs.Laws.{Written, written_byte, written-put, written_start}
 use Rattle.lent.specs.Lent.{left, put_of}
-use Rattle.lent.specs.declared.Room.{Room}
+use Rattle.lent.specs.declared.Short.{Short}
+use Rattle.std.specs.Prelude.{Result}
 use Rattle.frame.proofs.wire.lay.Goals as goal
 
 payload-long : (lead rest : List ℕ) → 2 + (length lead + length rest) ≡ suc (suc (length (lead ++ rest)))
@@ -21,7 +22,7 @@ begun : (r : List ℕ) (h len : ℕ) → 4 ≤ length r → Written (head h len)
 begun r h len n = written_byte 1 _ (written_byte 0 _ (written_start _) refl (omega arith)) refl (omega arith)
 
 -- And the payload's two parts.
-rested : {l m : List ℕ} {a b : Room} (r lead rest : List ℕ) (h len : ℕ) → length lead + length rest + 4 ≤ length r
+rested : {l m : List ℕ} {a b : Result Unit Short} (r lead rest : List ℕ) (h len : ℕ) → length lead + length rest + 4 ≤ length r
     → left a l ≡ put_of (set (set r 0 h) 1 len) 2 lead → left b m ≡ put_of l (2 + length lead) rest
     → Written (head h len ++ lead ++ rest) r m
 rested r lead rest h len n p q =

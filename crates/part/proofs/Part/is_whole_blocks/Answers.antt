@@ -3,53 +3,51 @@
 use mathlib.Core.Path.{◌∙◌, sym}
 use native.Mathlib.Omega.{arith}
 use borrow.Author.Rules.{rules}
-use borrow.Author.Tests.{eq-eqb, ne_eqb}
 use Rattle.part.proofs.Laws.{first_small, lies, positive, size_small}
 use Rattle.part.specs.Part.{ends_block, starts_block, whole_blocks}
 use Rattle.words.specs.Words.{◌and◌}
 use Rattle.part.proofs.Part.is_whole_blocks.Goals as goal
+use Rattle.part.proofs.Part.is_whole_blocks.Goals.{else-lies_in, else-lies_in-2, then-lies_in, then-lies_in-2}
 
 pub overflow_sub-start : goal.overflow_sub-start
-overflow_sub-start c = omega (arith, (lies _ _ _ (sym c.lies_in.ensures ∙ c.if-lies_in.true)).low)
-
-pub nonzero_rem-start : goal.nonzero_rem-start
-nonzero_rem-start c = positive _ _ c.block_size-size.ensures
+overflow_sub-start c =
+    elim c.if-lies_in.branch [
+      | then-lies_in w ↦ omega (arith, (lies _ _ _ (sym c.lies_in.ensures ∙ w.if-lies_in.true)).low)
+      | else-lies_in w ↦ search rules
+    ]
 
 pub overflow_add-result : goal.overflow_add-result
 overflow_add-result c =
-    let args = c.args in
-    let lies-in2 = c.lies_in-then-lies_in in
-    let if2 = c.if-lies_in-2 in
-    omega (arith, (lies _ _ _ (sym lies-in2.ensures ∙ if2.true)).high, size_small args.self args.area (search rules) (search rules), first_small args.area)
+    elim c.if-lies_in-2.branch [
+      | then-lies_in-2 w ↦
+          elim c.if-lies_in.branch [
+            | then-lies_in v ↦ omega (arith, (lies _ _ _ (sym v.lies_in-then-lies_in.ensures ∙ sym v.value-is ∙ w.if-lies_in-2.true)).high, size_small c.args.self c.args.area (search rules) (search rules), first_small c.args.area)
+            | else-lies_in v ↦ search rules
+          ]
+      | else-lies_in-2 w ↦ search rules
+    ]
 
 pub overflow_sub-result : goal.overflow_sub-result
-overflow_sub-result c = omega (arith, (lies _ _ _ (sym c.lies_in-then-lies_in.ensures ∙ c.if-lies_in-2.true)).low)
+overflow_sub-result c =
+    elim c.if-lies_in-2.branch [
+      | then-lies_in-2 w ↦
+          elim c.if-lies_in.branch [
+            | then-lies_in v ↦ omega (arith, (lies _ _ _ (sym v.lies_in-then-lies_in.ensures ∙ sym v.value-is ∙ w.if-lies_in-2.true)).low)
+            | else-lies_in v ↦ search rules
+          ]
+      | else-lies_in-2 w ↦ search rules
+    ]
+
+pub nonzero_rem-start : goal.nonzero_rem-start
+nonzero_rem-start c = positive _ _ c.block_size-size.ensures
 
 pub nonzero_rem-result : goal.nonzero_rem-result
 nonzero_rem-result c = positive _ _ c.block_size-size.ensures
 
 pub returns-then-start-first-eq0 : goal.returns-then-start-first-eq0
 unfolding whole_blocks starts_block ends_block ◌and◌
-returns-then-start-first-eq0 c =
-    let lies_in = c.lies_in in
-    let if1 = c.if-lies_in in
-    let lies-in2 = c.lies_in-then-lies_in in
-    let if2 = c.if-lies_in-2 in
-    simp (← lies_in.ensures, if1.true, ← lies-in2.ensures, if2.true, ← c.first-first.ensures, ← c.block_size-size.ensures, eq-eqb _ _ c.if-start-first-eq0.true)
+returns-then-start-first-eq0 c = search rules
 
 pub returns-else-start-first-eq0 : goal.returns-else-start-first-eq0
 unfolding whole_blocks starts_block ends_block ◌and◌
-returns-else-start-first-eq0 c =
-    let lies_in = c.lies_in in
-    let if1 = c.if-lies_in in
-    let lies-in2 = c.lies_in-then-lies_in in
-    let if2 = c.if-lies_in-2 in
-    simp (← lies_in.ensures, if1.true, ← lies-in2.ensures, if2.true, ← c.first-first.ensures, ← c.block_size-size.ensures, ne_eqb _ _ c.if-start-first-eq0.false)
-
-pub returns-else-lies_in-2 : goal.returns-else-lies_in-2
-unfolding whole_blocks starts_block ends_block ◌and◌
-returns-else-lies_in-2 c = simp (← c.lies_in.ensures, c.if-lies_in.true, ← c.lies_in-then-lies_in.ensures, c.if-lies_in-2.false)
-
-pub returns-else-lies_in : goal.returns-else-lies_in
-unfolding whole_blocks starts_block ends_block ◌and◌
-returns-else-lies_in c = simp (← c.lies_in.ensures, c.if-lies_in.false)
+returns-else-start-first-eq0 c = search rules

@@ -1,14 +1,14 @@
--- `part::rate::accepts` meets its contract: both tests are the definition's.
+-- `part::rate::accepts` meets its contract: each test is the definition's, in its order.
 -- Assumes nothing.
-use borrow.Author.Tests.{le-leb, lt-leb}
+use borrow.Author.Rules.{rules}
 use Rattle.part.specs.Rate.{accepts_rate}
-use Rattle.words.specs.Words.{◌and◌}
+use Rattle.words.specs.Words.{◌and◌, ◌from◌to◌}
 use Rattle.part.proofs.rate.accepts.Goals as goal
 
 pub returns-then-rate-le3 : goal.returns-then-rate-le3
-unfolding accepts_rate ◌and◌
-returns-then-rate-le3 c = simp (le-leb _ _ c.if-rate-le3.true, ← c.within.ensures)
+unfolding accepts_rate ◌and◌ ◌from◌to◌
+returns-then-rate-le3 c = search rules
 
-pub returns : goal.returns
-unfolding accepts_rate ◌and◌
-returns c = simp (lt-leb _ _ c.if-rate-le3.false)
+pub returns-else-rate-le3 : goal.returns-else-rate-le3
+unfolding accepts_rate ◌and◌ ◌from◌to◌
+returns-else-rate-le3 c = search rules

@@ -2,5 +2,5 @@
 -- Assumes nothing.
 use Rattle.part.proofs.signature.last_bytes.Goals as goal
 
-pub returns-in-At : goal.returns-in-At
-returns-in-At c = simp c.in-At.is c.low3.ensures
+pub returns-in-Some : goal.returns-in-Some
+returns-in-Some c = simp c.in-Some.is c.low3.ensures

@@ -4,11 +4,11 @@ use Rattle.std.proofs.Common.{arith, rules}
 use Rattle.frame.proofs.Laws.Collector.{add-fits, add-put, add-short}
 use Rattle.frame.proofs.collector.Collector.add_all.Goals as goal
 
-pub overflow_add-len : goal.overflow_add-len
-overflow_add-len c = omega (arith, add-fits _ _ _ _ c.put-done.ensures c.in-Enough.is (search rules))
+pub overflow_add-self : goal.overflow_add-self
+overflow_add-self c = omega (arith, add-fits _ _ _ _ c.put.ensures c.in-Ok.is (search rules))
 
-pub returns-in-Enough : goal.returns-in-Enough
-returns-in-Enough c = add-put _ _ _ _ c.put-done.ensures c.in-Enough.is (search rules)
+pub returns-in-Ok : goal.returns-in-Ok
+returns-in-Ok c = add-put _ _ _ _ c.put.ensures c.in-Ok.is (search rules)
 
-pub returns-in-Short : goal.returns-in-Short
-returns-in-Short c = add-short _ _ _ _ c.put-done.ensures c.in-Short.is (search rules)
+pub returns-in-Err : goal.returns-in-Err
+returns-in-Err c = add-short _ _ _ _ c.put.ensures c.in-Err.is (search rules)

@@ -1,8 +1,0 @@
--- `dock_door::zc_timeout` meets its contract.
--- Assumes nothing.
-use Rattle.dock_door.specs.Calls.{heard_as}
-use Rattle.dock_door.proofs.zc_timeout.Goals as goal
-
-pub returns : goal.returns
-unfolding heard_as
-returns c = simp (← c.job_in.ensures, ← c.hear.ensures)

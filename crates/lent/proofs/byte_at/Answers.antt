@@ -1,8 +1,0 @@
--- `lent::byte_at` meets its contract: past the end a list gives its default.
--- Assumes nothing.
-use mathlib.Core.Path.{sym}
-use lib.ListN.{get_or-eq_default}
-use Rattle.lent.proofs.byte_at.Goals as goal
-
-pub returns : goal.returns
-returns c = sym (get_or-eq_default c.args.bytes.now 0 c.if-i-bytes.false)
