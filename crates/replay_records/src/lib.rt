@@ -3,7 +3,7 @@
 // Reading the capture and printing the frames is the program's.
 #![tactic(auto)]
 
-ghost use Rattle.std.specs.Prelude.{◌≡◌, true, length, Ok};
+ghost use Rattle.std.specs.Prelude.{◌≡◌, false, true, length, Ok};
 ghost use Rattle.chip_core.specs.Effect.{memory};
 ghost use Rattle.replay_records.specs.Records.{replay_of, replay_part, replaying};
 ghost use Rattle.chip_state.specs.Refusals.{verdict_on};
@@ -51,13 +51,54 @@ pub struct Replayed {
     pub chip: Chip,
 }
 
-// What a record's turn came to: how it ended, the chip's record, how many bytes are collected, and whether the next call is known to be accepted.
+// What a record's turn came to: how it ended, how many bytes are collected, and whether the next call is known to be accepted.
 #[derive(Clone, Copy)]
 struct RecordTurn {
     ended: Result<Sent, Unplayed>,
-    core: Core,
     count: usize,
     known: bool,
+}
+
+// One record on the whole chip. It is no part of the loop's own code: the arrays that it copies would be made ready there for every record, a quiet one too.
+#[inline(never)]
+fn play_held(
+    form: Form,
+    part: Part,
+    core: &mut Core,
+    held: &mut [u8; frame::LONGEST],
+    count: usize,
+    bytes: &[u8],
+    code: &mut [u8],
+    data: &mut [u8],
+    sums: &mut [u16; 72],
+    room: &mut [u8],
+    output: &mut [u8],
+) -> RecordTurn
+    ensures { (turn_left result core.new held.new (memory code.new «data».new sums.new) room.new output.new
+        ≡ play_of form part bytes.now (chip_held core.old held.old count) (memory code.old «data».old sums.old)
+        room.old output.old)
+        × (length held.new ≡ 260) × (result.known ≡ false) }
+{
+    let before = *held;
+    let chip = Chip {
+        core: *core,
+        collector: Collector {
+            bytes: before,
+            len: count,
+        },
+    };
+    let t = replay_play::play(form, part, chip, bytes, code, data, sums, room, output);
+    let ended = t.ended;
+    let last = t.chip;
+    *core = last.core;
+    let collector = last.collector;
+    let after = collector.bytes;
+    *held = after;
+    RecordTurn {
+        ended,
+        count: collector.len,
+        known: false,
+    }
 }
 
 // One record, with the collected bytes where they lie: a quiet one is settled there, any other is played on the whole chip.
@@ -65,7 +106,7 @@ fn turn(
     form: Form,
     known: bool,
     part: Part,
-    core: Core,
+    core: &mut Core,
     held: &mut [u8; frame::LONGEST],
     count: usize,
     bytes: &[u8],
@@ -76,13 +117,13 @@ fn turn(
     output: &mut [u8],
 ) -> RecordTurn
     requires { (length held.old ≡ 260)
-        × (known ≡ true → verdict_on part (chip_held core held.old count) (length code.old) (length «data».old) (length room.old) ≡ Ok tt) }
-    ensures { (turn_left result held.new (memory code.new «data».new sums.new) room.new output.new
-        ≡ play_of form part bytes.now (chip_held core held.old count) (memory code.old «data».old sums.old)
+        × (known ≡ true → verdict_on part (chip_held core.old held.old count) (length code.old) (length «data».old) (length room.old) ≡ Ok tt) }
+    ensures { (turn_left result core.new held.new (memory code.new «data».new sums.new) room.new output.new
+        ≡ play_of form part bytes.now (chip_held core.old held.old count) (memory code.old «data».old sums.old)
         room.old output.old)
         × (length held.new ≡ 260)
         × (result.known ≡ true
-        → verdict_on part (chip_held result.core held.new result.count) (length code.new) (length «data».new) (length room.new)
+        → verdict_on part (chip_held core.new held.new result.count) (length code.new) (length «data».new) (length room.new)
         ≡ Ok tt) }
 {
     let lengths = Lengths {
@@ -91,40 +132,19 @@ fn turn(
         room: room.len(),
         output: output.len(),
     };
-    let quiet = replay_quiet::settle(form, known, part, core, held, count, bytes, lengths);
+    let quiet = replay_quiet::settle(form, known, part, *core, held, count, bytes, lengths);
     match quiet {
         Some(n) => RecordTurn {
             ended: Ok(Sent {
                 bytes: 0,
                 frames: 0,
             }),
-            core,
             count: n,
             known: true,
         },
-        None => {
-            let before = *held;
-            let chip = Chip {
-                core,
-                collector: Collector {
-                    bytes: before,
-                    len: count,
-                },
-            };
-            let t = replay_play::play(form, part, chip, bytes, code, data, sums, room, output);
-            let ended = t.ended;
-            let last = t.chip;
-            let core = last.core;
-            let collector = last.collector;
-            let after = collector.bytes;
-            *held = after;
-            RecordTurn {
-                ended,
-                core,
-                count: collector.len,
-                known: false,
-            }
-        }
+        None => play_held(
+            form, part, core, held, count, bytes, code, data, sums, room, output,
+        ),
     }
 }
 
@@ -159,7 +179,7 @@ pub fn replay(
             form,
             known,
             part,
-            core,
+            &mut core,
             &mut held,
             count,
             record,
@@ -169,7 +189,6 @@ pub fn replay(
             room,
             &mut output[bytes..],
         );
-        core = t.core;
         count = t.count;
         known = t.known;
         match t.ended {

@@ -1,8 +1,6 @@
 -- `replay_records::turn` meets its contract: a record that is settled is played so, and any other is played on the chip as it was.
 -- Assumes nothing.
-use mathlib.Core.Path.{◌≡◌, refl}
-use lib.ListN.{length}
-use borrow.Author.Rules.{rules}
+use mathlib.Core.Path.{◌∙◌, refl, sym}
 use Rattle.replay_quiet.proofs.Plays.{left_alone, settled-plays}
 use Rattle.replay_records.proofs.Loop.{never, same-held}
 use Rattle.replay_records.proofs.turn.Goals as goal
@@ -14,5 +12,4 @@ returns-in-Some c =
 
 pub returns-in-None : goal.returns-in-None
 returns-in-None c =
-    let played-long : length c.play-t.result.chip.collector.bytes ≡ 260 = search rules in
-    (same-held _ _ _ _ _ _ _ _ _ _ _ c.play-t.ensures (left_alone _ _ _ _ _ _ _ _ c.settle-quiet.ensures c.in-None.is), played-long, never)
+    (same-held _ _ _ _ _ _ _ _ _ _ _ c.play_held.ensures.0 (left_alone _ _ _ _ _ _ _ _ c.settle-quiet.ensures c.in-None.is), c.play_held.ensures.1, λ e. never (sym c.play_held.ensures.2 ∙ e))
