@@ -1,3 +1,4 @@
 pub mod First
 pub mod Rewriting
+pub mod Tail
 pub mod Writing

@@ -56,19 +56,27 @@ fn passes(form: Form, asked: Asked, bytes: &[u8]) -> bool
     }
 }
 
-// The number, from 0, of the first record of a capture that does not pass, if there is one.
+// The number, from 0, of the first record of a capture that does not pass, if there is one. The whole records come first, of whose size the compiler then makes
+// use, and last a tail shorter than one; inlined, since a call for C knows its form, and so the size, and what is asked.
+#[inline(always)]
 pub fn first_not(form: Form, asked: Asked, capture: &[u8]) -> Option<usize>
     ensures { result ≡ first_not form asked (records_of (record_size form) capture.now) }
 {
-    for (n, record) in capture
-        .chunks(replay_capture::record_size(form))
-        .enumerate()
-    {
+    let size = replay_capture::record_size(form);
+    let whole = capture.chunks_exact(size);
+    let tail = whole.remainder();
+    for (n, record) in whole.enumerate() {
         if !passes(form, asked, record) {
             return Some(n);
         }
     }
-    None
+    if tail.is_empty() {
+        return None;
+    }
+    if passes(form, asked, tail) {
+        return None;
+    }
+    Some(capture.len() / size)
 }
 
 // One record in the other form, and 00h to the size of the larger one.
@@ -127,7 +135,8 @@ fn write(from: Form, capture: &[u8], output: &mut [u8]) -> Result<usize, Convert
     write_records(from, capture, output)
 }
 
-// All records are judged good, then held, then the room; only then is anything written: so many bytes.
+// All records are judged good, then held, then the room; only then is anything written: so many bytes. Inlined for the same reason.
+#[inline(always)]
 pub fn convert(from: Form, capture: &[u8], output: &mut [u8]) -> Result<usize, ConvertError>
     ensures { converting result output.new ≡ convert_of from capture.now output.old }
 {

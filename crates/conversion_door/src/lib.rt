@@ -8,6 +8,8 @@ ghost use Rattle.replay_capture.specs.declared.Form.TheVariants.{New, Old};
 
 use replay_capture::Form;
 
+// Inlined into both calls, each of which knows its form: one body for the two takes up to half as long again (docs/LOOK-BACK.md).
+#[inline(always)]
 fn convert(from: Form, capture: &[u8], output: &mut [u8], told: &mut [u64; 2]) -> u32
     ensures { convert_told result told.new output.new ≡ converted_through from capture.now output.old }
 {
